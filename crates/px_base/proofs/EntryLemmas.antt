@@ -23,9 +23,9 @@ open_here m n (entry.Finished offered r w) l h = (cc)
 pub open_place : (m n : ℕ) (es : List Entry) (ls : List LinkNote) → is_open m (merged n es ls) ≡ true → (i : ℕ) × (m ≡ n + i) × (opens i es ≡ true)
 open_place m n [] ls h = (cc)
 open_place m n (e ∷ es) ls h = elim (or_cases (is_open_at m (dial_of n e (first_note ls)).outcome) (is_open m (merged (n + 1) es (notes_behind e ls))) h) [
-    inl here ↦ let p = open_here m n e (first_note ls) here in (0, (omega arith), p.1)
+  | inl here ↦ let p = open_here m n e (first_note ls) here in (0, (omega arith), p.1)
   | inr there ↦ let p = open_place m (n + 1) es (notes_behind e ls) there in (suc p.0, (omega arith), p.2)
-  ]
+]
 
 pub opens-inside : (i : ℕ) (es : List Entry) → opens i es ≡ true → i < length es
 opens-inside i [] h = (cc)

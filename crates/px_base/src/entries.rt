@@ -50,7 +50,13 @@ pub struct Passage {
 }
 
 /// Hangs up the open link with that number, and puts its note among those of the finished links.
-pub fn end_link(alloc: Global, entries: &mut Vec<Entry>, links: &mut Vec<LinkNote>, number: usize, passage: Passage)
+pub fn end_link(
+    alloc: Global,
+    entries: &mut Vec<Entry>,
+    links: &mut Vec<LinkNote>,
+    number: usize,
+    passage: Passage,
+)
     requires is_open { is_open number (merged 0 entries.old.items links.old.items) ≡ true }
     requires notes { finished_in entries.old.items ≡ length links.old.items }
     requires room { length entries.old.items ≤ vec_capacity links.old }
@@ -63,7 +69,13 @@ pub fn end_link(alloc: Global, entries: &mut Vec<Entry>, links: &mut Vec<LinkNot
 
 #[tactic(auto, using(crate::proofs::EntryLemmas::counts))]
 /// Ends the open link at a place, and inserts its note behind those of the links that were dialled before.
-fn note_end(alloc: Global, entries: &mut Vec<Entry>, links: &mut Vec<LinkNote>, at: usize, passage: Passage)
+fn note_end(
+    alloc: Global,
+    entries: &mut Vec<Entry>,
+    links: &mut Vec<LinkNote>,
+    at: usize,
+    passage: Passage,
+)
     requires is_open { opens at entries.old.items ≡ true }
     requires notes { finished_in entries.old.items ≡ length links.old.items }
     requires room { length entries.old.items ≤ vec_capacity links.old }
@@ -72,9 +84,22 @@ fn note_end(alloc: Global, entries: &mut Vec<Entry>, links: &mut Vec<LinkNote>, 
     ensures room { vec_capacity links.old ≤ vec_capacity links.new }
 {
     let before = finished_before(entries, at);
-    let Passage { heard, sent, read_failed, write_failed } = passage;
+    let Passage {
+        heard,
+        sent,
+        read_failed,
+        write_failed,
+    } = passage;
     let (host, port) = end_at(alloc, entries, at, read_failed, write_failed);
-    match links.insert(before, LinkNote { host, port, heard, sent }) {
+    match links.insert(
+        before,
+        LinkNote {
+            host,
+            port,
+            heard,
+            sent,
+        },
+    ) {
         Ok(()) => {}
         Err(_) => {}
     }
@@ -107,7 +132,13 @@ fn is_finished(entry: &Entry) -> bool
 }
 
 /// Ends the link at a place, and gives its host and port.
-fn end_at(alloc: Global, entries: &mut Vec<Entry>, at: usize, read_failed: bool, write_failed: bool) -> (Text, u16)
+fn end_at(
+    alloc: Global,
+    entries: &mut Vec<Entry>,
+    at: usize,
+    read_failed: bool,
+    write_failed: bool,
+) -> (Text, u16)
     requires { at < length entries.old.items }
     ensures entries { (e : Entry) → entries.new.items ≡ slice_set entries.old.items at (ended read_failed write_failed (slice_index_or entries.old.items at e)) }
     ensures host { (e : Entry) → result.0 ≡ host_of (slice_index_or entries.old.items at e) }
@@ -131,7 +162,11 @@ fn end_entry(alloc: Global, entry: Entry, read_failed: bool, write_failed: bool)
     ensures port { result.port ≡ port_of entry }
 {
     match entry {
-        Entry::Open { host, port, offered } => End {
+        Entry::Open {
+            host,
+            port,
+            offered,
+        } => End {
             entry: Entry::Finished {
                 offered,
                 read_failed,
