@@ -1,0 +1,16 @@
+-- The first words of a list.
+use Rattle.std.proofs.Common.{◌≡◌, ℕ, suc, ◌+◌, ◌-◌, ◌≤◌, List, [], ◌∷◌, length, take, drop, get_or, map, refl, sym, ap, ◌∙◌, arith}
+use Rattle.std.proofs.lemmas.List.{take_all}
+
+pub first_four : {A B : Type 0} (f : A → B) (xs : List A) (a b c d : A) → 4 ≤ length xs → a ≡ get_or xs 0 a → b ≡ get_or xs 1 b → c ≡ get_or xs 2 c → d ≡ get_or xs 3 d
+    → map f xs ≡ f a ∷ f b ∷ f c ∷ f d ∷ map f (take (length xs - 4) (drop 4 xs))
+first_four f [] a b c d l h i j k = absurd (omega arith)
+first_four f (w ∷ []) a b c d l h i j k = absurd (omega arith)
+first_four f (w ∷ x ∷ []) a b c d l h i j k = absurd (omega arith)
+first_four f (w ∷ x ∷ y ∷ []) a b c d l h i j k = absurd (omega arith)
+first_four f (w ∷ x ∷ y ∷ z ∷ xs) a b c d l h i j k = rw (h, i, j, k, take_all (length (w ∷ x ∷ y ∷ z ∷ xs) - 4) xs (omega arith)) refl
+
+-- the words behind the first
+pub behind_first : {A B : Type 0} (f : A → B) (xs : List A) (b : B) (rest : List B) → map f xs ≡ b ∷ rest → map f (take (length xs - 1) (drop 1 xs)) ≡ rest
+behind_first f [] b rest e = (cc)
+behind_first f (x ∷ xs) b rest e = rw (take_all (length (x ∷ xs) - 1) xs (omega arith)) (cc)

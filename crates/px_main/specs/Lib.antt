@@ -1,0 +1,5 @@
+pub mod Origins
+pub mod Entries
+pub mod Sents
+pub mod Words
+pub mod Faults

@@ -1,0 +1,49 @@
+// The words after the program's name.
+ghost use Rattle.std.specs.Prelude.{◌≡◌, not, map, string_bytes, IfSome, IsNone, List, ℕ};
+ghost use Rattle.px_main.specs.Words.{IsPass, is_flag, no_flags};
+
+/// The words of `pass`.
+pub struct PassWords<'w> {
+    /// The name of the configuration's main file.
+    pub config: &'w str,
+    /// The name of the file with the origins' answers.
+    pub origin: &'w str,
+    /// The name of the file that what was sent is put into.
+    pub sent: &'w str,
+    /// The client's tags.
+    pub tags: &'w [String],
+}
+
+/// Reads `pass CONFIG ORIGIN SENT [TAG]...`, where no word after the first begins with `-`.
+pub fn read_pass(words: &[String]) -> Option<PassWords<'_>>
+    ensures pass { IfSome result (λ p. IsPass (map string_bytes words.now) p.config.now p.origin.now p.sent.now (map string_bytes p.tags.now)) }
+    ensures other { IsNone result → (config origin sent : List ℕ) → (tags : List (List ℕ)) → ¬ IsPass (map string_bytes words.now) config origin sent tags }
+{
+    if words.len() < 4 || words[0].as_str() != "pass" || has_flag(&words[1..]) {
+        return None;
+    }
+    Some(PassWords {
+        config: words[1].as_str(),
+        origin: words[2].as_str(),
+        sent: words[3].as_str(),
+        tags: &words[4..],
+    })
+}
+
+/// Whether a word begins with `-`.
+fn has_flag(words: &[String]) -> bool
+    ensures { result ≡ not (no_flags (map string_bytes words.now)) }
+{
+    'words: for word in words {
+        if begins_with_dash(word.as_bytes()) {
+            return true;
+        }
+    }
+    false
+}
+
+fn begins_with_dash(word: &[u8]) -> bool
+    ensures { result ≡ is_flag word.now }
+{
+    !word.is_empty() && word[0] == b'-'
+}
