@@ -2,13 +2,17 @@
 #![tactic(auto)]
 
 mod adapters;
+mod blanks;
 mod clocks;
+mod cuts;
 mod dialers;
 mod dials;
-mod mem_dialer;
 mod faults;
 mod files;
 mod lists;
+mod mem_dialer;
+mod numbers;
+mod ports;
 mod sinks;
 mod sources;
 mod steps;
@@ -17,13 +21,17 @@ mod tape_out;
 mod texts;
 
 pub use adapters::{Reading, Writing};
+pub use blanks::{is_blank, trim};
 pub use clocks::{Clock, FixedClock};
+pub use cuts::cut;
 pub use dialers::Dialer;
 pub use dials::{Answer, Dial, DialOutcome, LinkSeen};
-pub use mem_dialer::MemDialer;
-pub use files::{Content, Files};
 pub use faults::{DialFault, Failed, FilesFault, Mem, SinkFault};
+pub use files::{Content, Files};
 pub use lists::List;
+pub use mem_dialer::MemDialer;
+pub use numbers::read_decimal;
+pub use ports::{PortRange, Ports, PortsFault};
 pub use sinks::{Sink, write_all};
 pub use sources::Source;
 pub use steps::Steps;
