@@ -1,0 +1,17 @@
+//! One exchange: what a request asks for, what is sent on, and what is returned.
+#![tactic(auto)]
+
+mod ahead;
+mod feeds;
+mod fronts;
+mod judging;
+mod names;
+mod pages;
+mod targets;
+pub mod wire;
+
+pub use ahead::{Ahead, PIECE, ReadFault};
+pub use feeds::Feed;
+pub use fronts::{Front, read_front};
+pub use judging::HeadSeen;
+pub use pages::Page;
