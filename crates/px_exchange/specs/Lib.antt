@@ -3,3 +3,8 @@ pub mod Targets
 pub mod Pages
 pub mod Reading
 pub mod Judging
+pub mod Answering
+pub mod Sending
+pub mod Dialling
+pub mod Exchange
+pub mod Configs

@@ -2,11 +2,16 @@
 #![tactic(auto)]
 
 mod ahead;
+mod answering;
+mod dialling;
 mod feeds;
 mod fronts;
 mod judging;
 mod names;
+mod notes;
 mod pages;
+mod sending;
+mod snapshots;
 mod targets;
 pub mod wire;
 
@@ -14,4 +19,6 @@ pub use ahead::{Ahead, PIECE, ReadFault};
 pub use feeds::Feed;
 pub use fronts::{Front, read_front};
 pub use judging::HeadSeen;
+pub use notes::{After, Ending, ExchangeNote, Exchanged};
 pub use pages::Page;
+pub use snapshots::{Config, Configs, FixedConfig, Snapshot};
