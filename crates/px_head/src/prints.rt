@@ -10,6 +10,9 @@ use std::alloc::Global;
 /// What ends a printed line.
 const LINE_END: &[u8] = b"\r\n";
 
+/// The empty line that ends a head.
+const EMPTY_LINE: &[u8] = b"\r\n";
+
 /// What stands between a field's name and its value.
 const FIELD_SEPARATOR: &[u8] = b": ";
 
@@ -37,7 +40,7 @@ fn push_head(out: &mut Text, first_line: &[u8], fields: &[Field]) -> Result<(), 
     out.push_all(first_line)?;
     out.push_all(LINE_END)?;
     push_fields(out, fields)?;
-    out.push_all(LINE_END)
+    out.push_all(EMPTY_LINE)
 }
 
 /// Adds the fields' lines, each with its end.
