@@ -1,7 +1,7 @@
 -- A head block: the empty lines at the front, then the lines up to and with the next empty line.
 -- A line ends with LF. An empty line is LF or CR LF.
 use Rattle.std.specs.Prelude.{◌≡◌, ℕ, ◌+◌, ◌<◌, ◌≤◌, Bool, true, false, not, if◌then◌else◌, ◌==◌, nat_lt, List, [], ◌∷◌, ◌++◌, length, take, drop, Option, None, Some, option_map, All, IsTrue}
-use Rattle.std.specs.List.{sum_by, concat}
+use Rattle.std.specs.List.{sum_by, concat, list_all}
 use Rattle.px_head.specs.declared.blocks.HeadEnd.{HeadEnd}
 use Rattle.px_head.specs.declared.blocks.HeadEnd.TheVariants.{At, NotYet, Over}
 
@@ -32,15 +32,19 @@ unfoldable pub block_of : List (List ℕ) → Option (List (List ℕ))
 block_of [] = None
 block_of (l ∷ ls) = if is_empty_line l then option_map (λ block. l ∷ block) (block_of ls) else up_to_empty (l ∷ ls)
 
--- where the block ends, where there is one, else whether the limit is reached
-abbrev pub end_of : Bool → Option (List (List ℕ)) → HeadEnd
-end_of below (Some block) = At (sum_by length block)
-end_of true None = NotYet
-end_of false None = Over
+-- the length of the block at the front of the bytes, if there is one
+unfoldable pub block_len : List ℕ → Option ℕ
+block_len bytes = option_map (λ block. sum_by length block) (block_of (lines_of bytes))
+
+-- where the block ends, if there is one, and whether there are fewer bytes than the limit
+abbrev pub end_of : Option ℕ → Bool → HeadEnd
+end_of (Some n) below = At n
+end_of None true = NotYet
+end_of None false = Over
 
 -- where the block ends among the first bytes up to the limit
 unfoldable pub head_end : ℕ → List ℕ → HeadEnd
-head_end limit bytes = end_of (nat_lt (length bytes) limit) (block_of (lines_of (take limit bytes)))
+head_end limit bytes = end_of (block_len (take limit bytes)) (nat_lt (length bytes) limit)
 
 -- a block isn't empty and ends within the bytes and the limit; one that isn't whole has fewer bytes than the limit
 abbrev pub EndsWithin : ℕ → ℕ → HeadEnd → Type 0
@@ -52,16 +56,12 @@ EndsWithin len limit Over = limit ≤ len
 pub record IsLine (line : List ℕ) : Type 0 where
   pub text : List ℕ
   pub is : line ≡ text ++ 10 ∷ []
-  pub no_feed : All (λ b. IsTrue (not (b == 10))) text
+  pub no_feed : IsTrue (list_all (λ b. not (b == 10)) text)
 
--- the first so many bytes are a line before the lines of the rest
-abbrev pub cut : Option ℕ → List ℕ → List (List ℕ)
-cut None bytes = []
-cut (Some n) bytes = take n bytes ∷ lines_of (drop n bytes)
-
--- the length of the first whole line of the bytes
+-- the first whole line of the bytes has that length, or there is none
 abbrev pub IsFirstLine : List ℕ → Option ℕ → Type 0
-IsFirstLine bytes len = lines_of bytes ≡ cut len bytes
+IsFirstLine bytes None = lines_of bytes ≡ []
+IsFirstLine bytes (Some len) = (0 < len) × (len ≤ length bytes) × (lines_of bytes ≡ take len bytes ∷ lines_of (drop len bytes))
 
 -- an empty line, and a line that isn't empty
 abbrev pub IsEmptyLine : List ℕ → Type 0

@@ -1,5 +1,5 @@
 -- The printed form of a head (RFC 9112, sections 3, 4 and 5). Printed lines have no line end; a head ends each with CR LF.
-use Rattle.std.specs.Prelude.{ℕ, ◌-◌, if◌then◌else◌, ◌==◌, List, [], ◌∷◌, ◌++◌, length, take, codes, flat_map}
+use Rattle.std.specs.Prelude.{◌≡◌, ℕ, ◌-◌, if◌then◌else◌, ◌==◌, List, [], ◌∷◌, ◌++◌, length, take, codes, flat_map}
 use Rattle.std.specs.Fmt.{decimal}
 use Rattle.px_head.specs.declared.fields.Field.{Field}
 use Rattle.px_head.specs.declared.requests.RequestHead.{RequestHead}
@@ -40,3 +40,8 @@ field_lines fields = flat_map (λ f. field_line f ++ crlf) fields
 -- the first line, the fields' lines and an empty line
 unfoldable pub printed_head : List ℕ → List Field → List ℕ
 printed_head first_line fields = first_line ++ crlf ++ field_lines fields ++ crlf
+
+-- the bytes begin with the others
+pub record IsFrontOf (front bytes : List ℕ) : Type 0 where
+  pub more : List ℕ
+  pub is : bytes ≡ front ++ more

@@ -1,9 +1,10 @@
 // Fields of a head.
-ghost use Rattle.std.specs.Prelude.{◌≡◌, ◌++◌, length, map, All, IfOk, OnOk, OnErr, vec_len, count_by, ◌==◌};
+ghost use Rattle.std.specs.Prelude.{◌≡◌, ◌==◌, length, map, count_by, vec_len, All, IfOk};
 ghost use Rattle.httparse.specs.Spans.{IsHeaderWithin};
 ghost use Rattle.px_head.specs.Fields.{field_at};
 ghost use Rattle.px_head.specs.Prints.{field_line};
 
+use crate::prints::push_field;
 use httparse::spans::{EMPTY_HEADER_SPAN, HeaderSpan};
 use memchr::memchr_iter;
 use px_base::{List, Mem, Text};
@@ -22,18 +23,9 @@ impl Field {
         ensures { IfOk result (λ line. line ≡ field_line self.now) }
     {
         let mut line = Text::new(alloc);
-        push_line(&mut line, self)?;
+        push_field(&mut line, self)?;
         Ok(line)
     }
-}
-
-/// Adds the field's line without its end.
-pub fn push_line(out: &mut Text, field: &Field) -> Result<(), Mem>
-    ensures ok { OnOk result (out.new ≡ out.old ++ field_line field.now) }
-    ensures err { OnErr result (out.new ≡ out.old) }
-{
-    out.push_all(field.name.as_bytes())?;
-    Ok(())
 }
 
 /// The fields that spans cover.
@@ -58,6 +50,11 @@ pub fn copy_fields(alloc: Global, block: &[u8], spans: &[HeaderSpan]) -> Result<
 pub fn room_for(alloc: Global, block: &[u8]) -> Result<Vec<HeaderSpan>, AllocError>
     ensures { IfOk result (λ room. vec_len room ≡ count_by (λ b. b == 10) block.now) }
 {
-    let lines = memchr_iter(b'\n', block).count();
-    vec![in alloc; EMPTY_HEADER_SPAN; lines]
+    vec![in alloc; EMPTY_HEADER_SPAN; line_feeds(block)]
+}
+
+fn line_feeds(block: &[u8]) -> usize
+    ensures { result ≡ count_by (λ b. b == 10) block.now }
+{
+    memchr_iter(b'\n', block).count()
 }

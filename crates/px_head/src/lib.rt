@@ -7,9 +7,11 @@ mod fields;
 mod prints;
 mod requests;
 mod responses;
+#[cfg(test)]
+mod tests;
 
 pub use blocks::{HeadEnd, find_head};
-pub use faults::HeadFault;
+pub use faults::{HeadFault, TOO_LONG_NAME, TOO_LONG_NUMBER};
 pub use fields::Field;
 pub use prints::print_head;
 pub use requests::RequestHead;

@@ -8,6 +8,7 @@ ghost use Rattle.px_head.specs.Heads.{IsNoRequest};
 use crate::FIELD_LIMIT;
 use crate::faults::HeadFault;
 use crate::fields::{Field, copy_fields, room_for};
+use crate::prints::push_version;
 use httparse::Status;
 use httparse::spans::{HeaderSpan, RequestSpans, parse_request};
 use px_base::{List, Mem, Text};
@@ -52,10 +53,16 @@ impl RequestHead {
     }
 
     /// The request line without its end: method, target and version (RFC 9112, section 3).
+    #[tactic(auto, unfolding(crate::specs::Prints::request_line))]
     pub fn first_line(&self, alloc: Global) -> Result<Text, Mem>
         ensures { IfOk result (λ line. line ≡ request_line self.now) }
     {
-        Err(Mem)
+        let mut line = Text::from_bytes(alloc, self.method.as_bytes())?;
+        line.push(b' ')?;
+        line.push_all(self.target.as_bytes())?;
+        line.push(b' ')?;
+        push_version(alloc, &mut line, self.minor)?;
+        Ok(line)
     }
 }
 
