@@ -1,5 +1,5 @@
 -- Judging: what a request asks for, and the head that is sent on.
-use Rattle.std.specs.Prelude.{◌≡◌, ℕ, Bool, not, ◌&&◌, ◌==◌, ◌⊎◌, if◌then◌else◌, List, [], ◌∷◌, ◌++◌, Option, Some, None, option_map}
+use Rattle.std.specs.Prelude.{◌≡◌, ℕ, Bool, not, ◌&&◌, ◌==◌, ◌⊎◌, if◌then◌else◌, List, [], ◌∷◌, ◌++◌, Option, Some, None, option_map, MatchBool}
 use Rattle.std.specs.Str.{bytes_eq}
 use Rattle.px_head.specs.declared.fields.Field.{Field}
 use Rattle.px_head.specs.declared.requests.RequestHead.{RequestHead}
@@ -48,6 +48,10 @@ JudgedBlock block last plan =
     ⊎ ((IsNoRequest block ⊎ HasManyRequestFields block) × (plan ≡ None))
 
 -- what was seen asks for that plan, or for none: then it is refused
-abbrev pub Judged : HeadSeen → Bool → Option Plan → Type 0
-Judged (seen.Block block) last plan = JudgedBlock block last plan
-Judged seen.Over last plan = plan ≡ None
+abbrev pub JudgedSeen : HeadSeen → Bool → Option Plan → Type 0
+JudgedSeen (seen.Block block) last plan = JudgedBlock block last plan
+JudgedSeen seen.Over last plan = plan ≡ None
+
+-- a request that isn't the first of its connection is refused
+abbrev pub Judged : HeadSeen → Bool → Bool → Option Plan → Type 0
+Judged s first last plan = MatchBool first (JudgedSeen s last plan) (plan ≡ None)

@@ -1,6 +1,6 @@
 // Judging: what a request asks for.
 ghost use Rattle.std.specs.Prelude.{◌≡◌, Bool, IfOk};
-ghost use Rattle.px_exchange.specs.Judging.{is_built, keeps, sent_fields, sent_head, plan_to, plan_of, Judged, JudgedBlock};
+ghost use Rattle.px_exchange.specs.Judging.{is_built, keeps, sent_fields, sent_head, plan_to, plan_of, Judged, JudgedSeen, JudgedBlock};
 
 use crate::names::{has_connection_word, has_field, keep_of_request, push_field};
 use crate::targets::{Target, read_target};
@@ -106,13 +106,23 @@ fn plan_of(alloc: Global, last: bool, head: &RequestHead) -> Result<Option<Plan>
     }
 }
 
-/// What a request asks for. None means that it is refused.
-pub fn judge(alloc: Global, seen: &HeadSeen, last: bool) -> Result<Option<Plan>, Mem>
-    ensures { IfOk result (Judged seen.now last) }
+/// What a request asks for. None means that it is refused, as each is that isn't the first of its connection.
+pub fn judge(alloc: Global, seen: &HeadSeen, first: bool, last: bool) -> Result<Option<Plan>, Mem>
+    ensures { IfOk result (Judged seen.now first last) }
+{
+    if first {
+        judge_seen(alloc, seen, last)
+    } else {
+        Ok(None)
+    }
+}
+
+fn judge_seen(alloc: Global, seen: &HeadSeen, last: bool) -> Result<Option<Plan>, Mem>
+    ensures { IfOk result (JudgedSeen seen.now last) }
 {
     match seen {
-        HeadSeen::Over => Ok(None),
         HeadSeen::Block(block) => judge_block(alloc, block.as_bytes(), last),
+        HeadSeen::Over => Ok(None),
     }
 }
 

@@ -4,6 +4,7 @@
 mod ahead;
 mod answering;
 mod dialling;
+mod exchanges;
 mod feeds;
 mod fronts;
 mod judging;
@@ -16,6 +17,7 @@ mod targets;
 pub mod wire;
 
 pub use ahead::{Ahead, PIECE, ReadFault};
+pub use exchanges::{answer_request, exchange};
 pub use feeds::Feed;
 pub use fronts::{Front, read_front};
 pub use judging::HeadSeen;
