@@ -9,6 +9,7 @@ use std::sync::Arc;
 pub struct Config {}
 
 /// An entry of a list of configurations: its number and the configuration.
+#[derive(Drop)]
 pub struct Snapshot<'a, C> {
     pub number: u64,
     pub config: &'a C,
