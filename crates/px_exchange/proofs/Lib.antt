@@ -1,0 +1,4 @@
+pub mod Cutting
+pub mod AnsweringLemmas
+pub mod DiallingLemmas
+pub mod FrontLemmas

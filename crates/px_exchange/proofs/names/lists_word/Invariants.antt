@@ -1,0 +1,14 @@
+use Rattle.std.proofs.Common.{◌≡◌, ◌+◌, ℕ, List, Option, Some, None, length}
+use Rattle.std.specs.Prelude.{option_copied, ◌==◌}
+use Rattle.std.specs.List.{list_any}
+use Rattle.px_base.specs.Blanks.{trimmed}
+use Rattle.px_base.specs.Cuts.{parts_of}
+use Rattle.px_exchange.specs.Names.{same_name, lists_word}
+use Rattle.px_exchange.proofs.Cutting.{left}
+use Rattle.px_exchange.proofs.names.lists_word.Given as goal
+
+abbrev pub invariant-words : goal.invariant-words
+invariant-words l = lists_word l.word l.value ≡ list_any (λ part. same_name (trimmed part) l.word) (parts_of 44 (option_copied l.rest))
+
+abbrev pub decreases-words : goal.decreases-words
+decreases-words l = left (option_copied l.rest)

@@ -1,0 +1,10 @@
+pub mod Names
+pub mod Targets
+pub mod Pages
+pub mod Reading
+pub mod Judging
+pub mod Answering
+pub mod Sending
+pub mod Dialling
+pub mod Exchange
+pub mod Configs

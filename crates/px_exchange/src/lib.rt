@@ -1,0 +1,26 @@
+//! One exchange: what a request asks for, what is sent on, and what is returned.
+#![tactic(auto)]
+
+mod ahead;
+mod answering;
+mod dialling;
+mod exchanges;
+mod feeds;
+mod fronts;
+mod judging;
+mod names;
+mod notes;
+mod pages;
+mod sending;
+mod snapshots;
+mod targets;
+pub mod wire;
+
+pub use ahead::{Ahead, PIECE, ReadFault};
+pub use exchanges::{answer_request, exchange};
+pub use feeds::Feed;
+pub use fronts::{Front, read_front};
+pub use judging::HeadSeen;
+pub use notes::{After, Ending, ExchangeNote, Exchanged};
+pub use pages::Page;
+pub use snapshots::{Config, Configs, FixedConfig, Snapshot};

@@ -1,0 +1,38 @@
+// What came of an exchange.
+use crate::pages::Page;
+
+/// What an exchange returned.
+#[derive(Clone, Copy, Debug, PartialEq, Eq)]
+pub enum Ending {
+    /// A page in place of an answer.
+    Page(Page),
+    /// The origin's answer.
+    Passed,
+    /// Not all that was due, for a fault of the client's sink or want of memory.
+    Broken,
+}
+
+/// What comes after an exchange.
+#[derive(Clone, Copy, Debug, PartialEq, Eq)]
+pub enum After {
+    /// The connection is kept for another request.
+    Keep,
+    Close,
+    /// The client's sink failed.
+    WriteFailed,
+    NoMemory,
+}
+
+/// The record of an exchange: the number of the configuration that it used, its moment in seconds since 1970, and its ending.
+#[derive(Clone, Copy, Debug, PartialEq, Eq)]
+pub struct ExchangeNote {
+    pub config: u64,
+    pub moment: u64,
+    pub ending: Ending,
+}
+
+#[derive(Clone, Copy, Debug, PartialEq, Eq)]
+pub struct Exchanged {
+    pub note: ExchangeNote,
+    pub after: After,
+}

@@ -1,0 +1,5 @@
+pub mod LineLemmas
+pub mod BlockLemmas
+pub mod GrammarBlocks
+pub mod Fits
+pub mod HeadLemmas

@@ -1,0 +1,24 @@
+-- The refusals of heads: number, name, and when one comes.
+use Rattle.std.specs.Prelude.{◌≡◌, ℕ, ◌⊎◌, List, codes, Result, Err, MatchResult}
+use Rattle.px_head.specs.declared.faults.HeadFault.{HeadFault}
+use Rattle.px_head.specs.declared.faults.HeadFault.TheVariants.{Malformed, TooManyFields, Mem}
+
+-- the number; want of memory has none
+abbrev pub fault_number : HeadFault → ℕ
+fault_number Malformed = 34
+fault_number TooManyFields = 35
+fault_number Mem = 0
+
+abbrev pub fault_name : HeadFault → List ℕ
+fault_name Malformed = codes "Malformed"
+fault_name TooManyFields = codes "TooManyFields"
+fault_name Mem = codes "Mem"
+
+-- the fault is the answer, or memory was wanting
+abbrev pub IsRefused : {T : Type 0} → Result T HeadFault → HeadFault → Type 0
+IsRefused result fault = MatchResult result (λ _. ⊥) (λ e. (e ≡ fault) ⊎ (e ≡ Mem))
+
+-- the fault comes exactly where that holds, save that memory may be wanting there
+pub record ComesExactly {T : Type 0} (result : Result T HeadFault) (fault : HeadFault) (where_ : Type 0) : Type 0 where
+  pub only : result ≡ Err fault → where_
+  pub always : where_ → IsRefused result fault

@@ -1,0 +1,5 @@
+pub mod Blocks
+pub mod Faults
+pub mod Fields
+pub mod Heads
+pub mod Prints

@@ -1,0 +1,60 @@
+// Fields of a head.
+ghost use Rattle.std.specs.Prelude.{◌≡◌, ◌==◌, length, map, count_by, vec_len, All, IfOk};
+ghost use Rattle.httparse.specs.Spans.{IsHeaderWithin};
+ghost use Rattle.px_head.specs.Fields.{field_at};
+ghost use Rattle.px_head.specs.Prints.{field_line};
+
+use crate::prints::push_field;
+use httparse::spans::{EMPTY_HEADER_SPAN, HeaderSpan};
+use memchr::memchr_iter;
+use px_base::{List, Mem, Text};
+use std::alloc::{AllocError, Global};
+
+/// A field of a head: its name, and its value without the white space around it.
+#[derive(Drop)]
+pub struct Field {
+    pub name: Text,
+    pub value: Text,
+}
+
+impl Field {
+    /// The field's line without its end: the name, a colon, a space and the value (RFC 9112, section 5).
+    pub fn line(&self, alloc: Global) -> Result<Text, Mem>
+        ensures { IfOk result (λ line. line ≡ field_line self.now) }
+    {
+        let mut line = Text::new(alloc);
+        push_field(&mut line, self)?;
+        Ok(line)
+    }
+}
+
+/// The fields that spans cover.
+pub fn copy_fields(alloc: Global, block: &[u8], spans: &[HeaderSpan]) -> Result<List<Field>, Mem>
+    requires { All (IsHeaderWithin (length block.now)) spans.now }
+    ensures { IfOk result (λ fields. fields ≡ map (field_at block.now) spans.now) }
+{
+    let mut fields = List::new(alloc);
+    for span in spans {
+        let field = Field {
+            name: Text::from_bytes(alloc, span.name.of(block))?,
+            value: Text::from_bytes(alloc, span.value.of(block))?,
+        };
+        if fields.push(field).is_err() {
+            return Err(Mem);
+        }
+    }
+    Ok(fields)
+}
+
+/// Room for a span a line of the block, so that each head that the block is has room.
+pub fn room_for(alloc: Global, block: &[u8]) -> Result<Vec<HeaderSpan>, AllocError>
+    ensures { IfOk result (λ room. vec_len room ≡ count_by (λ b. b == 10) block.now) }
+{
+    vec![in alloc; EMPTY_HEADER_SPAN; line_feeds(block)]
+}
+
+fn line_feeds(block: &[u8]) -> usize
+    ensures { result ≡ count_by (λ b. b == 10) block.now }
+{
+    memchr_iter(b'\n', block).count()
+}

@@ -1,0 +1,24 @@
+//! Heads of HTTP/1.x messages (RFC 9112, sections 2 to 5): where a head ends, what it reads as, and how it is printed.
+#![tactic(auto)]
+
+mod blocks;
+mod faults;
+mod fields;
+mod prints;
+mod requests;
+mod responses;
+#[cfg(test)]
+mod tests;
+
+pub use blocks::{HeadEnd, find_head};
+pub use faults::{HeadFault, TOO_LONG_NAME, TOO_LONG_NUMBER};
+pub use fields::Field;
+pub use prints::print_head;
+pub use requests::RequestHead;
+pub use responses::ResponseHead;
+
+/// The most bytes of a head.
+pub const HEAD_LIMIT: usize = 65_536;
+
+/// The most fields of a head.
+pub const FIELD_LIMIT: usize = 128;

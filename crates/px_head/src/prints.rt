@@ -1,0 +1,97 @@
+// The printed form of a head.
+ghost use Rattle.std.specs.Prelude.{◌≡◌, ◌++◌, OnOk, OnErr};
+ghost use Rattle.std.specs.Fmt.{decimal};
+ghost use Rattle.px_head.specs.Prints.{field_line, field_lines, printed_head, reason_part, status_text, version_text, IsFrontOf};
+
+use crate::fields::Field;
+use px_base::{Mem, Text};
+use std::alloc::Global;
+
+/// What ends a printed line.
+const LINE_END: &[u8] = b"\r\n";
+
+/// The empty line that ends a head.
+const EMPTY_LINE: &[u8] = b"\r\n";
+
+/// What stands between a field's name and its value.
+const FIELD_SEPARATOR: &[u8] = b": ";
+
+/// Adds a head to `out`: the first line, the fields' lines and the empty line, each ended by CR LF (RFC 9112, section 2.1).
+/// After `Mem`, `out` is as it was.
+pub fn print_head(first_line: &[u8], fields: &[Field], out: &mut Text) -> Result<(), Mem>
+    ensures ok { OnOk result (out.new ≡ out.old ++ printed_head first_line.now fields.now) }
+    ensures err { OnErr result (out.new ≡ out.old) }
+{
+    let len = out.len();
+    match push_head(out, first_line, fields) {
+        Ok(()) => Ok(()),
+        Err(Mem) => {
+            out.truncate(len);
+            Err(Mem)
+        }
+    }
+}
+
+#[tactic(auto, unfolding(crate::specs::Prints::printed_head))]
+fn push_head(out: &mut Text, first_line: &[u8], fields: &[Field]) -> Result<(), Mem>
+    ensures ok { OnOk result (out.new ≡ out.old ++ printed_head first_line.now fields.now) }
+    ensures err { OnErr result (IsFrontOf out.old out.new) }
+{
+    out.push_all(first_line)?;
+    out.push_all(LINE_END)?;
+    push_fields(out, fields)?;
+    out.push_all(EMPTY_LINE)
+}
+
+/// Adds the fields' lines, each with its end.
+#[tactic(auto, unfolding(crate::specs::Prints::field_lines))]
+fn push_fields(out: &mut Text, fields: &[Field]) -> Result<(), Mem>
+    ensures ok { OnOk result (out.new ≡ out.old ++ field_lines fields.now) }
+    ensures err { OnErr result (IsFrontOf out.old out.new) }
+{
+    for field in fields {
+        push_field(out, field)?;
+        out.push_all(LINE_END)?;
+    }
+    Ok(())
+}
+
+/// Adds the field's line without its end.
+pub fn push_field(out: &mut Text, field: &Field) -> Result<(), Mem>
+    ensures ok { OnOk result (out.new ≡ out.old ++ field_line field.now) }
+    ensures err { OnErr result (IsFrontOf out.old out.new) }
+{
+    out.push_all(field.name.as_bytes())?;
+    out.push_all(FIELD_SEPARATOR)?;
+    out.push_all(field.value.as_bytes())
+}
+
+/// Adds the version HTTP/1 with that minor number.
+pub fn push_version(alloc: Global, out: &mut Text, minor: u8) -> Result<(), Mem>
+    ensures { OnOk result (out.new ≡ out.old ++ version_text minor) }
+{
+    out.push_all(b"HTTP/1.")?;
+    out.push_all(minor.to_string(alloc)?.as_bytes())
+}
+
+/// Adds the status in at least three digits.
+#[tactic(auto, unfolding(crate::specs::Prints::status_text))]
+pub fn push_status(alloc: Global, out: &mut Text, status: u16) -> Result<(), Mem>
+    ensures { OnOk result (out.new ≡ out.old ++ status_text status) }
+{
+    let digits = status.to_string(alloc)?;
+    let zeros = 3usize.saturating_sub(digits.len());
+    out.push_all(&b"000"[..zeros])?;
+    out.push_all(digits.as_bytes())
+}
+
+/// Adds a space and the reason, and nothing where the reason is empty.
+pub fn push_reason(out: &mut Text, reason: &[u8]) -> Result<(), Mem>
+    ensures { OnOk result (out.new ≡ out.old ++ reason_part reason.now) }
+{
+    if reason.is_empty() {
+        return Ok(());
+    }
+    out.push(b' ')?;
+    out.push_all(reason)
+}

@@ -1,0 +1,143 @@
+//! Heads found, read and printed.
+use crate::{
+    FIELD_LIMIT, Field, HEAD_LIMIT, HeadEnd, HeadFault, RequestHead, ResponseHead, find_head,
+    print_head,
+};
+use px_base::Text;
+use std::alloc::Global;
+use std::process::Abort;
+
+#[test]
+fn a_block_ends_with_the_first_empty_line_behind_a_line(rt: HostRuntime) {
+    let rows: [(&[u8], HeadEnd); 11] = [
+        (b"", HeadEnd::NotYet),
+        (b"\r\n\n", HeadEnd::NotYet),
+        (b"GET http://a.test/ HTTP/1.1\r\nHos", HeadEnd::NotYet),
+        (b"A\r\n\r", HeadEnd::NotYet),
+        (b"A\r\n\r\n", HeadEnd::At(5)),
+        (b"A\n\n", HeadEnd::At(3)),
+        (b"A\n\r\n", HeadEnd::At(4)),
+        (b"\r\n\nA\r\nB\r\n\r\nC", HeadEnd::At(11)),
+        (b"\rA\n\r\r\n\n", HeadEnd::At(7)),
+        (b"A\r\n\r\nB\r\n\r\n", HeadEnd::At(5)),
+        (b"0123456789012345678901234567890123456789", HeadEnd::Over),
+    ];
+    for (bytes, end) in rows {
+        assert_eq!(rt; find_head(bytes, 40), end);
+    }
+    assert_eq!(rt; find_head(b"A\r\n\r\n", 5), HeadEnd::At(5));
+    assert_eq!(rt; find_head(b"A\r\n\r\n", 4), HeadEnd::Over);
+    assert_eq!(rt; find_head(b"A\r\n", 4), HeadEnd::NotYet);
+}
+
+/// A request line, a field of many bytes and an empty line, `len` bytes in all.
+fn long_head(rt: &impl Abort, alloc: Global, len: usize) -> Text {
+    let mut head = Text::from_bytes(alloc, b"GET http://a.test/ HTTP/1.1\r\nA: ").expect(
+        rt, "memory",
+    );
+    for _ in 0..len.saturating_sub(36) {
+        head.push(b'x').expect(rt, "memory");
+    }
+    head.push_all(b"\r\n\r\n").expect(rt, "memory");
+    head
+}
+
+#[test]
+fn a_head_may_end_with_the_last_byte_of_the_limit(rt: HostRuntime) {
+    let head = long_head(&rt, rt.alloc(), HEAD_LIMIT);
+    assert_eq!(rt; head.len(), 65_536);
+    assert_eq!(rt; find_head(head.as_bytes(), HEAD_LIMIT), HeadEnd::At(65_536));
+    assert!(rt; RequestHead::read(rt.alloc(), head.as_bytes()).is_ok());
+    let longer = long_head(&rt, rt.alloc(), HEAD_LIMIT + 1);
+    assert_eq!(rt; find_head(longer.as_bytes(), HEAD_LIMIT), HeadEnd::Over);
+}
+
+/// A first line and as many fields.
+fn head_with(rt: &impl Abort, alloc: Global, first_line: &[u8], fields: usize) -> Text {
+    let mut head = Text::from_bytes(alloc, first_line).expect(rt, "memory");
+    for _ in 0..fields {
+        head.push_all(b"\r\nA: b").expect(rt, "memory");
+    }
+    head.push_all(b"\r\n\r\n").expect(rt, "memory");
+    head
+}
+
+#[test]
+fn up_to_128_fields_are_read(rt: HostRuntime) {
+    for (fields, fault) in [(FIELD_LIMIT, None), (129, Some(HeadFault::TooManyFields))] {
+        let request = head_with(&rt, rt.alloc(), b"GET / HTTP/1.1", fields);
+        assert_eq!(rt;
+            RequestHead::read(rt.alloc(), request.as_bytes()).err(),
+            fault
+        );
+        let response = head_with(&rt, rt.alloc(), b"HTTP/1.1 200 OK", fields);
+        assert_eq!(rt;
+            ResponseHead::read(rt.alloc(), response.as_bytes()).err(),
+            fault
+        );
+    }
+}
+
+#[test]
+fn what_is_no_whole_head_is_malformed(rt: HostRuntime) {
+    let rows: [&[u8]; 7] = [
+        b"",
+        b"GET http://a.test/ HTTP/1.1\r\nA B\r\n\r\n",
+        b"GET http://a.test/ HTTP/1.1\r\nA: \0\r\n\r\n",
+        b"GET http://a.test/ HTTP/1.1\r\n",
+        b"GET http://a.test/ HTTP/1.1\r\n\r\nGET",
+        b"GET http://a.test/ HTTP/2.0\r\n\r\n",
+        b"HTTP/1.1 20 OK\r\n\r\n",
+    ];
+    for block in rows {
+        assert_eq!(rt;
+            RequestHead::read(rt.alloc(), block).err(),
+            Some(HeadFault::Malformed)
+        );
+        assert_eq!(rt;
+            ResponseHead::read(rt.alloc(), block).err(),
+            Some(HeadFault::Malformed)
+        );
+    }
+    assert!(rt; HeadFault::Malformed.number() == 34 && HeadFault::TooManyFields.number() == 35);
+    assert_eq!(rt; HeadFault::Malformed.name(), "Malformed");
+}
+
+#[test]
+fn a_request_head_is_read_and_printed(rt: HostRuntime) {
+    let alloc = rt.alloc();
+    let block = b"\r\nGET http://a.test/x HTTP/1.1\nHost:  a.test \r\nX:\r\n\r\n";
+    let head = RequestHead::read(alloc, block).expect(&rt, "a head");
+    let line = head.first_line(alloc).expect(&rt, "memory");
+    assert!(rt; line.as_bytes() == b"GET http://a.test/x HTTP/1.1".as_slice());
+    let mut out = Text::from_bytes(alloc, b"> ").expect(&rt, "memory");
+    print_head(line.as_bytes(), head.fields.as_slice(), &mut out).expect(&rt, "memory");
+    assert!(rt;
+        out.as_bytes()
+            == b"> GET http://a.test/x HTTP/1.1\r\nHost: a.test\r\nX: \r\n\r\n".as_slice()
+    );
+    let field = Field {
+        name: Text::from_bytes(alloc, b"Host").expect(&rt, "memory"),
+        value: Text::from_bytes(alloc, b"a.test").expect(&rt, "memory"),
+    };
+    assert!(rt; field.line(alloc).expect(&rt, "memory").as_bytes() == b"Host: a.test".as_slice());
+}
+
+#[test]
+fn a_response_keeps_its_reason_as_it_came(rt: HostRuntime) {
+    let alloc = rt.alloc();
+    let rows: [(&[u8], &[u8]); 5] = [
+        (b"HTTP/1.1 200 OK\r\n\r\n", b"HTTP/1.1 200 OK"),
+        (
+            b"HTTP/1.0 404  Not\tFound \r\n\r\n",
+            b"HTTP/1.0 404  Not\tFound ",
+        ),
+        (b"HTTP/1.1 200 \xff\n\n", b"HTTP/1.1 200 \xff"),
+        (b"HTTP/1.1 204 \r\n\r\n", b"HTTP/1.1 204"),
+        (b"HTTP/1.1 007\r\n\r\n", b"HTTP/1.1 007"),
+    ];
+    for (block, line) in rows {
+        let head = ResponseHead::read(alloc, block).expect(&rt, "a head");
+        assert!(rt; head.first_line(alloc).expect(&rt, "memory").as_bytes() == line);
+    }
+}
