@@ -1,2 +1,4 @@
 pub mod OriginLemmas
 pub mod WordLemmas
+pub mod ReadLemmas
+pub mod PassLemmas

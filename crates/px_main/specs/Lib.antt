@@ -3,3 +3,6 @@ pub mod Entries
 pub mod Sents
 pub mod Words
 pub mod Faults
+pub mod Statuses
+pub mod Passes
+pub mod Reads

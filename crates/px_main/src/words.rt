@@ -3,6 +3,7 @@ ghost use Rattle.std.specs.Prelude.{◌≡◌, not, map, string_bytes, IfSome, I
 ghost use Rattle.px_main.specs.Words.{IsPass, is_flag, no_flags};
 
 /// The words of `pass`.
+#[derive(Clone, Copy)]
 pub struct PassWords<'w> {
     /// The name of the configuration's main file.
     pub config: &'w str,
