@@ -21,7 +21,7 @@ use std::process::ExitCode;
 use std::rt::Env;
 
 /// The words after the program's name.
-fn words<R: Env + AllocGlobal>(rt: &R) -> io::Result<Vec<String>> {
+fn program_words<R: Env + AllocGlobal>(rt: &R) -> io::Result<Vec<String>> {
     let mut words = Vec::new(rt.alloc());
     for word in env::args(rt)?.skip(1) {
         words.push(word)?;
@@ -30,7 +30,7 @@ fn words<R: Env + AllocGlobal>(rt: &R) -> io::Result<Vec<String>> {
 }
 
 fn main(rt: HostRuntime) -> ExitCode {
-    let words = match words(&rt) {
+    let words = match program_words(&rt) {
         Ok(words) => words,
         Err(error) => {
             let wanting = error.kind() == io::ErrorKind::OutOfMemory;
