@@ -1,5 +1,5 @@
 -- One exchange, joined from its parts: judging, dialling, sending and answering.
-use Rattle.std.specs.Prelude.{◌≡◌, ℕ, Bool, true, false, IsTrue, ◌⊎◌, if◌then◌else◌, List, [], ◌++◌, Option, None, Some}
+use Rattle.std.specs.Prelude.{◌≡◌, ℕ, Bool, true, false, ◌⊎◌, if◌then◌else◌, List, ◌++◌, None, Some}
 use Rattle.px_base.specs.Causes.{Rose}
 use Rattle.px_base.specs.Sinks.{SinkState, AddsFront}
 use Rattle.px_base.specs.Dials.{DialerState}
