@@ -1,5 +1,5 @@
 -- White space at the end of a text.
-use Rattle.std.proofs.Common.{◌≡◌, ℕ, Bool, true, false, List, [], ◌∷◌, ◌++◌, refl, ◌&&◌, arith, rules}
+use Rattle.std.proofs.Common.{◌≡◌, ℕ, true, false, List, [], ◌∷◌, ◌++◌, ◌&&◌, arith}
 use Rattle.px_base.specs.Blanks.{is_blank, all_blank, trim_end}
 use Rattle.std.proofs.lemmas.Grind.{common_steps}
 

@@ -1,5 +1,5 @@
 -- The entries of a dialer in memory, and the dials that they stand for.
-use Rattle.std.proofs.Common.{◌≡◌, ℕ, zero, suc, ◌+◌, ◌<◌, ◌≤◌, Bool, true, false, ◌==◌, List, [], ◌∷◌, ◌++◌, length, take, drop, set, get_or, sym, ap, ◌∙◌, refl, arith, add-one, ◌⊎◌, inl, inr, Result, Ok, Err, length-set}
+use Rattle.std.proofs.Common.{◌≡◌, ℕ, zero, suc, ◌+◌, ◌<◌, ◌≤◌, Bool, true, false, ◌==◌, List, [], ◌∷◌, ◌++◌, length, take, set, get_or, sym, ap, ◌∙◌, refl, arith, inl, inr, Result, Ok, Err, length-set}
 use Rattle.std.specs.Prelude.{IfOk}
 use Rattle.std.proofs.lemmas.List.Edits.{length-insert}
 use Rattle.px_base.specs.declared.faults.DialFault.{DialFault}
@@ -10,7 +10,7 @@ use Rattle.px_base.specs.declared.dials.Dial.{Dial}
 use Rattle.px_base.specs.declared.dials.LinkNote.{LinkNote}
 use Rattle.px_base.specs.declared.entries.Entry.{Entry}
 use Rattle.px_base.specs.declared.entries.Entry.TheVariants as entry
-use Rattle.px_base.specs.Dials.{Traffic, DialerState, LinkState, IsTold, is_open_at, is_open, closed_dial, finish, finished_links}
+use Rattle.px_base.specs.Dials.{Traffic, DialerState, LinkState, IsTold, is_open_at, is_open, finish, finished_links}
 use Rattle.px_base.specs.Entries.{first_note, dial_of, notes_behind, merged, is_open_entry, opens, more_finished, finished_in, ended, note_of, IsMarked}
 
 -- an open dial is that of an open entry, whose number is the mark

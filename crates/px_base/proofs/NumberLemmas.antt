@@ -1,8 +1,8 @@
 -- Decimal numbers.
-use Rattle.std.proofs.Common.{◌≡◌, ℕ, ◌+◌, ◌-◌, ◌*◌, ◌≤◌, ◌<◌, Bool, false, List, [], ◌∷◌, length, drop, get_or, None, ap, cond, not, ◌&&◌, ◌==◌, leb, sym, ◌∙◌, arith, drop-cons, suc}
+use Rattle.std.proofs.Common.{◌≡◌, ℕ, ◌+◌, ◌-◌, ◌*◌, ◌≤◌, ◌<◌, false, List, [], ◌∷◌, length, drop, get_or, None, ap, cond, not, ◌==◌, leb, ◌∙◌, arith, drop-cons, suc}
 use Rattle.std.proofs.lemmas.Bool.{and_right, lt-leb}
 use Rattle.px_base.specs.Numbers.{all_digits, with_digits, decimal}
-use Rattle.std.specs.Prelude.{Option, Some}
+use Rattle.std.specs.Prelude.{Some}
 
 -- more digits don't make a number smaller
 pub with_digits_grows : (n : ℕ) (bs : List ℕ) → n ≤ with_digits n bs

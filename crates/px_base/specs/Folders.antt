@@ -1,5 +1,5 @@
 -- Files in memory: lists of names and contents.
-use Rattle.std.specs.Prelude.{ℕ, ◌+◌, ◌++◌, if◌then◌else◌, List, [], ◌∷◌, drop, map, slice_index_or, Option, Some, None}
+use Rattle.std.specs.Prelude.{ℕ, ◌+◌, if◌then◌else◌, List, [], ◌∷◌, drop, map, slice_index_or, Some, None}
 use Rattle.std.specs.Str.{bytes_eq}
 use Rattle.px_base.specs.Contents.{Contents}
 

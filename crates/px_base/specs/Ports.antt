@@ -1,5 +1,5 @@
 -- Port lists: items between commas, each a port or a range of ports (the manual's chapter on actions files, limit-connect).
-use Rattle.std.specs.Prelude.{ℕ, ◌+◌, ◌==◌, ◌&&◌, Bool, nat_le, if◌then◌else◌, List, [], ◌∷◌, ◌++◌, Option, Some, None, length, take, drop, option_map, option_and_then}
+use Rattle.std.specs.Prelude.{ℕ, ◌+◌, ◌==◌, ◌&&◌, Bool, nat_le, if◌then◌else◌, List, [], ◌∷◌, Option, Some, None, length, take, drop, option_map, option_and_then}
 use Rattle.std.specs.List.{slice_split, position, list_any}
 use Rattle.px_base.specs.Blanks.{trimmed}
 use Rattle.px_base.specs.Numbers.{decimal}

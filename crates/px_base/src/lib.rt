@@ -36,10 +36,13 @@ pub use mem_dialer::MemDialer;
 pub use mem_files::MemFiles;
 pub use numbers::read_decimal;
 pub use peers::Peer;
-pub use ports::{PortRange, Ports, PortsFault};
+pub use ports::{PortRange, Ports, PortsFault, read_port};
 pub use sinks::{Sink, write_all};
 pub use sources::Source;
 pub use steps::Steps;
 pub use tape_in::TapeIn;
 pub use tape_out::TapeOut;
 pub use texts::Text;
+
+#[cfg(test)]
+mod tests;

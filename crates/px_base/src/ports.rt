@@ -91,9 +91,9 @@ fn dash(bytes: &[u8]) -> Option<usize>
     bytes.iter().position(|byte| *byte == b'-')
 }
 
-/// A port: a number from 1 to 65,535.
+/// A port: a decimal number from 1 to 65,535.
 #[tactic(auto, unfolding(crate::specs::Ports::port))]
-fn read_port(bytes: &[u8]) -> Option<u16>
+pub fn read_port(bytes: &[u8]) -> Option<u16>
     ensures { result ≡ port bytes.now }
 {
     match read_decimal(bytes, 65_535) {

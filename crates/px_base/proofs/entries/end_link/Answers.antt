@@ -1,6 +1,5 @@
-use Rattle.std.proofs.Common.{◌≡◌, true, arith}
+use Rattle.std.proofs.Common.{arith}
 use Rattle.px_base.specs.Dials.{Traffic}
-use Rattle.px_base.specs.Entries.{opens}
 use Rattle.px_base.proofs.EntryLemmas.{Ends, open_entry, ended_notes, ended_length, ended_dials}
 use Rattle.px_base.proofs.entries.end_link.Goals as goal
 

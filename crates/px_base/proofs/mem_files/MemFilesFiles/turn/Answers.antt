@@ -1,5 +1,4 @@
-use Rattle.std.proofs.Common.{arith, refl, ◌∙◌, ◌+◌, ap, sym}
-use Rattle.px_base.specs.Folders.{holds, state_at}
+use Rattle.std.proofs.Common.{arith, refl}
 use Rattle.px_base.proofs.FolderLemmas.{turned_to_next, later_after_next}
 use Rattle.px_base.proofs.mem_files.MemFilesFiles.turn.Goals as goal
 
