@@ -47,7 +47,7 @@ pub record DialsOnce (old new : DialerState) (plan : Plan) (reply : Reply) : Typ
   pub coming_left : IsTrue old.tells_coming → new.coming ≡ drop 1 old.coming
   pub cause : OutcomeCause old new dial.outcome
 
--- memory was wanting: no dial was added, or one for the plan, over whose link a prefix of the head was sent
+-- one dial was added for a plan, and a prefix of the head was sent over its link
 pub record SentFront (old new : DialerState) (plan : Plan) : Type 0 where
   pub dial : Dial
   pub added : new.dials ≡ old.dials ++ dial ∷ []
@@ -57,7 +57,7 @@ pub record SentFront (old new : DialerState) (plan : Plan) : Type 0 where
   pub linked : dial.outcome ≡ outcome.Link seen
   pub front : IsPrefix seen.sent plan.sent
 
--- a refused dial, for which memory was wanting after it
+-- one dial was added for a plan, and it was refused
 pub record Refused (old new : DialerState) (plan : Plan) : Type 0 where
   pub dial : Dial
   pub added : new.dials ≡ old.dials ++ dial ∷ []
@@ -65,7 +65,7 @@ pub record Refused (old new : DialerState) (plan : Plan) : Type 0 where
   pub to_port : dial.port ≡ 80
   pub refused : (dial.outcome ≡ outcome.NoName) ⊎ (dial.outcome ≡ outcome.NotReached)
 
--- what was done for a plan when memory was wanting
+-- what was dialled for a plan when memory was wanting: nothing, a refused dial, or a link
 abbrev pub WantsFor : DialerState → DialerState → Plan → Type 0
 WantsFor old new plan = (new.dials ≡ old.dials) ⊎ (Refused old new plan ⊎ SentFront old new plan)
 

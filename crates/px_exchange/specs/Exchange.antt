@@ -71,8 +71,8 @@ pub record GivesUp (seen : HeadSeen) (first last : Bool) (old new : DialerState)
   pub broken : e ≡ ending.Broken
   pub no_memory : a ≡ after.NoMemory
 
--- one exchange: its request, whether it is the first and the last one of its connection, the dialer before and after, what the client's sink
--- had taken before and after, its ending, and what comes after
+-- one exchange: its request, whether it is the first and the last one of its connection, the dialer before and after,
+-- what the client's sink had taken before and after, its ending, and what comes after
 abbrev pub Exchanges : HeadSeen → Bool → Bool → DialerState → DialerState → List ℕ → List ℕ → Ending → After → Type 0
 Exchanges seen first last old new taken taken' e a =
     Replies seen first last old new taken taken' e a ⊎ GivesUp seen first last old new taken taken' e a
