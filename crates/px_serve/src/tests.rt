@@ -178,7 +178,7 @@ fn a_second_request_is_refused_and_the_connection_closes(rt: HostRuntime) {
         outcome.endings.as_slice(),
         [Ending::Passed, Ending::Page(Page::InvalidRequest)].as_slice()
     );
-    assert_eq!(rt; &outcome.returned.as_bytes()[..64], RETURNED);
+    assert!(rt; outcome.returned.as_bytes().starts_with(RETURNED));
     assert_eq!(rt; outcome.links, 1);
 }
 
@@ -205,7 +205,8 @@ fn a_failing_call_of_the_client_ends_the_session_with_its_own_fault(rt: HostRunt
     let outcome = serve(&rt, rt.alloc(), row);
     assert_eq!(rt; outcome.end, SessionEnd::WriteFailed);
     assert_eq!(rt; outcome.endings.as_slice(), [Ending::Broken].as_slice());
-    assert_eq!(rt; outcome.returned.as_bytes(), &RETURNED[..50]);
+    assert_eq!(rt; outcome.returned.len(), 50);
+    assert!(rt; RETURNED.starts_with(outcome.returned.as_bytes()));
     assert!(rt; outcome.finished);
     assert_eq!(rt; outcome.sent.as_bytes(), SENT);
 }
