@@ -1,10 +1,10 @@
 -- What is returned of an answer, from what was read of it.
-use Rattle.std.proofs.Common.{◌≡◌, ℕ, ◌+◌, ◌<◌, ◌≤◌, Bool, List, [], ◌++◌, length, take, drop, Option, Some, None, sym, ap, ◌∙◌, refl, arith, length-append, append-nil, inl}
+use Rattle.std.proofs.Common.{◌≡◌, ℕ, ◌<◌, ◌≤◌, Bool, List, [], ◌++◌, length, take, drop, Some, ap, ◌∙◌, refl, arith, length-append, inl}
 use Rattle.std.proofs.lemmas.Bool.{le-leb, lt-leb}
 use Rattle.std.proofs.lemmas.List.{take-append-le}
 use Rattle.px_head.specs.declared.responses.ResponseHead.{ResponseHead}
 use Rattle.std.specs.Result.{IfOk}
-use Rattle.std.specs.Prelude.{Result, Ok, Err, not, ◌==◌, MatchBool, true, false}
+use Rattle.std.specs.Prelude.{Result, Ok, Err, not, ◌==◌, true, false}
 use Rattle.std.proofs.Math.Seq.{take-append_seam, drop-append_seam}
 use Rattle.px_head.specs.Heads.{IsResponse}
 use Rattle.px_head.specs.Blocks.{head_end}

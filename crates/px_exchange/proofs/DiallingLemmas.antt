@@ -1,23 +1,21 @@
 -- The one dial that a plan takes.
-use Rattle.std.proofs.Common.{◌≡◌, ◌≢◌, ℕ, ◌+◌, ◌<◌, ◌≤◌, Bool, IsTrue, true, false, not, ◌==◌, List, [], ◌∷◌, ◌++◌, length, take, drop, Result, Ok, Err, sym, ap, ◌∙◌, refl, subst, arith, rules, inr, inl}
-use Rattle.std.specs.Result.{MatchResult, IfOk, OnErr}
+use Rattle.std.proofs.Common.{◌≡◌, ℕ, Bool, IsTrue, true, false, not, ◌==◌, List, [], ◌∷◌, ◌++◌, length, drop, Result, Ok, Err, ap, ◌∙◌, refl, subst, inr}
+use Rattle.std.specs.Result.{IfOk, OnErr}
 use Rattle.std.specs.Prelude.{MatchBool}
-use Rattle.std.proofs.lemmas.Grind.{common_steps}
-use Rattle.std.proofs.lemmas.Bool.{or_parts, or_right, or_left, ne_eqb, eq-eqb}
+use Rattle.std.proofs.lemmas.Bool.{or_parts, or_right, or_left, eq-eqb}
 use Rattle.px_base.specs.Causes.{Rose, RisesWith}
 use Rattle.px_base.specs.declared.dials.Dial.{Dial}
-use Rattle.px_base.specs.declared.dials.LinkSeen.{LinkSeen}
 use Rattle.px_base.specs.declared.dials.Answer.{Answer}
 use Rattle.px_base.specs.declared.dials.Answer.TheVariants as answer
 use Rattle.px_base.specs.declared.dials.DialOutcome.TheVariants as outcome
 use Rattle.px_base.specs.declared.faults.Mem.{Mem}
 use Rattle.px_base.specs.Sources.{SourceState, SourceGoesOn}
 use Rattle.px_base.specs.Sinks.{SinkState, SinkGoesOn}
-use Rattle.px_base.specs.Dials.{DialerState, LinkState, IsFresh, IsTold, HangsUp, traffic, Traffic, is_open, is_open_at, finish, closed_dial, agrees}
+use Rattle.px_base.specs.Dials.{DialerState, IsFresh, IsTold, HangsUp, traffic, Traffic, is_open, is_open_at, finish, closed_dial, agrees}
 use Rattle.px_exchange.specs.declared.judging.Plan.{Plan}
 use Rattle.px_exchange.specs.declared.answering.Reply.{Reply}
 use Rattle.px_exchange.specs.Sending.{GivesOver, IsPrefix, link_seen}
-use Rattle.px_exchange.specs.Dialling.{DialsOnce, SentFront, WantsFor, Comes, OutcomeCause}
+use Rattle.px_exchange.specs.Dialling.{DialsOnce, WantsFor, Comes}
 
 -- the last dial is open
 pub open-last : (mark : ℕ) (d : Dial) (ds : List Dial) → is_open_at mark d.outcome ≡ true → is_open mark (ds ++ d ∷ []) ≡ true
@@ -50,10 +48,11 @@ steady {n = n} b m k e kept none zero = calm n ((kept (e ∙ eq-eqb k 0 zero)).1
 comes : (coming : List Answer) (i i' : SourceState) (o o' : SinkState)
     → agrees coming (Ok (record { link_in = i; link_out = o })) → IsFresh (record { link_in = i; link_out = o }) → SourceGoesOn i i' → SinkGoesOn o o'
     → Comes coming (outcome.Link (link_seen i' o'))
-comes (answer.Link bytes cuts rs ws ∷ as_) i i' o o' a fresh on_in on_out =
-    (on_in.offered_same ∙ a.0,
-     λ none. steady i.steady i.faults (length rs) a.1 on_in.steady_kept fresh.no_read_failed none,
-     λ none. steady o.steady o.faults (length ws) a.2 on_out.steady_kept fresh.no_write_failed none)
+comes (answer.Link bytes cuts rs ws ∷ as_) i i' o o' a fresh on_in on_out = (
+  on_in.offered_same ∙ a.0,
+  λ none. steady i.steady i.faults (length rs) a.1 on_in.steady_kept fresh.no_read_failed none,
+  λ none. steady o.steady o.faults (length ws) a.2 on_out.steady_kept fresh.no_write_failed none,
+)
 comes (answer.NoName ∷ as_) i i' o o' a fresh on_in on_out = absurd a
 comes (answer.NotReached ∷ as_) i i' o o' a fresh on_in on_out = absurd a
 comes [] i i' o o' a fresh on_in on_out = absurd a

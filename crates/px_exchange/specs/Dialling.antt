@@ -1,5 +1,5 @@
 -- Dialling: the one dial of a request that is sent on.
-use Rattle.std.specs.Prelude.{◌≡◌, ℕ, ◌==◌, ◌⊎◌, true, false, IsTrue, List, [], ◌∷◌, ◌++◌, length, drop, Option, None, Some}
+use Rattle.std.specs.Prelude.{◌≡◌, ◌⊎◌, true, false, IsTrue, List, [], ◌∷◌, ◌++◌, length, drop}
 use Rattle.px_base.specs.Causes.{Rose}
 use Rattle.px_base.specs.Dials.{DialerState}
 use Rattle.px_base.specs.declared.dials.Dial.{Dial}
@@ -8,7 +8,6 @@ use Rattle.px_base.specs.declared.dials.DialOutcome.{DialOutcome}
 use Rattle.px_base.specs.declared.dials.DialOutcome.TheVariants as outcome
 use Rattle.px_base.specs.declared.dials.Answer.{Answer}
 use Rattle.px_base.specs.declared.dials.Answer.TheVariants as answer
-use Rattle.px_exchange.specs.declared.pages.Page.TheVariants as page
 use Rattle.px_exchange.specs.declared.judging.Plan.{Plan}
 use Rattle.px_exchange.specs.declared.answering.Reply.{Reply}
 use Rattle.px_exchange.specs.Sending.{connect_failed, GivesOver, IsPrefix}
@@ -48,7 +47,7 @@ pub record DialsOnce (old new : DialerState) (plan : Plan) (reply : Reply) : Typ
   pub coming_left : IsTrue old.tells_coming → new.coming ≡ drop 1 old.coming
   pub cause : OutcomeCause old new dial.outcome
 
--- memory was wanting: no dial was added, or one for the plan, over whose link a prefix of the head was sent
+-- one dial was added for a plan, and a prefix of the head was sent over its link
 pub record SentFront (old new : DialerState) (plan : Plan) : Type 0 where
   pub dial : Dial
   pub added : new.dials ≡ old.dials ++ dial ∷ []
@@ -58,7 +57,7 @@ pub record SentFront (old new : DialerState) (plan : Plan) : Type 0 where
   pub linked : dial.outcome ≡ outcome.Link seen
   pub front : IsPrefix seen.sent plan.sent
 
--- a refused dial, for which memory was wanting after it
+-- one dial was added for a plan, and it was refused
 pub record Refused (old new : DialerState) (plan : Plan) : Type 0 where
   pub dial : Dial
   pub added : new.dials ≡ old.dials ++ dial ∷ []
@@ -66,7 +65,7 @@ pub record Refused (old new : DialerState) (plan : Plan) : Type 0 where
   pub to_port : dial.port ≡ 80
   pub refused : (dial.outcome ≡ outcome.NoName) ⊎ (dial.outcome ≡ outcome.NotReached)
 
--- what was done for a plan when memory was wanting
+-- what was dialled for a plan when memory was wanting: nothing, a refused dial, or a link
 abbrev pub WantsFor : DialerState → DialerState → Plan → Type 0
 WantsFor old new plan = (new.dials ≡ old.dials) ⊎ (Refused old new plan ⊎ SentFront old new plan)
 

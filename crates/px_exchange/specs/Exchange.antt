@@ -1,5 +1,5 @@
 -- One exchange, joined from its parts: judging, dialling, sending and answering.
-use Rattle.std.specs.Prelude.{◌≡◌, ℕ, Bool, true, false, IsTrue, ◌⊎◌, if◌then◌else◌, List, [], ◌++◌, Option, None, Some}
+use Rattle.std.specs.Prelude.{◌≡◌, ℕ, Bool, true, false, ◌⊎◌, if◌then◌else◌, List, ◌++◌, None, Some}
 use Rattle.px_base.specs.Causes.{Rose}
 use Rattle.px_base.specs.Sinks.{SinkState, AddsFront}
 use Rattle.px_base.specs.Dials.{DialerState}
@@ -71,8 +71,8 @@ pub record GivesUp (seen : HeadSeen) (first last : Bool) (old new : DialerState)
   pub broken : e ≡ ending.Broken
   pub no_memory : a ≡ after.NoMemory
 
--- one exchange: its request, whether it is the first and the last one of its connection, the dialer before and after, what the client's sink
--- had taken before and after, its ending, and what comes after
+-- one exchange: its request, whether it is the first and the last one of its connection, the dialer before and after,
+-- what the client's sink had taken before and after, its ending, and what comes after
 abbrev pub Exchanges : HeadSeen → Bool → Bool → DialerState → DialerState → List ℕ → List ℕ → Ending → After → Type 0
 Exchanges seen first last old new taken taken' e a =
     Replies seen first last old new taken taken' e a ⊎ GivesUp seen first last old new taken taken' e a

@@ -1,5 +1,5 @@
 -- Judging: what a request asks for, and the head that is sent on.
-use Rattle.std.specs.Prelude.{◌≡◌, ℕ, Bool, not, ◌&&◌, ◌==◌, ◌⊎◌, if◌then◌else◌, List, [], ◌∷◌, ◌++◌, Option, Some, None, option_map, MatchBool}
+use Rattle.std.specs.Prelude.{◌≡◌, ℕ, Bool, not, ◌&&◌, ◌==◌, ◌⊎◌, if◌then◌else◌, List, [], ◌∷◌, ◌++◌, Option, None, option_map, MatchBool}
 use Rattle.std.specs.Str.{bytes_eq}
 use Rattle.px_head.specs.declared.fields.Field.{Field}
 use Rattle.px_head.specs.declared.requests.RequestHead.{RequestHead}

@@ -1,5 +1,5 @@
 -- Local replies: pages with their heads.
-use Rattle.std.specs.Prelude.{ℕ, false, List, [], ◌∷◌, ◌++◌, length, codes}
+use Rattle.std.specs.Prelude.{ℕ, List, [], ◌∷◌, ◌++◌, length, codes}
 use Rattle.std.specs.Fmt.{decimal}
 use Rattle.px_head.specs.Prints.{printed_head}
 use Rattle.px_exchange.specs.declared.wire.TheConstants.{CONTENT_TYPE, TEXT_HTML, CONTENT_LENGTH, CACHE_CONTROL, NO_CACHE, CONNECTION, CLOSE, PAGE_FRONT, PAGE_END}

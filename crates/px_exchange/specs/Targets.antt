@@ -1,6 +1,6 @@
 -- The target of a request to a proxy: a scheme, a host and a path (RFC 9112, section 3.2.2).
 use Rattle.std.specs.Prelude.{ℕ, ◌==◌, ◌&&◌, ◌||◌, not, Bool, nat_eq, nat_le, if◌then◌else◌, List, length, take, drop, Option, Some, None}
-use Rattle.std.specs.List.{starts_with, prefix_len, list_all, slice_index}
+use Rattle.std.specs.List.{starts_with, prefix_len, list_all}
 use Rattle.std.specs.Char.{is_ascii_alphanumeric}
 use Rattle.px_exchange.specs.declared.wire.TheConstants.{SCHEME, SLASH}
 use Rattle.px_exchange.specs.declared.targets.Target.{Target}

@@ -60,7 +60,10 @@ fn has_plain_body(head: &ResponseHead) -> bool
     ensures { result ≡ has_plain_body head.now }
 {
     let status = head.status;
-    status >= 200 && status != 204 && status != 304 && !has_field(TRANSFER_ENCODING, head.fields.as_slice())
+    status >= 200
+        && status != 204
+        && status != 304
+        && !has_field(TRANSFER_ENCODING, head.fields.as_slice())
 }
 
 /// The length of the body of an answer that is returned.
@@ -77,13 +80,23 @@ fn body_length(head: &ResponseHead) -> Option<u64>
 
 /// The fields that are returned: those that are passed on, the length and the Connection field.
 #[tactic(auto, unfolding(crate::specs::Answering::returned_fields))]
-fn returned_fields(alloc: Global, keep: bool, len: usize, fields: &[Field]) -> Result<List<Field>, Mem>
+fn returned_fields(
+    alloc: Global,
+    keep: bool,
+    len: usize,
+    fields: &[Field],
+) -> Result<List<Field>, Mem>
     ensures { IfOk result (λ returned. returned ≡ returned_fields keep len fields.now) }
 {
     let mut returned = List::new(alloc);
     let mut buffer = Buffer::new();
     keep_of_response(alloc, fields, &mut returned)?;
-    push_field(alloc, &mut returned, CONTENT_LENGTH, buffer.format(len).as_bytes())?;
+    push_field(
+        alloc,
+        &mut returned,
+        CONTENT_LENGTH,
+        buffer.format(len).as_bytes(),
+    )?;
     push_field(alloc, &mut returned, CONNECTION, connection_value(keep))?;
     Ok(returned)
 }
@@ -159,7 +172,14 @@ fn fill_to<S: Source>(source: &mut S, ahead: &mut Ahead, want: usize) -> Result<
 
 /// Reads the body of so many bytes behind a head.
 #[tactic(auto, using(crate::proofs::AnsweringLemmas::whole_body, crate::proofs::AnsweringLemmas::short_body), unfolding(crate::specs::Answering::returned_with))]
-fn answer_with<I: Source>(alloc: Global, link_in: &mut I, ahead: &mut Ahead, head: ResponseHead, len: usize, keep: bool) -> Result<Reply, Mem>
+fn answer_with<I: Source>(
+    alloc: Global,
+    link_in: &mut I,
+    ahead: &mut Ahead,
+    head: ResponseHead,
+    len: usize,
+    keep: bool,
+) -> Result<Reply, Mem>
     ensures answered { IsTrue (I.state link_in.old).tells → (I.state link_in.old).faults ≡ 0
         → IfOk result (UnlessFailed (not ((I.state link_in.new).faults == 0)) (λ reply. reply ≡ returned_with keep head (ahead.old ++ (I.state link_in.old).left) (Some len))) }
     ensures kind { IfOk result IsOfAnswer }
@@ -175,7 +195,13 @@ fn answer_with<I: Source>(alloc: Global, link_in: &mut I, ahead: &mut Ahead, hea
 
 /// Reads what stands behind a head.
 #[tactic(auto, unfolding(crate::specs::Answering::returned_with))]
-fn answer_head<I: Source>(alloc: Global, link_in: &mut I, ahead: &mut Ahead, head: ResponseHead, keep: bool) -> Result<Reply, Mem>
+fn answer_head<I: Source>(
+    alloc: Global,
+    link_in: &mut I,
+    ahead: &mut Ahead,
+    head: ResponseHead,
+    keep: bool,
+) -> Result<Reply, Mem>
     ensures answered { IsTrue (I.state link_in.old).tells → (I.state link_in.old).faults ≡ 0
         → IfOk result (UnlessFailed (not ((I.state link_in.new).faults == 0)) (λ reply. reply ≡ returned keep head (ahead.old ++ (I.state link_in.old).left))) }
     ensures kind { IfOk result IsOfAnswer }
@@ -188,7 +214,13 @@ fn answer_head<I: Source>(alloc: Global, link_in: &mut I, ahead: &mut Ahead, hea
 }
 
 /// Reads what stands behind a block.
-fn answer_block<I: Source>(alloc: Global, link_in: &mut I, ahead: &mut Ahead, block: &[u8], keep: bool) -> Result<Reply, Mem>
+fn answer_block<I: Source>(
+    alloc: Global,
+    link_in: &mut I,
+    ahead: &mut Ahead,
+    block: &[u8],
+    keep: bool,
+) -> Result<Reply, Mem>
     ensures answered { IsTrue (I.state link_in.old).tells → (I.state link_in.old).faults ≡ 0
         → IfOk result (UnlessFailed (not ((I.state link_in.new).faults == 0)) (AnsweredBlock keep block.now (ahead.old ++ (I.state link_in.old).left))) }
     ensures kind { IfOk result IsOfAnswer }

@@ -28,7 +28,13 @@ fn refusal(alloc: Global) -> Result<Reply, Mem>
 }
 
 /// What is due to the client for a request. After `Mem` something may have been sent on.
-fn compose<D: Dialer>(alloc: Global, seen: &HeadSeen, first: bool, last: bool, dialer: &mut D) -> Result<Reply, Mem>
+fn compose<D: Dialer>(
+    alloc: Global,
+    seen: &HeadSeen,
+    first: bool,
+    last: bool,
+    dialer: &mut D,
+) -> Result<Reply, Mem>
     ensures due { IsTrue (D.state dialer.old).tells → IfOk result (Due seen.now first last (D.state dialer.old) (D.state dialer.new)) }
     ensures wants { IsTrue (D.state dialer.old).tells → OnErr result (Wants seen.now first last (D.state dialer.old) (D.state dialer.new)) }
     ensures connect_failed { IfOk result (λ reply. reply.ending ≡ Ending.Page Page.ConnectFailed → ConnectCause (D.state dialer.old) (D.state dialer.new)) }
@@ -79,7 +85,14 @@ fn after_whole(keep: bool) -> After
 }
 
 /// Answers one request: judges it, dials, sends it on, hears the answer and returns what is due.
-fn respond<O: Sink, D: Dialer>(alloc: Global, seen: &HeadSeen, first: bool, last: bool, client_out: &mut O, dialer: &mut D) -> Given
+fn respond<O: Sink, D: Dialer>(
+    alloc: Global,
+    seen: &HeadSeen,
+    first: bool,
+    last: bool,
+    client_out: &mut O,
+    dialer: &mut D,
+) -> Given
     ensures exchanges { IsTrue (O.state client_out.old).tells → IsTrue (D.state dialer.old).tells
         → Exchanges seen.now first last (D.state dialer.old) (D.state dialer.new) (O.state client_out.old).taken (O.state client_out.new).taken result.ending result.after }
     ensures write_cause { WriteCause (O.state client_out.old) (O.state client_out.new) result.after }
@@ -99,7 +112,16 @@ fn respond<O: Sink, D: Dialer>(alloc: Global, seen: &HeadSeen, first: bool, last
 
 /// Answers one request: judges it, dials, sends it on, hears the answer and returns what is due. `first` and `last` are
 /// whether it is the first and the last one of its connection.
-pub fn answer_request<O: Sink, D: Dialer>(alloc: Global, snapshot: &Snapshot<'_, Config>, seen: &HeadSeen, first: bool, last: bool, client_out: &mut O, dialer: &mut D, moment: u64) -> Exchanged
+pub fn answer_request<O: Sink, D: Dialer>(
+    alloc: Global,
+    snapshot: &Snapshot<'_, Config>,
+    seen: &HeadSeen,
+    first: bool,
+    last: bool,
+    client_out: &mut O,
+    dialer: &mut D,
+    moment: u64,
+) -> Exchanged
     ensures exchanges { IsTrue (O.state client_out.old).tells → IsTrue (D.state dialer.old).tells
         → Exchanges seen.now first last (D.state dialer.old) (D.state dialer.new) (O.state client_out.old).taken (O.state client_out.new).taken result.note.ending result.after }
     ensures config { result.note.config ≡ snapshot.now.number }
@@ -146,5 +168,7 @@ pub fn exchange<S: Source, O: Sink, D: Dialer>(
     ensures out_goes_on { SinkGoesOn (O.state client_out.old) (O.state client_out.new) }
     ensures goes_on { DialerGoesOn (D.state dialer.old) (D.state dialer.new) }
 {
-    answer_request(alloc, snapshot, &head, true, last, client_out, dialer, moment)
+    answer_request(
+        alloc, snapshot, &head, true, last, client_out, dialer, moment,
+    )
 }

@@ -24,7 +24,12 @@ pub enum Front {
 ///
 /// # Errors
 /// `Failed` where a read failed before. Then no head block is whole in the bytes that are read ahead.
-pub fn read_front<S: Source>(alloc: Global, source: &mut S, ahead: &mut Ahead, limit: usize) -> Result<Front, ReadFault>
+pub fn read_front<S: Source>(
+    alloc: Global,
+    source: &mut S,
+    ahead: &mut Ahead,
+    limit: usize,
+) -> Result<Front, ReadFault>
     ensures stands { IsTrue (S.state source.old).tells → IfOk result (λ front. Stands limit (ahead.old ++ (S.state source.old).left) front (ahead.new ++ (S.state source.new).left)) }
     ensures end { IsTrue (S.state source.old).tells → IfOk result (λ front. front ≡ Front.End → (S.state source.new).left ≡ []) }
     ensures failed { result ≡ Err ReadFault.Failed → head_end limit ahead.new ≡ HeadEnd.NotYet }

@@ -24,3 +24,6 @@ pub use judging::HeadSeen;
 pub use notes::{After, Ending, ExchangeNote, Exchanged};
 pub use pages::Page;
 pub use snapshots::{Config, Configs, FixedConfig, Snapshot};
+
+#[cfg(test)]
+mod tests;

@@ -21,7 +21,9 @@ pub fn is_same_name(name: &[u8], other: &[u8]) -> bool
 pub fn has_field(name: &[u8], fields: &[Field]) -> bool
     ensures { result ≡ has_field name.now fields.now }
 {
-    fields.iter().any(|field| is_same_name(field.name.as_bytes(), name))
+    fields
+        .iter()
+        .any(|field| is_same_name(field.name.as_bytes(), name))
 }
 
 /// Whether the word is one of a list that is separated by commas.
@@ -44,9 +46,8 @@ fn lists_word(word: &[u8], value: &[u8]) -> bool
 pub fn has_connection_word(word: &[u8], fields: &[Field]) -> bool
     ensures { result ≡ has_connection_word word.now fields.now }
 {
-    fields
-        .iter()
-        .any(|field| is_same_name(field.name.as_bytes(), CONNECTION) && lists_word(word, field.value.as_bytes()))
+    fields.iter().any(|field| is_same_name(field.name.as_bytes(), CONNECTION)
+        && lists_word(word, field.value.as_bytes()))
 }
 
 /// Whether the name is one of a list.
@@ -101,7 +102,12 @@ pub fn keep_of_response(alloc: Global, fields: &[Field], kept: &mut List<Field>)
 }
 
 /// Adds a field of that name and value at the end.
-pub fn push_field(alloc: Global, fields: &mut List<Field>, name: &[u8], value: &[u8]) -> Result<(), Mem>
+pub fn push_field(
+    alloc: Global,
+    fields: &mut List<Field>,
+    name: &[u8],
+    value: &[u8],
+) -> Result<(), Mem>
     ensures ok { OnOk result (fields.new ≡ fields.old ++ record { name = name.now; value = value.now } ∷ []) }
     ensures err { OnErr result (fields.new ≡ fields.old) }
 {

@@ -3,7 +3,10 @@ ghost use Rattle.std.specs.Prelude.{◌≡◌, ◌++◌, IfOk, OnOk, length, dec
 ghost use Rattle.px_exchange.specs.Pages.{page_name, page_status, page_text, page_body, page_head, page_bytes};
 
 use crate::names::push_field;
-use crate::wire::{CACHE_CONTROL, CLOSE, CONNECTION, CONTENT_LENGTH, CONTENT_TYPE, NO_CACHE, PAGE_END, PAGE_FRONT, TEXT_HTML};
+use crate::wire::{
+    CACHE_CONTROL, CLOSE, CONNECTION, CONTENT_LENGTH, CONTENT_TYPE, NO_CACHE, PAGE_END, PAGE_FRONT,
+    TEXT_HTML,
+};
 use itoa::Buffer;
 use px_base::{List, Mem, Text};
 use px_head::print_head;
@@ -78,7 +81,12 @@ fn page_head(alloc: Global, page: Page, len: usize) -> Result<Text, Mem>
     let mut fields = List::new(alloc);
     let mut buffer = Buffer::new();
     push_field(alloc, &mut fields, CONTENT_TYPE, TEXT_HTML)?;
-    push_field(alloc, &mut fields, CONTENT_LENGTH, buffer.format(len).as_bytes())?;
+    push_field(
+        alloc,
+        &mut fields,
+        CONTENT_LENGTH,
+        buffer.format(len).as_bytes(),
+    )?;
     push_field(alloc, &mut fields, CACHE_CONTROL, NO_CACHE)?;
     push_field(alloc, &mut fields, CONNECTION, CLOSE)?;
     let mut head = Text::new(alloc);

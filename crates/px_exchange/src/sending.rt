@@ -14,7 +14,12 @@ use px_base::{Mem, Sink, SinkFault, Source, write_all};
 use std::alloc::Global;
 
 /// Sends a request over a link and hears its answer. After want of memory a prefix of the head was sent.
-pub fn talk<I: Source, P: Sink>(alloc: Global, plan: &Plan, link_in: &mut I, link_out: &mut P) -> Result<Reply, Mem>
+pub fn talk<I: Source, P: Sink>(
+    alloc: Global,
+    plan: &Plan,
+    link_in: &mut I,
+    link_out: &mut P,
+) -> Result<Reply, Mem>
     ensures gives { IsTrue (I.state link_in.old).tells → IsTrue (P.state link_out.old).tells
         → IsFresh (record { link_in = I.state link_in.old; link_out = P.state link_out.old })
         → IfOk result (GivesOver plan.now (link_seen (I.state link_in.new) (P.state link_out.new))) }

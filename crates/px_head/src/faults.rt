@@ -50,6 +50,11 @@ impl HeadFault {
 }
 
 impl fmt::Display for HeadFault {
+    ghost use Rattle.std.specs.Prelude.{Some};
+    ghost use Rattle.px_head.specs.Faults.{fault_name};
+
+    ghost output = { λ fault. Some (fault_name fault) };
+
     fn fmt<W: fmt::Write>(&self, f: &mut fmt::Formatter<W>) -> fmt::Result {
         let name = self.name();
         write!(f, "{name}")

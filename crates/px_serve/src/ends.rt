@@ -46,7 +46,11 @@ pub fn end_after(last: bool, after: After) -> Option<SessionEnd>
 {
     match after {
         After::Keep => if last { Some(SessionEnd::Spent) } else { None },
-        After::Close => Some(if last { SessionEnd::Spent } else { SessionEnd::Closed }),
+        After::Close => Some(if last {
+            SessionEnd::Spent
+        } else {
+            SessionEnd::Closed
+        }),
         After::WriteFailed => Some(SessionEnd::WriteFailed),
         After::NoMemory => Some(SessionEnd::NoMemory),
     }

@@ -6,3 +6,6 @@ mod sessions;
 
 pub use ends::{REQUEST_LIMIT, SessionEnd};
 pub use sessions::{Session, serve_connection};
+
+#[cfg(test)]
+mod tests;

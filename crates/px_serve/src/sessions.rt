@@ -12,7 +12,9 @@ ghost use Rattle.px_serve.specs.Sessions.{State, Turns, Answers, Serves, is_firs
 
 use crate::ends::{REQUEST_LIMIT, SessionEnd, end_after, is_empty_lines};
 use px_base::{Clock, Dialer, List, Peer, Sink, Source, Text};
-use px_exchange::{Ahead, Config, Configs, ExchangeNote, Front, HeadSeen, ReadFault, answer_request, read_front};
+use px_exchange::{
+    Ahead, Config, Configs, ExchangeNote, Front, HeadSeen, ReadFault, answer_request, read_front,
+};
 use px_head::HEAD_LIMIT;
 use std::alloc::Global;
 
@@ -36,7 +38,16 @@ fn add_note(notes: &mut Vec<ExchangeNote>, note: ExchangeNote)
 }
 
 /// Answers the request of that number, from 0, with one look at the configurations and one moment.
-fn serve_request<K, O, D, T>(alloc: Global, number: u64, configs: &mut K, seen: &HeadSeen, client_out: &mut O, dialer: &mut D, clock: &mut T, notes: &mut Vec<ExchangeNote>) -> Option<SessionEnd>
+fn serve_request<K, O, D, T>(
+    alloc: Global,
+    number: u64,
+    configs: &mut K,
+    seen: &HeadSeen,
+    client_out: &mut O,
+    dialer: &mut D,
+    clock: &mut T,
+    notes: &mut Vec<ExchangeNote>,
+) -> Option<SessionEnd>
 where
     K: Configs<Held = Config>,
     O: Sink,
@@ -62,13 +73,32 @@ where
     configs.look();
     let snapshot = configs.current();
     let moment = clock.now();
-    let exchanged = answer_request(alloc, &snapshot, seen, number == 0, last, client_out, dialer, moment);
+    let exchanged = answer_request(
+        alloc,
+        &snapshot,
+        seen,
+        number == 0,
+        last,
+        client_out,
+        dialer,
+        moment,
+    );
     add_note(notes, exchanged.note);
     end_after(last, exchanged.after)
 }
 
 /// Serves the request of that number, or sees how the session ends before it.
-fn turn<K, S, O, D, T>(alloc: Global, number: u64, configs: &mut K, client_in: &mut S, ahead: &mut Ahead, client_out: &mut O, dialer: &mut D, clock: &mut T, notes: &mut Vec<ExchangeNote>) -> Option<SessionEnd>
+fn turn<K, S, O, D, T>(
+    alloc: Global,
+    number: u64,
+    configs: &mut K,
+    client_in: &mut S,
+    ahead: &mut Ahead,
+    client_out: &mut O,
+    dialer: &mut D,
+    clock: &mut T,
+    notes: &mut Vec<ExchangeNote>,
+) -> Option<SessionEnd>
 where
     K: Configs<Held = Config>,
     S: Source,
@@ -95,8 +125,26 @@ where
     ensures clock_goes_on { ClockGoesOn (T.state clock.old) (T.state clock.new) }
 {
     match read_front(alloc, client_in, ahead, HEAD_LIMIT) {
-        Ok(Front::Block(block)) => serve_request(alloc, number, configs, &HeadSeen::Block(block), client_out, dialer, clock, notes),
-        Ok(Front::Over) => serve_request(alloc, number, configs, &HeadSeen::Over, client_out, dialer, clock, notes),
+        Ok(Front::Block(block)) => serve_request(
+            alloc,
+            number,
+            configs,
+            &HeadSeen::Block(block),
+            client_out,
+            dialer,
+            clock,
+            notes,
+        ),
+        Ok(Front::Over) => serve_request(
+            alloc,
+            number,
+            configs,
+            &HeadSeen::Over,
+            client_out,
+            dialer,
+            clock,
+            notes,
+        ),
         Ok(Front::End) => {
             if is_empty_lines(ahead.as_bytes()) {
                 Some(SessionEnd::Ended)
@@ -110,7 +158,15 @@ where
 }
 
 /// Serves requests until the session ends. For the notes there is room.
-fn serve<K, S, O, D, T>(alloc: Global, configs: &mut K, client_in: &mut S, client_out: &mut O, dialer: &mut D, clock: &mut T, notes: &mut Vec<ExchangeNote>) -> SessionEnd
+fn serve<K, S, O, D, T>(
+    alloc: Global,
+    configs: &mut K,
+    client_in: &mut S,
+    client_out: &mut O,
+    dialer: &mut D,
+    clock: &mut T,
+    notes: &mut Vec<ExchangeNote>,
+) -> SessionEnd
 where
     K: Configs<Held = Config>,
     S: Source,
@@ -133,7 +189,9 @@ where
     let mut ahead = Ahead::new(alloc);
     let mut number = 0u64;
     'requests: loop {
-        match turn(alloc, number, configs, client_in, &mut ahead, client_out, dialer, clock, notes) {
+        match turn(
+            alloc, number, configs, client_in, &mut ahead, client_out, dialer, clock, notes,
+        ) {
             Some(end) => return end,
             None => number += 1,
         }
@@ -142,7 +200,16 @@ where
 
 /// Serves one connection: its requests one after the other, up to `REQUEST_LIMIT`. Before anything is read, room for the notes
 /// is taken. Whatever the end, the client's sink is finished. The client's address and tags have no effect yet.
-pub fn serve_connection<K, S, O, D, T>(alloc: Global, configs: &mut K, client_in: &mut S, client_out: &mut O, dialer: &mut D, clock: &mut T, peer: &Peer, tags: &[Text]) -> Session
+pub fn serve_connection<K, S, O, D, T>(
+    alloc: Global,
+    configs: &mut K,
+    client_in: &mut S,
+    client_out: &mut O,
+    dialer: &mut D,
+    clock: &mut T,
+    peer: &Peer,
+    tags: &[Text],
+) -> Session
 where
     K: Configs<Held = Config>,
     S: Source,
@@ -167,7 +234,14 @@ where
 }
 
 /// Takes room for the notes and serves. The client's sink is left open.
-fn serve_noted<K, S, O, D, T>(alloc: Global, configs: &mut K, client_in: &mut S, client_out: &mut O, dialer: &mut D, clock: &mut T) -> Session
+fn serve_noted<K, S, O, D, T>(
+    alloc: Global,
+    configs: &mut K,
+    client_in: &mut S,
+    client_out: &mut O,
+    dialer: &mut D,
+    clock: &mut T,
+) -> Session
 where
     K: Configs<Held = Config>,
     S: Source,
@@ -187,7 +261,9 @@ where
 {
     match Vec::with_capacity(alloc, REQUEST_LIMIT as usize) {
         Ok(mut notes) => {
-            let end = serve(alloc, configs, client_in, client_out, dialer, clock, &mut notes);
+            let end = serve(
+                alloc, configs, client_in, client_out, dialer, clock, &mut notes,
+            );
             Session {
                 exchanges: List::from_vec(notes),
                 end,

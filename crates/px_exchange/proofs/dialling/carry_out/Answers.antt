@@ -1,4 +1,4 @@
-use Rattle.std.proofs.Common.{◌≡◌, ◌∙◌, sym}
+use Rattle.std.proofs.Common.{◌∙◌, sym}
 use Rattle.px_exchange.proofs.DiallingLemmas.{dialed_open, dialed_once, wanted_once}
 use Rattle.px_exchange.proofs.dialling.carry_out.Goals as goal
 
@@ -13,10 +13,10 @@ returns-in-Ok-clause-dials g c t =
     let talked = c.talk-talked.ensures in
     let told = e.told t in
     dialed_once (g.D.Dialer.state c.args.dialer.now) (g.D.Dialer.state c.dial.new.self) (g.D.Dialer.state c.hang_up.new.self)
-      _ _ _ _ c.args.plan.now c.talk-talked.result
-      (e.goes_on.tells_same ∙ t) (rw c.as_bytes.ensures at (e.dials t)) told e.fresh
-      e.coming (λ k. (e.coming_left k, e.goes_on.tells_coming_same ∙ k)) (e.cause.link_reads_same, e.cause.link_writes_same)
-      talked.in_goes_on talked.out_goes_on c.hang_up.ensures.hung_up (talked.gives told.in_tells told.out_tells e.fresh)
+    _ _ _ _ c.args.plan.now c.talk-talked.result
+    (e.goes_on.tells_same ∙ t) (rw c.as_bytes.ensures at (e.dials t)) told e.fresh
+    e.coming (λ k. (e.coming_left k, e.goes_on.tells_coming_same ∙ k)) (e.cause.link_reads_same, e.cause.link_writes_same)
+    talked.in_goes_on talked.out_goes_on c.hang_up.ensures.hung_up (talked.gives told.in_tells told.out_tells e.fresh)
 
 pub returns-in-Ok-clause-wants : goal.returns-in-Ok-clause-wants
 returns-in-Ok-clause-wants g c t =
@@ -24,6 +24,6 @@ returns-in-Ok-clause-wants g c t =
     let talked = c.talk-talked.ensures in
     let told = e.told t in
     wanted_once (g.D.Dialer.state c.args.dialer.now) (g.D.Dialer.state c.dial.new.self) (g.D.Dialer.state c.hang_up.new.self)
-      _ _ _ c.args.plan.now c.talk-talked.result
-      (e.goes_on.tells_same ∙ t) (rw c.as_bytes.ensures at (e.dials t)) told.new_mark
-      talked.in_goes_on c.hang_up.ensures.hung_up (talked.wants told.out_tells e.fresh)
+    _ _ _ c.args.plan.now c.talk-talked.result
+    (e.goes_on.tells_same ∙ t) (rw c.as_bytes.ensures at (e.dials t)) told.new_mark
+    talked.in_goes_on c.hang_up.ensures.hung_up (talked.wants told.out_tells e.fresh)

@@ -1,4 +1,4 @@
-use Rattle.std.proofs.Common.{◌≡◌, ◌++◌, take, Bool}
+use Rattle.std.proofs.Common.{◌≡◌, ◌++◌, take}
 use Rattle.std.specs.Prelude.{◌||◌, not, filter}
 use Rattle.px_head.specs.declared.fields.Field.{Field}
 use Rattle.px_exchange.specs.Names.{is_hop_name, is_request_name, has_connection_word}

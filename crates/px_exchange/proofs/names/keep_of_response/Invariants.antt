@@ -1,7 +1,7 @@
-use Rattle.std.proofs.Common.{◌≡◌, ◌++◌, take, Bool}
+use Rattle.std.proofs.Common.{◌≡◌, ◌++◌, take}
 use Rattle.std.specs.Prelude.{◌||◌, not, filter}
 use Rattle.px_head.specs.declared.fields.Field.{Field}
-use Rattle.px_exchange.specs.Names.{is_hop_name, is_request_name, has_connection_word}
+use Rattle.px_exchange.specs.Names.{is_hop_name, has_connection_word}
 use Rattle.px_exchange.proofs.names.keep_of_response.Given as goal
 
 abbrev pub invariant-loop-field : goal.invariant-loop-field

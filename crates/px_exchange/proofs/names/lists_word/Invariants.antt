@@ -1,5 +1,5 @@
-use Rattle.std.proofs.Common.{◌≡◌, ◌+◌, ℕ, List, Option, Some, None, length}
-use Rattle.std.specs.Prelude.{option_copied, ◌==◌}
+use Rattle.std.proofs.Common.{◌≡◌}
+use Rattle.std.specs.Prelude.{option_copied}
 use Rattle.std.specs.List.{list_any}
 use Rattle.px_base.specs.Blanks.{trimmed}
 use Rattle.px_base.specs.Cuts.{parts_of}

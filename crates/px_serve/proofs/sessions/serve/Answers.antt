@@ -13,7 +13,7 @@ requests-preserved g c =
       counted = e.one_more refl ∙ omega (arith, before.counted);
       room = omega (arith, before.room, e.room);
       reached = λ s o d.
-        rw add-one (_, before.reached s o d, e.turns (before.in_goes_on.tells_same ∙ s) (before.out_goes_on.tells_same ∙ o) (before.goes_on.tells_same ∙ d));
+          rw add-one (_, before.reached s o d, e.turns (before.in_goes_on.tells_same ∙ s) (before.out_goes_on.tells_same ∙ o) (before.goes_on.tells_same ∙ d));
       moments = λ t. e.moments (before.clock_goes_on ∙ t) _ (before.moments t);
       looks = λ t. e.looks t _ (before.looks t);
       none_older = e.none_older _ before.none_older;

@@ -20,8 +20,8 @@ invariant-requests g l =
       counted : length l.notes.items ≡ l.number;
       room : REQUEST_LIMIT ≤ vec_capacity l.notes;
       reached : IsTrue (S l.fn.client_in).tells → IsTrue (O l.fn.client_out).tells → IsTrue (D l.fn.dialer).tells → Reaches
-        (begin (S l.fn.client_in).left (D l.fn.dialer) (O l.fn.client_out).taken) l.number
-        (record { stream = l.ahead ++ (S l.client_in).left; dialer = D l.dialer; taken = (O l.client_out).taken; notes = l.notes.items });
+          (begin (S l.fn.client_in).left (D l.fn.dialer) (O l.fn.client_out).taken) l.number
+          (record { stream = l.ahead ++ (S l.client_in).left; dialer = D l.dialer; taken = (O l.client_out).taken; notes = l.notes.items });
       moments : IsTrue (T l.fn.clock).tells → HaveMoments (T l.fn.clock).coming (T l.clock).coming l.notes.items;
       looks : IsTrue g.K.Configs.tells → HaveLooks (λ e. e.number) (g.K.Configs.coming l.fn.configs) (g.K.Configs.coming l.configs) l.notes.items;
       none_older : NoneOlder (g.K.Configs.held l.fn.configs).number l.notes.items (g.K.Configs.held l.configs).number;

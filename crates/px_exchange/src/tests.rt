@@ -1,0 +1,217 @@
+//! Exchanges over objects in memory.
+use crate::{After, Config, Ending, Feed, HeadSeen, Page, Snapshot, exchange};
+use px_base::{Answer, List, MemDialer, Peer, TapeIn, TapeOut, Text};
+use std::alloc::Global;
+use std::process::Abort;
+
+/// What came of an exchange.
+#[derive(Drop)]
+struct Outcome {
+    ending: Ending,
+    after: After,
+    returned: Text,
+    links: usize,
+    sent: Text,
+}
+
+fn link(rt: &impl Abort, alloc: Global, bytes: &[u8]) -> Answer {
+    Answer::Link {
+        bytes: Text::from_bytes(alloc, bytes).expect(rt, "memory"),
+        cuts: List::new(alloc),
+        read_fails: List::new(alloc),
+        write_fails: List::new(alloc),
+    }
+}
+
+/// An answer of which the first call of an end fails.
+fn failing_link(rt: &impl Abort, alloc: Global, reads: bool) -> Answer {
+    let mut fails = List::new(alloc);
+    assert!(rt; fails.push(0).is_ok());
+    let none = List::new(alloc);
+    let (read_fails, write_fails) = if reads { (fails, none) } else { (none, fails) };
+    Answer::Link {
+        bytes: Text::from_bytes(alloc, ANSWER).expect(rt, "memory"),
+        cuts: List::new(alloc),
+        read_fails,
+        write_fails,
+    }
+}
+
+/// Answers a request head, the dial giving that answer.
+fn answer(rt: &impl Abort, alloc: Global, head: HeadSeen, answer: Answer) -> Outcome {
+    let mut answers = List::new(alloc);
+    assert!(rt; answers.push(answer).is_ok());
+    let config = Config {};
+    let snapshot = Snapshot {
+        number: 7,
+        config: &config,
+    };
+    let source = TapeIn::new(alloc, &[], &[], &[]).expect(rt, "memory");
+    let mut client_in = Feed::new(alloc, source).expect(rt, "memory");
+    let mut client_out = TapeOut::new(alloc, &[], &[]).expect(rt, "memory");
+    let mut dialer = MemDialer::new(alloc, answers).expect(rt, "memory");
+    let peer = Peer {
+        address: Text::from_bytes(alloc, b"127.0.0.1").expect(rt, "memory"),
+    };
+    let exchanged = exchange(
+        alloc,
+        &snapshot,
+        head,
+        false,
+        &mut client_in,
+        &mut client_out,
+        &mut dialer,
+        9,
+        &[],
+        &peer,
+    );
+    assert_eq!(rt; exchanged.note.config, 7);
+    assert_eq!(rt; exchanged.note.moment, 9);
+    assert!(rt; !client_out.finished());
+    let mut outcome = Outcome {
+        ending: exchanged.note.ending,
+        after: exchanged.after,
+        returned: Text::from_bytes(alloc, client_out.taken()).expect(rt, "memory"),
+        links: dialer.links().len(),
+        sent: Text::new(alloc),
+    };
+    for link in dialer.links() {
+        outcome
+            .sent
+            .push_all(link.sent.as_bytes())
+            .expect(rt, "memory");
+    }
+    outcome
+}
+
+fn block(rt: &impl Abort, alloc: Global, bytes: &[u8]) -> HeadSeen {
+    HeadSeen::Block(Text::from_bytes(alloc, bytes).expect(rt, "memory"))
+}
+
+const GET: &[u8] = b"GET http://a.test/x HTTP/1.1\r\nHost: a.test\r\n\r\n";
+
+const ANSWER: &[u8] = b"HTTP/1.1 200 OK\r\nContent-Length: 2\r\n\r\nhi";
+
+const REFUSED: &[u8] =
+    b"HTTP/1.1 400 Bad Request\r\nContent-Type: text/html\r\nContent-Length: 52\r\nCache-Control: no-cache\r\nConnection: close\r\n\r\n<html><body>invalid-request: NotBuilt</body></html>\n";
+
+const NO_DATA: &[u8] =
+    b"HTTP/1.1 502 Bad Gateway\r\nContent-Type: text/html\r\nContent-Length: 41\r\nCache-Control: no-cache\r\nConnection: close\r\n\r\n<html><body>no-server-data</body></html>\n";
+
+const UNREACHED: &[u8] =
+    b"HTTP/1.1 503 Service Unavailable\r\nContent-Type: text/html\r\nContent-Length: 41\r\nCache-Control: no-cache\r\nConnection: close\r\n\r\n<html><body>connect-failed</body></html>\n";
+
+#[test]
+fn held_back_fields_are_taken_out_both_ways(rt: HostRuntime) {
+    let head =
+        b"GET http://A.test/p?q#r HTTP/1.1\r\nhOST: other.test\r\nAccept: */*\r\nconnection: x-one , Close\r\nX-One: 1\r\nTE: trailers\r\nKeep-Alive: 5\r\nX-Two: a:b\r\nproxy-authorization: z\r\nUpgrade: h2c\r\n\r\n";
+    let bytes =
+        b"HTTP/1.0 404 Not Here\r\nServer: o\r\nConnection: x-one\r\nContent-length: 003\r\nX-ONE: 1\r\nKeep-Alive: 5\r\nTrailer: x\r\nHost: h\r\n\r\nabcdef";
+    let outcome = answer(
+        &rt,
+        rt.alloc(),
+        block(&rt, rt.alloc(), head),
+        link(&rt, rt.alloc(), bytes),
+    );
+    assert_eq!(rt;
+        outcome.sent.as_bytes(),
+        b"GET /p?q#r HTTP/1.1\r\nHost: A.test\r\nAccept: */*\r\nX-Two: a:b\r\nConnection: close\r\n\r\n" as &[u8]
+    );
+    assert_eq!(rt;
+        outcome.returned.as_bytes(),
+        b"HTTP/1.1 404 Not Here\r\nServer: o\r\nHost: h\r\nContent-Length: 3\r\nConnection: close\r\n\r\nabc" as &[u8]
+    );
+    assert_eq!(rt; outcome.ending, Ending::Passed);
+    assert_eq!(rt; outcome.after, After::Close);
+}
+
+#[test]
+fn a_request_of_another_form_is_refused_and_nothing_is_dialled(rt: HostRuntime) {
+    let rows: [&'static [u8]; 15] = [
+        b"POST http://a.test/ HTTP/1.1\r\n\r\n",
+        b"GETS http://a.test/ HTTP/1.1\r\n\r\n",
+        b"GET http://a.test/ HTTP/1.0\r\n\r\n",
+        b"GET https://a.test/ HTTP/1.1\r\n\r\n",
+        b"GET /x HTTP/1.1\r\n\r\n",
+        b"GET http://a.test HTTP/1.1\r\n\r\n",
+        b"GET http:///x HTTP/1.1\r\n\r\n",
+        b"GET http://a.test:80/ HTTP/1.1\r\n\r\n",
+        b"GET http://a_b/ HTTP/1.1\r\n\r\n",
+        b"GET http://a.test/\xc3 HTTP/1.1\r\n\r\n",
+        b"GET http://a.test/ HTTP/1.1\r\nContent-length: 0\r\n\r\n",
+        b"GET http://a.test/ HTTP/1.1\r\nTransfer-Encoding: chunked\r\n\r\n",
+        b"GET http://a.test/ HTTP/1.1\r\nexpect: 100-continue\r\n\r\n",
+        b"GET http://a.test/ HTTP/1.1\r\nA B\r\n\r\n",
+        b"GET http://a.test/\r\n\r\n",
+    ];
+    for head in rows {
+        let outcome = answer(
+            &rt,
+            rt.alloc(),
+            block(&rt, rt.alloc(), head),
+            link(&rt, rt.alloc(), ANSWER),
+        );
+        assert_eq!(rt; outcome.returned.as_bytes(), REFUSED);
+        assert_eq!(rt; outcome.ending, Ending::Page(Page::InvalidRequest));
+        assert_eq!(rt; outcome.after, After::Close);
+        assert_eq!(rt; outcome.links, 0);
+    }
+    let outcome = answer(
+        &rt,
+        rt.alloc(),
+        HeadSeen::Over,
+        link(&rt, rt.alloc(), ANSWER),
+    );
+    assert_eq!(rt; outcome.returned.as_bytes(), REFUSED);
+    assert_eq!(rt; outcome.links, 0);
+}
+
+#[test]
+fn an_answer_of_another_form_gives_the_page_no_server_data(rt: HostRuntime) {
+    let rows: [&'static [u8]; 10] = [
+        b"",
+        b"HTTP/1.1 200 OK\r\nContent-Length: 2\r\n",
+        b"HTTP/1.1 200 OK\r\nContent-Length: 2\r\n\r\nh",
+        b"HTTP/1.1 200 OK\r\n\r\nhi",
+        b"HTTP/1.1 200 OK\r\nContent-Length: +2\r\n\r\nhi",
+        b"HTTP/1.1 200 OK\r\nContent-Length: 2\r\ncontent-length: 2\r\n\r\nhi",
+        b"HTTP/1.1 200 OK\r\nContent-Length: 9223372036854775808\r\n\r\nhi",
+        b"HTTP/1.1 200 OK\r\nTransfer-Encoding: chunked\r\nContent-Length: 2\r\n\r\nhi",
+        b"HTTP/1.1 204 No Content\r\nContent-Length: 0\r\n\r\n",
+        b"HTTP/1.1 100 Continue\r\nContent-Length: 0\r\n\r\n",
+    ];
+    for bytes in rows {
+        let outcome = answer(
+            &rt,
+            rt.alloc(),
+            block(&rt, rt.alloc(), GET),
+            link(&rt, rt.alloc(), bytes),
+        );
+        assert_eq!(rt; outcome.returned.as_bytes(), NO_DATA);
+        assert_eq!(rt; outcome.ending, Ending::Page(Page::NoServerData));
+        assert_eq!(rt; outcome.after, After::Close);
+        assert_eq!(rt; outcome.links, 1);
+    }
+    let outcome = answer(
+        &rt,
+        rt.alloc(),
+        block(&rt, rt.alloc(), GET),
+        failing_link(&rt, rt.alloc(), true),
+    );
+    assert_eq!(rt; outcome.returned.as_bytes(), NO_DATA);
+}
+
+#[test]
+fn an_origin_that_is_not_reached_gives_the_page_connect_failed(rt: HostRuntime) {
+    let rows = [
+        (Answer::NoName, 0),
+        (Answer::NotReached, 0),
+        (failing_link(&rt, rt.alloc(), false), 1),
+    ];
+    for (given, links) in rows {
+        let outcome = answer(&rt, rt.alloc(), block(&rt, rt.alloc(), GET), given);
+        assert_eq!(rt; outcome.returned.as_bytes(), UNREACHED);
+        assert_eq!(rt; outcome.ending, Ending::Page(Page::ConnectFailed));
+        assert_eq!(rt; outcome.links, links);
+    }
+}

@@ -1,0 +1,212 @@
+//! Sessions over objects in memory.
+use crate::{SessionEnd, serve_connection};
+use px_base::{Answer, FixedClock, List, MemDialer, Peer, TapeIn, TapeOut, Text};
+use px_exchange::{Config, Ending, FixedConfig, Page};
+use std::alloc::Global;
+use std::process::Abort;
+use std::sync::Arc;
+
+/// A client's bytes and how they are cut, an origin's answer, and the calls of the two ends that fail.
+struct Row {
+    input: &'static [u8],
+    cuts: &'static [usize],
+    read_fails: &'static [u64],
+    write_fails: &'static [u64],
+    answer: Option<Answer>,
+}
+
+/// What came of a session.
+#[derive(Drop)]
+struct Outcome {
+    end: SessionEnd,
+    endings: List<Ending>,
+    returned: Text,
+    finished: bool,
+    host: Text,
+    port: u16,
+    sent: Text,
+    links: usize,
+}
+
+/// Serves a row at the moment 1,000,000,000.
+fn serve(rt: &impl Abort, alloc: Global, row: Row) -> Outcome {
+    let Row {
+        input,
+        cuts,
+        read_fails,
+        write_fails,
+        answer,
+    } = row;
+    let mut answers = List::new(alloc);
+    if let Some(answer) = answer {
+        assert!(rt; answers.push(answer).is_ok());
+    }
+    let mut moments = List::new(alloc);
+    assert!(rt; moments.push(1_000_000_000).is_ok());
+    let config = Arc::new(alloc, Config {}).expect(rt, "memory");
+    let mut configs = FixedConfig::new(config);
+    let mut client_in = TapeIn::new(alloc, input, cuts, read_fails).expect(rt, "memory");
+    let mut client_out = TapeOut::new(alloc, cuts, write_fails).expect(rt, "memory");
+    let mut dialer = MemDialer::new(alloc, answers).expect(rt, "memory");
+    let mut clock = FixedClock::new(moments);
+    let peer = Peer {
+        address: Text::from_bytes(alloc, b"127.0.0.1").expect(rt, "memory"),
+    };
+    let session = serve_connection(
+        alloc,
+        &mut configs,
+        &mut client_in,
+        &mut client_out,
+        &mut dialer,
+        &mut clock,
+        &peer,
+        &[],
+    );
+    let mut endings = List::new(alloc);
+    for note in session.exchanges.as_slice() {
+        assert_eq!(rt; note.config, 0);
+        assert_eq!(rt; note.moment, 1_000_000_000);
+        assert!(rt; endings.push(note.ending).is_ok());
+    }
+    let mut outcome = Outcome {
+        end: session.end,
+        endings,
+        returned: Text::from_bytes(alloc, client_out.taken()).expect(rt, "memory"),
+        finished: client_out.finished(),
+        host: Text::new(alloc),
+        port: 0,
+        sent: Text::new(alloc),
+        links: dialer.links().len(),
+    };
+    for link in dialer.links() {
+        outcome
+            .host
+            .push_all(link.host.as_bytes())
+            .expect(rt, "memory");
+        outcome.port = link.port;
+        outcome
+            .sent
+            .push_all(link.sent.as_bytes())
+            .expect(rt, "memory");
+    }
+    outcome
+}
+
+/// An answer that is read without a fault.
+fn link(rt: &impl Abort, alloc: Global, bytes: &[u8]) -> Option<Answer> {
+    Some(Answer::Link {
+        bytes: Text::from_bytes(alloc, bytes).expect(rt, "memory"),
+        cuts: List::new(alloc),
+        read_fails: List::new(alloc),
+        write_fails: List::new(alloc),
+    })
+}
+
+const ONE_GET: &[u8] = b"GET http://a.test/x HTTP/1.1\r\nHost: a.test\r\n\r\n";
+
+const ANSWER: &[u8] = b"HTTP/1.1 200 OK\r\nContent-Length: 2\r\n\r\nhi";
+
+const SENT: &[u8] = b"GET /x HTTP/1.1\r\nHost: a.test\r\nConnection: close\r\n\r\n";
+
+const RETURNED: &[u8] = b"HTTP/1.1 200 OK\r\nContent-Length: 2\r\nConnection: keep-alive\r\n\r\nhi";
+
+#[test]
+fn a_get_is_sent_on_in_origin_form_and_its_answer_returned(rt: HostRuntime) {
+    assert_eq!(rt; SENT.len(), 52);
+    assert_eq!(rt; RETURNED.len(), 64);
+    let cuts: [&'static [usize]; 3] = [&[], &[1; 80], &[29, 2, 7, 1]];
+    for cut in cuts {
+        let row = Row {
+            input: ONE_GET,
+            cuts: cut,
+            read_fails: &[],
+            write_fails: &[],
+            answer: link(&rt, rt.alloc(), ANSWER),
+        };
+        let outcome = serve(&rt, rt.alloc(), row);
+        assert_eq!(rt; outcome.end, SessionEnd::Ended);
+        assert_eq!(rt; outcome.endings.as_slice(), [Ending::Passed].as_slice());
+        assert_eq!(rt; outcome.returned.as_bytes(), RETURNED);
+        assert!(rt; outcome.finished);
+        assert_eq!(rt; outcome.links, 1);
+        assert_eq!(rt; outcome.host.as_bytes(), b"a.test" as &[u8]);
+        assert_eq!(rt; outcome.port, 80);
+        assert_eq!(rt; outcome.sent.as_bytes(), SENT);
+    }
+}
+
+#[test]
+fn a_stream_that_ends_before_a_head_is_whole_is_answered_by_nothing(rt: HostRuntime) {
+    let rows: [(&'static [u8], SessionEnd); 5] = [
+        (b"", SessionEnd::Ended),
+        (b"\r\n\n", SessionEnd::Ended),
+        (b"\r\n\r", SessionEnd::Cut),
+        (b"GET http://a.test/ HTTP/1.1\r\nHos", SessionEnd::Cut),
+        (b"\nGET http://a.test/ HTTP/1.1\r\n", SessionEnd::Cut),
+    ];
+    for (input, end) in rows {
+        let row = Row {
+            input,
+            cuts: &[3],
+            read_fails: &[],
+            write_fails: &[],
+            answer: link(&rt, rt.alloc(), ANSWER),
+        };
+        let outcome = serve(&rt, rt.alloc(), row);
+        assert_eq!(rt; outcome.end, end);
+        assert_eq!(rt; outcome.endings.len(), 0);
+        assert_eq!(rt; outcome.returned.len(), 0);
+        assert!(rt; outcome.finished);
+        assert_eq!(rt; outcome.links, 0);
+    }
+}
+
+#[test]
+fn a_second_request_is_refused_and_the_connection_closes(rt: HostRuntime) {
+    let input =
+        b"GET http://a.test/x HTTP/1.1\r\nHost: a.test\r\n\r\nGET http://a.test/x HTTP/1.1\r\nHost: a.test\r\n\r\nGET ";
+    let row = Row {
+        input,
+        cuts: &[],
+        read_fails: &[],
+        write_fails: &[],
+        answer: link(&rt, rt.alloc(), ANSWER),
+    };
+    let outcome = serve(&rt, rt.alloc(), row);
+    assert_eq!(rt; outcome.end, SessionEnd::Closed);
+    assert_eq!(rt;
+        outcome.endings.as_slice(),
+        [Ending::Passed, Ending::Page(Page::InvalidRequest)].as_slice()
+    );
+    assert!(rt; outcome.returned.as_bytes().starts_with(RETURNED));
+    assert_eq!(rt; outcome.links, 1);
+}
+
+#[test]
+fn a_failing_call_of_the_client_ends_the_session_with_its_own_fault(rt: HostRuntime) {
+    let row = Row {
+        input: ONE_GET,
+        cuts: &[20],
+        read_fails: &[1],
+        write_fails: &[],
+        answer: link(&rt, rt.alloc(), ANSWER),
+    };
+    let outcome = serve(&rt, rt.alloc(), row);
+    assert_eq!(rt; outcome.end, SessionEnd::ReadFailed);
+    assert_eq!(rt; outcome.returned.len(), 0);
+    assert_eq!(rt; outcome.links, 0);
+    let row = Row {
+        input: ONE_GET,
+        cuts: &[50],
+        read_fails: &[],
+        write_fails: &[1],
+        answer: link(&rt, rt.alloc(), ANSWER),
+    };
+    let outcome = serve(&rt, rt.alloc(), row);
+    assert_eq!(rt; outcome.end, SessionEnd::WriteFailed);
+    assert_eq!(rt; outcome.endings.as_slice(), [Ending::Broken].as_slice());
+    assert_eq!(rt; outcome.returned.len(), 50);
+    assert!(rt; RETURNED.starts_with(outcome.returned.as_bytes()));
+    assert!(rt; outcome.finished);
+    assert_eq!(rt; outcome.sent.as_bytes(), SENT);
+}
