@@ -57,18 +57,22 @@ pub loaded_behind : (origin sent : List ℕ) (a b : Contents) (input taken print
     → RunsLoaded origin sent (record { contents = b; input = input; taken = taken; printed = printed }) new s
     → RunsLoaded origin sent (record { contents = a; input = input; taken = taken; printed = printed }) new s
 loaded_behind origin sent a b input taken printed new s same h = elim h [
-    inl unread ↦ inl (unread.0, same_behind a b (record { contents = b; input = input; taken = taken; printed = printed }) new same refl unread.1)
+  | inl unread ↦ inl (unread.0, same_behind a b (record { contents = b; input = input; taken = taken; printed = printed }) new same refl unread.1)
   | inr more ↦ inr (elim more [
-      inl none ↦ inl (none.0, λ answers k. none.1 answers (moved_back a b origin answers same k), same_behind a b (record { contents = b; input = input; taken = taken; printed = printed }) new same refl none.2)
+    | inl none ↦ inl (none.0, λ answers k. none.1 answers (moved_back a b origin answers same k), same_behind a b (record { contents = b; input = input; taken = taken; printed = printed }) new same refl none.2)
     | inr rest ↦ inr (elim rest [
-        inl served ↦ inl (served.0, moved_answers a b origin served.0 same served.1, record {
+      | inl served ↦ inl (
+        served.0,
+        moved_answers a b origin served.0 same served.1,
+        record {
           session_end = served.2.session_end;
           text = served.2.text;
           served = served.2.served;
           put = put_behind a b new.contents sent served.2.text served.2.session_end s same served.2.put;
           unprinted = served.2.unprinted;
-        })
+        },
+      )
       | inr wanting ↦ inr wanting
-      ])
     ])
-  ]
+  ])
+]

@@ -7,7 +7,13 @@ use px_base::{Mem, Text};
 use std::alloc::Global;
 
 /// The line FILE:LINE: NUMBER NAME, ended by LF.
-pub fn print_fault(alloc: Global, file: &str, line: u32, number: u8, name: &str) -> Result<Text, Mem>
+pub fn print_fault(
+    alloc: Global,
+    file: &str,
+    line: u32,
+    number: u8,
+    name: &str,
+) -> Result<Text, Mem>
     ensures { IfOk result (λ text. text ≡ fault_line file.now line number name.now) }
 {
     let mut text = Text::from_bytes(alloc, file.as_bytes())?;

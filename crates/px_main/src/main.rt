@@ -15,10 +15,9 @@ mod words;
 use commands::run_tool;
 use px_base::{DiskFiles, ReaderSource, SystemClock, WriterSink};
 use statuses::Status;
-use std::env;
-use std::io;
 use std::process::ExitCode;
 use std::rt::Env;
+use std::{env, io};
 
 /// The words after the program's name.
 fn program_words<R: Env + AllocGlobal>(rt: &R) -> io::Result<Vec<String>> {
@@ -34,7 +33,11 @@ fn main(rt: HostRuntime) -> ExitCode {
         Ok(words) => words,
         Err(error) => {
             let wanting = error.kind() == io::ErrorKind::OutOfMemory;
-            let status = if wanting { Status::NoMemory } else { Status::Usage };
+            let status = if wanting {
+                Status::NoMemory
+            } else {
+                Status::Usage
+            };
             return ExitCode::from(status.code());
         }
     };
@@ -44,7 +47,9 @@ fn main(rt: HostRuntime) -> ExitCode {
     let mut out = WriterSink::new(rt.stdout(), 0);
     let mut err = WriterSink::new(rt.stderr(), 0);
     let mut clock = SystemClock::new(&rt);
-    let status = run_tool(alloc, &words, &mut files, &mut input, &mut out, &mut err, &mut clock);
+    let status = run_tool(
+        alloc, &words, &mut files, &mut input, &mut out, &mut err, &mut clock,
+    );
     ExitCode::from(status)
 }
 

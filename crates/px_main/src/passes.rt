@@ -23,7 +23,15 @@ use std::sync::Arc;
 const CLIENT: &[u8] = b"127.0.0.1";
 
 /// Runs `pass`: reads CONFIG and ORIGIN, serves the input as one client, and puts SENT last.
-pub fn run_pass<F: Files, S: Source, O: Sink, E: Sink, T: Clock>(alloc: Global, pass: PassWords<'_>, files: &mut F, input: &mut S, out: &mut O, err: &mut E, clock: &mut T) -> Status
+pub fn run_pass<F: Files, S: Source, O: Sink, E: Sink, T: Clock>(
+    alloc: Global,
+    pass: PassWords<'_>,
+    files: &mut F,
+    input: &mut S,
+    out: &mut O,
+    err: &mut E,
+    clock: &mut T,
+) -> Status
     ensures runs { Tell (F.state files.old) (S.state input.old) (O.state out.old) (E.state err.old)
         → RunsPass pass.entry.config.now pass.entry.origin.now pass.entry.sent.now (world (F.state files.old) (S.state input.old) (O.state out.old) (E.state err.old)) (world (F.state files.new) (S.state input.new) (O.state out.new) (E.state err.new)) result }
     ensures read_cause { HasReadCause (F.state files.old) (F.state files.new) (S.state input.old) (S.state input.new) result }
@@ -43,11 +51,18 @@ pub fn run_pass<F: Files, S: Source, O: Sink, E: Sink, T: Clock>(alloc: Global, 
 }
 
 /// Goes on with the empty configuration.
-fn run_loaded<F: Files, S: Source, O: Sink, T: Clock>(alloc: Global, pass: PassWords<'_>, files: &mut F, input: &mut S, out: &mut O, clock: &mut T) -> Status
+fn run_loaded<F: Files, S: Source, O: Sink, T: Clock>(
+    alloc: Global,
+    pass: PassWords<'_>,
+    files: &mut F,
+    input: &mut S,
+    out: &mut O,
+    clock: &mut T,
+) -> Status
     ensures runs { IsTrue (F.state files.old).tells → IsTrue (S.state input.old).tells → IsTrue (O.state out.old).tells → (printed : List ℕ)
         → RunsLoaded pass.entry.origin.now pass.entry.sent.now
-            (record { contents = (F.state files.old).contents; input = (S.state input.old).left; taken = (O.state out.old).taken; printed = printed })
-            (record { contents = (F.state files.new).contents; input = (S.state input.new).left; taken = (O.state out.new).taken; printed = printed }) result }
+        (record { contents = (F.state files.old).contents; input = (S.state input.old).left; taken = (O.state out.old).taken; printed = printed })
+        (record { contents = (F.state files.new).contents; input = (S.state input.new).left; taken = (O.state out.new).taken; printed = printed }) result }
     ensures read_cause { HasReadCause (F.state files.old) (F.state files.new) (S.state input.old) (S.state input.new) result }
     ensures write_cause { LoadedWriteCause (F.state files.old) (F.state files.new) (O.state out.old) (O.state out.new) result }
     ensures files_go_on { FilesGoOn (F.state files.old) (F.state files.new) }
@@ -56,7 +71,9 @@ fn run_loaded<F: Files, S: Source, O: Sink, T: Clock>(alloc: Global, pass: PassW
     ensures clock_goes_on { ClockGoesOn (T.state clock.old) (T.state clock.new) }
 {
     match read_answers(alloc, files, pass.origin) {
-        OriginRead::Answers(answers) => match serve_input(alloc, pass.tags, answers, input, out, clock) {
+        OriginRead::Answers(answers) => match serve_input(
+            alloc, pass.tags, answers, input, out, clock,
+        ) {
             Ok(served) => put_sent(files, pass.sent, served.sent.as_bytes(), served.end),
             Err(Mem) => Status::NoMemory,
         },
@@ -74,7 +91,14 @@ struct Served {
 }
 
 /// Serves the input as one client, whose dials have the answers.
-fn serve_input<S: Source, O: Sink, T: Clock>(alloc: Global, tags: &[String], answers: List<Answer>, input: &mut S, out: &mut O, clock: &mut T) -> Result<Served, Mem>
+fn serve_input<S: Source, O: Sink, T: Clock>(
+    alloc: Global,
+    tags: &[String],
+    answers: List<Answer>,
+    input: &mut S,
+    out: &mut O,
+    clock: &mut T,
+) -> Result<Served, Mem>
     ensures served { IsTrue (S.state input.old).tells → IsTrue (O.state out.old).tells
         → IfOk result (λ s. IsServed answers (S.state input.old).left (S.state input.new).left (O.state out.old).taken (O.state out.new).taken s.end s.sent) }
     ensures read_cause { IfOk result (λ s. ReadEndCause (S.state input.old) (S.state input.new) s.end) }
@@ -89,7 +113,16 @@ fn serve_input<S: Source, O: Sink, T: Clock>(alloc: Global, tags: &[String], ans
     };
     let mut configs = FixedConfig::new(Arc::new(alloc, Config {})?);
     let mut dialer = MemDialer::new(alloc, answers)?;
-    let session = serve_connection(alloc, &mut configs, input, out, &mut dialer, clock, &peer, tags.as_slice());
+    let session = serve_connection(
+        alloc,
+        &mut configs,
+        input,
+        out,
+        &mut dialer,
+        clock,
+        &peer,
+        tags.as_slice(),
+    );
     Ok(Served {
         end: session.end,
         sent: print_sent(alloc, dialer.links())?,

@@ -1,5 +1,5 @@
 use crate::commands::run_tool;
-use px_base::{FixedClock, Files, Content, List, Mem, MemFiles, TapeIn, TapeOut, Text};
+use px_base::{Content, Files, FixedClock, List, Mem, MemFiles, TapeIn, TapeOut, Text};
 use std::alloc::Global;
 use std::test::Fail;
 
@@ -17,10 +17,20 @@ struct Run {
 }
 
 /// Runs the tool over files in memory, where each file is a name and its content.
-fn run(alloc: Global, words: &[&str], named: &[(&str, &str)], input: &str, cut: usize, fails: &[u64]) -> Result<Run, Mem> {
+fn run(
+    alloc: Global,
+    words: &[&str],
+    named: &[(&str, &str)],
+    input: &str,
+    cut: usize,
+    fails: &[u64],
+) -> Result<Run, Mem> {
     let mut state = Vec::new(alloc);
     for (name, content) in named {
-        state.push((Text::from_bytes(alloc, name.as_bytes())?, Text::from_bytes(alloc, content.as_bytes())?))?;
+        state.push((
+            Text::from_bytes(alloc, name.as_bytes())?,
+            Text::from_bytes(alloc, content.as_bytes())?,
+        ))?;
     }
     let mut states = Vec::new(alloc);
     states.push(List::from_vec(state))?;
@@ -34,7 +44,9 @@ fn run(alloc: Global, words: &[&str], named: &[(&str, &str)], input: &str, cut: 
     let mut out = TapeOut::new(alloc, &cuts, &[])?;
     let mut err = TapeOut::new(alloc, &cuts, &[])?;
     let mut clock = FixedClock::new(List::new(alloc));
-    let status = run_tool(alloc, &given, &mut files, &mut input, &mut out, &mut err, &mut clock);
+    let status = run_tool(
+        alloc, &given, &mut files, &mut input, &mut out, &mut err, &mut clock,
+    );
     let sent = match files.read("s", 1_000) {
         Ok(Content::Found(text)) => Some(text),
         Ok(Content::Missing) => None,
@@ -65,7 +77,14 @@ const SESSIONS: &[(&str, &str, &str)] = &[
 fn pass_serves_its_input_however_it_is_cut(rt: HostRuntime) -> Result<(), Fail> {
     for (input, out, sent) in SESSIONS {
         for cut in [1, 7, 100] {
-            let run = run(rt.alloc(), &["pass", "c", "o", "s"], &[("c", ""), ("o", ANSWER)], input, cut, &[])?;
+            let run = run(
+                rt.alloc(),
+                &["pass", "c", "o", "s"],
+                &[("c", ""), ("o", ANSWER)],
+                input,
+                cut,
+                &[],
+            )?;
             assert_eq!(rt; run.status, 0, "at {input}");
             assert_eq!(rt; run.out.as_bytes(), out.as_bytes(), "at {input}");
             assert!(rt; run.err.is_empty(), "at {input}");
@@ -80,16 +99,58 @@ fn pass_serves_its_input_however_it_is_cut(rt: HostRuntime) -> Result<(), Fail> 
 
 /// Words, CONFIG and ORIGIN where they are there, the status, and what is printed.
 const REFUSALS: &[(&[&str], Option<&str>, Option<&str>, u8, &str)] = &[
-    (&[], Some(""), Some(ANSWER), 2, "usage: pass CONFIG ORIGIN SENT [TAG]...\n"),
-    (&["pass", "c", "o"], Some(""), Some(ANSWER), 2, "usage: pass CONFIG ORIGIN SENT [TAG]...\n"),
-    (&["pass", "c", "o", "s", "-t"], Some(""), Some(ANSWER), 2, "usage: pass CONFIG ORIGIN SENT [TAG]...\n"),
-    (&["serve", "c", "o", "s"], Some(""), Some(ANSWER), 2, "usage: pass CONFIG ORIGIN SENT [TAG]...\n"),
-    (&["pass", "c", "o", "s"], None, Some(ANSWER), 1, "c:0: 32 Missing\n"),
-    (&["pass", "c", "o", "s"], Some("\n"), Some(ANSWER), 1, "c:1: 45 NotBuilt\n"),
+    (
+        &[],
+        Some(""),
+        Some(ANSWER),
+        2,
+        "usage: pass CONFIG ORIGIN SENT [TAG]...\n",
+    ),
+    (
+        &["pass", "c", "o"],
+        Some(""),
+        Some(ANSWER),
+        2,
+        "usage: pass CONFIG ORIGIN SENT [TAG]...\n",
+    ),
+    (
+        &["pass", "c", "o", "s", "-t"],
+        Some(""),
+        Some(ANSWER),
+        2,
+        "usage: pass CONFIG ORIGIN SENT [TAG]...\n",
+    ),
+    (
+        &["serve", "c", "o", "s"],
+        Some(""),
+        Some(ANSWER),
+        2,
+        "usage: pass CONFIG ORIGIN SENT [TAG]...\n",
+    ),
+    (
+        &["pass", "c", "o", "s"],
+        None,
+        Some(ANSWER),
+        1,
+        "c:0: 32 Missing\n",
+    ),
+    (
+        &["pass", "c", "o", "s"],
+        Some("\n"),
+        Some(ANSWER),
+        1,
+        "c:1: 45 NotBuilt\n",
+    ),
     (&["pass", "c", "o", "s"], Some(""), None, 8, ""),
     (&["pass", "c", "o", "s"], Some(""), Some("3\nhi"), 8, ""),
     (&["pass", "c", "o", "s"], Some(""), Some("no-name\n"), 8, ""),
-    (&["pass", "c", "o", "s"], Some(""), Some("000000002\nhi"), 8, ""),
+    (
+        &["pass", "c", "o", "s"],
+        Some(""),
+        Some("000000002\nhi"),
+        8,
+        "",
+    ),
 ];
 
 #[test]
@@ -114,7 +175,14 @@ fn pass_refuses_other_words_and_files(rt: HostRuntime) -> Result<(), Fail> {
 #[test]
 fn a_failing_call_of_the_files_gives_its_status(rt: HostRuntime) -> Result<(), Fail> {
     for (call, status, err) in [(0, 3, "c:0: 33 ReadFault\n"), (1, 3, ""), (2, 4, "")] {
-        let run = run(rt.alloc(), &["pass", "c", "o", "s"], &[("c", ""), ("o", ANSWER)], GET, 7, &[call])?;
+        let run = run(
+            rt.alloc(),
+            &["pass", "c", "o", "s"],
+            &[("c", ""), ("o", ANSWER)],
+            GET,
+            7,
+            &[call],
+        )?;
         assert_eq!(rt; run.status, status);
         assert_eq!(rt; run.err.as_bytes(), err.as_bytes());
         assert!(rt; run.sent.is_none());
