@@ -1,0 +1,6 @@
+pub mod ArrayLemmas
+pub mod BraceLemmas
+pub mod RuleLemmas
+pub mod SetLemmas
+pub mod Table
+pub mod UpdateLemmas

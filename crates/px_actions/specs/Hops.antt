@@ -1,0 +1,59 @@
+-- Where requests are sent: the second word of a forward line (the manual's chapter on the main configuration file, forwarding).
+use Rattle.std.specs.Prelude.{ℕ, ◌==◌, ◌&&◌, ◌||◌, Bool, not, nat_lt, if◌then◌else◌, List, [], ◌∷◌, length, drop, Option, Some, None, codes, option_map}
+use Rattle.std.specs.Char.{is_ascii_alphanumeric, is_ascii_hexdigit}
+use Rattle.std.specs.List.{position_or_len, before_first, after_first, list_all}
+use Rattle.std.specs.Str.{bytes_eq}
+use Rattle.px_base.specs.Ports.{port}
+use Rattle.px_actions.specs.declared.hops.TheConstants.{PARENT_PORT}
+use Rattle.px_actions.specs.declared.hops.Hop.{Hop}
+use Rattle.px_actions.specs.declared.hops.Hop.TheVariants as seen
+
+-- the next hop of a request: the origin itself, or a host and a port
+pub data NextHop : Type 0 where
+  direct : NextHop
+  parent : List ℕ → ℕ → NextHop
+
+-- a byte of a host: a letter, a digit, a dot, a hyphen or an underscore
+unfoldable pub is_host_byte : ℕ → Bool
+is_host_byte b = is_ascii_alphanumeric b || (b == 46 || (b == 45 || b == 95))
+
+-- a byte of an address in brackets: a hexadecimal digit, a colon or a dot
+unfoldable pub is_address_byte : ℕ → Bool
+is_address_byte b = is_ascii_hexdigit b || (b == 58 || b == 46)
+
+-- the port of what stands behind a host: a colon and a port, or nothing
+abbrev pub port_behind : List ℕ → Option ℕ
+port_behind [] = Some PARENT_PORT
+port_behind (b ∷ rest) = if b == 58 then port rest else None
+
+-- a host of one or more such bytes, and what stands behind it
+abbrev pub parent_of : (ℕ → Bool) → List ℕ → List ℕ → Option NextHop
+parent_of is_byte host behind =
+    if not (length host == 0) && list_all is_byte host then option_map (λ p. parent host p) (port_behind behind) else None
+
+abbrev pub is_bracket : ℕ → Bool
+is_bracket b = b == 93
+
+abbrev pub is_colon : ℕ → Bool
+is_colon b = b == 58
+
+-- what stands behind an opening bracket: an address, the closing bracket, and the port
+abbrev pub bracketed : List ℕ → Option NextHop
+bracketed text = if nat_lt (position_or_len is_bracket text) (length text)
+    then parent_of is_address_byte (before_first is_bracket text) (after_first is_bracket text) else None
+
+abbrev pub by_name : List ℕ → Option NextHop
+by_name text = parent_of is_host_byte (before_first is_colon text) (drop (position_or_len is_colon text) text)
+
+abbrev pub host_and_port : List ℕ → Option NextHop
+host_and_port [] = None
+host_and_port (b ∷ rest) = if b == 91 then bracketed rest else by_name (b ∷ rest)
+
+-- a dot stands for the origin itself
+unfoldable pub next_hop : List ℕ → Option NextHop
+next_hop text = if bytes_eq text (codes ".") then Some direct else host_and_port text
+
+-- a value of the program as a next hop
+abbrev pub seen_hop : Hop → NextHop
+seen_hop seen.Direct = direct
+seen_hop (seen.Parent host p) = parent host.now p

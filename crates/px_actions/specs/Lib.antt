@@ -1,0 +1,9 @@
+pub mod Kinds
+pub mod Braces
+pub mod Fields
+pub mod Hops
+pub mod Rules
+pub mod Faults
+pub mod Shapes
+pub mod Updates
+pub mod Sets

@@ -1,0 +1,111 @@
+-- One line further in a filter file.
+use Rattle.std.proofs.Common.{◌≡◌, ℕ, ◌+◌, ◌-◌, ◌<◌, ◌≤◌, Bool, true, false, not, ◌||◌, cond, List, [], ◌∷◌, ◌++◌, map, take, drop, length, get_or, filter_map, Option, Some, None, is_some, is_none, option_map, option_to_list, Result, Ok, Err, refl, sym, ap, ap₂, ◌∙◌, arith, length-drop, append_assoc}
+use Rattle.std.specs.List.{cons_option}
+use Rattle.std.specs.Option.{option_map_or}
+use Rattle.std.proofs.lemmas.List.{append-nil, drop_all, drop_more, map-append, take_all, take_more}
+use Rattle.std.proofs.lemmas.List.Elements.{filter_map-append}
+use Rattle.std.proofs.lemmas.List.Folds.{list_any-append}
+use Rattle.std.proofs.lemmas.Option.{none-some}
+use Rattle.px_text.specs.declared.lines.Line.{Line}
+use Rattle.px_filter_files.specs.declared.kinds.Keyword.{Keyword}
+use Rattle.px_filter_files.specs.declared.faults.FilterFault.{FilterFault}
+use Rattle.px_filter_files.specs.declared.faults.FilterFault.TheVariants.{At}
+use Rattle.px_filter_files.specs.declared.files.NamedFilter.{NamedFilter}
+use Rattle.px_filter_files.specs.declared.files.FilterFile.{FilterFile}
+use Rattle.px_filter_files.specs.Headings.{Key, is_job, key_at, keyword_at}
+use Rattle.px_filter_files.specs.FilterFiles.{all_skipped, begins_part, file_of, filter_at, filters_in, first_fault, heading_refusal, jobs_in, key_of, keys_in, own_lines, refusal_at, refusal_by, skipped_in}
+
+-- `&xs[i..]`
+pub slice_to_end : {X : Type 0} (i : ℕ) (xs : List X) → take (length xs - i) (drop i xs) ≡ drop i xs
+slice_to_end i xs = take_all _ _ (omega (arith, length-drop i xs))
+
+-- a line that isn't refused leaves a part begun
+part_is_begun : (before : List Key) (text : List ℕ) (k : Option Keyword) (begun : Bool) →
+    option_map_or (λ k. heading_refusal before k text) k (cond begun None (Some 25)) ≡ None → (begun || not (is_none k)) ≡ true
+part_is_begun before text k true e = refl
+part_is_begun before text (Some k) false e = refl
+part_is_begun before text None false e = absurd (none-some 25 (sym e))
+
+key_of_option : (o : Option Key) (line : Line) (below : List Line) → map key_of
+    (option_to_list (option_map (λ (key : Key). let f : NamedFilter = record { kind = key.kind; name = key.name; line = line.number; filter = jobs_in (own_lines below) } in f) o))
+    ≡ option_to_list o
+key_of_option None line below = refl
+key_of_option (Some key) line below = refl
+
+one_key : (o : Option Key) (line : Line) → key_at line.text ≡ o → filter_map (λ (l : Line). key_at l.text) (line ∷ []) ≡ option_to_list o
+one_key None line is = ap (λ o. cons_option o []) is
+one_key (Some key) line is = ap (λ o. cons_option o []) is
+
+module _ (lines : List Line) (i : ℕ) (line : Line) (inside : i < length lines) (is : line ≡ get_or lines i line) where
+  drop_is : drop i lines ≡ line ∷ drop (i + 1) lines
+  drop_is = drop_more lines i line inside ∙ ap (λ l. l ∷ drop (i + 1) lines) (sym is)
+
+  take_is : take (i + 1) lines ≡ take i lines ++ line ∷ []
+  take_is = take_more lines i line inside ∙ ap (λ l. take i lines ++ l ∷ []) (sym is)
+
+  pub fault_here : (number : ℕ) → refusal_at (take i lines) line ≡ Some number → first_fault (take i lines) (drop i lines) ≡ Some (At line.number number)
+  unfolding first_fault
+  fault_here number refused =
+      ap (first_fault (take i lines)) drop_is
+      ∙ ap (λ o. option_map_or (λ n. Some (At line.number n)) o (first_fault (take i lines ++ line ∷ []) (drop (i + 1) lines))) refused
+
+  pub fault_later : refusal_at (take i lines) line ≡ None → first_fault (take i lines) (drop i lines) ≡ first_fault (take (i + 1) lines) (drop (i + 1) lines)
+  unfolding first_fault
+  fault_later fine =
+      ap (first_fault (take i lines)) drop_is
+      ∙ ap (λ o. option_map_or (λ n. Some (At line.number n)) o (first_fault (take i lines ++ line ∷ []) (drop (i + 1) lines))) fine
+      ∙ ap (λ before. first_fault before (drop (i + 1) lines)) (sym take_is)
+
+  pub filters_later : (filters : List NamedFilter) → filters ++ filters_in (drop i lines) ≡ filters_in lines →
+      (filters ++ option_to_list (filter_at line (drop (i + 1) lines))) ++ filters_in (drop (i + 1) lines) ≡ filters_in lines
+  unfolding filters_in
+  filters_later filters so_far =
+      append_assoc filters (option_to_list (filter_at line (drop (i + 1) lines))) (filters_in (drop (i + 1) lines))
+      ∙ ap (λ ls. filters ++ filters_in ls) (sym drop_is) ∙ so_far
+
+  pub skipped_later : (skipped : List ℕ) → skipped ++ all_skipped (drop i lines) ≡ all_skipped lines →
+      (skipped ++ cond (is_some (key_at line.text)) (skipped_in (own_lines (drop (i + 1) lines))) []) ++ all_skipped (drop (i + 1) lines) ≡ all_skipped lines
+  unfolding all_skipped
+  skipped_later skipped so_far =
+      append_assoc skipped (cond (is_some (key_at line.text)) (skipped_in (own_lines (drop (i + 1) lines))) []) (all_skipped (drop (i + 1) lines))
+      ∙ ap (λ ls. skipped ++ all_skipped ls) (sym drop_is) ∙ so_far
+
+  pub keys_later : (filters : List NamedFilter) → map key_of filters ≡ keys_in (take i lines) →
+      map key_of (filters ++ option_to_list (filter_at line (drop (i + 1) lines))) ≡ keys_in (take (i + 1) lines)
+  keys_later filters so_far =
+      map-append key_of filters (option_to_list (filter_at line (drop (i + 1) lines)))
+      ∙ ap₂ ◌++◌ so_far (key_of_option (key_at line.text) line (drop (i + 1) lines) ∙ sym (one_key (key_at line.text) line refl))
+      ∙ sym (filter_map-append (λ (l : Line). key_at l.text) (take i lines) (line ∷ []))
+      ∙ ap keys_in (sym take_is)
+
+  pub begun_later : refusal_at (take i lines) line ≡ None → true ≡ begins_part (take (i + 1) lines)
+  begun_later fine =
+      sym (ap begins_part take_is ∙ list_any-append (λ l. not (is_job l)) (take i lines) (line ∷ [])
+      ∙ ap (λ b. begins_part (take i lines) || b) (or_false (not (is_job line)))
+      ∙ part_is_begun (keys_in (take i lines)) line.text (keyword_at line.text) (begins_part (take i lines)) fine)
+    where
+      or_false : (b : Bool) → (b || false) ≡ b
+      or_false true = refl
+      or_false false = refl
+
+-- a file whose lines are all read
+pub file_is_read : (lines : List Line) (i : ℕ) (filters : List NamedFilter) (skipped : List ℕ) → length lines ≤ i →
+    first_fault [] lines ≡ first_fault (take i lines) (drop i lines) → filters ++ filters_in (drop i lines) ≡ filters_in lines →
+    skipped ++ all_skipped (drop i lines) ≡ all_skipped lines →
+    let file : FilterFile = record { filters = filters; skipped = skipped } in
+    let answer : Result FilterFile FilterFault = Ok file in
+    answer ≡ file_of lines
+unfolding file_of first_fault filters_in all_skipped
+file_is_read lines i filters skipped past fault all_filters skips =
+    let none : drop i lines ≡ [] = drop_all i lines past in
+    ap₂ (λ (fs : List NamedFilter) (ns : List ℕ). let file : FilterFile = record { filters = fs; skipped = ns } in let answer : Result FilterFile FilterFault = Ok file in answer)
+    (sym (append-nil filters) ∙ ap (λ ls. filters ++ filters_in ls) (sym none) ∙ all_filters)
+    (sym (append-nil skipped) ∙ ap (λ ls. skipped ++ all_skipped ls) (sym none) ∙ skips)
+    ∙ sym (ap (λ o. option_map_or Err o (Ok (record { filters = filters_in lines; skipped = all_skipped lines })))
+    (fault ∙ ap (first_fault (take i lines)) none))
+
+-- a file with a line that is refused
+pub file_is_refused : (lines : List Line) (f : FilterFault) → first_fault [] lines ≡ Some f → Err f ≡ file_of lines
+unfolding file_of
+file_is_refused lines f is =
+    sym (ap (λ o. option_map_or Err o (Ok (record { filters = filters_in lines; skipped = all_skipped lines }))) is)

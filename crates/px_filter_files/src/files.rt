@@ -1,0 +1,232 @@
+// What a filter file stands for.
+ghost use Rattle.std.specs.Prelude.{◌≡◌, ◌≢◌, ◌++◌, ◌∷◌, [], not, Err, None, IfOk, OnOk, map, is_some, option_to_list, if◌then◌else◌, Some, ◌≤◌, length, option_map};
+ghost use Rattle.std.specs.List.{list_any};
+ghost use Rattle.std.specs.Result.{result_ok};
+ghost use Rattle.px_subst.specs.Jobs.{job_of};
+ghost use Rattle.px_filter_files.specs.Headings.{keyword_at, key_at, is_job, word_of, same_key};
+ghost use Rattle.px_filter_files.specs.FilterFiles.{job_in, jobs_in, skipped_in, own_lines, filter_at, key_of, refusal_by, heading_refusal};
+
+use crate::faults::{FilterFault, JOB_BEFORE_FILTER, NAME_MISSING, NAME_TWICE};
+use crate::kinds::{FilterKind, Keyword};
+use px_base::{List, Mem, Text};
+use px_subst::{Filter, Job, JobFault};
+use px_text::Line;
+use std::alloc::Global;
+
+/// A filter of a filter file.
+#[derive(Drop)]
+pub struct NamedFilter {
+    pub kind: FilterKind,
+    pub name: Text,
+    /// The number of the line that begins it.
+    pub line: u32,
+    pub filter: Filter,
+}
+
+/// What a filter file stands for.
+#[derive(Drop)]
+pub struct FilterFile {
+    /// The filters in order.
+    pub filters: List<NamedFilter>,
+    /// The numbers of the lines of filters that are no job. They are left out.
+    pub skipped: List<u32>,
+}
+
+impl NamedFilter {
+    ghost use Rattle.px_filter_files.specs.FilterFiles.{has_key};
+
+    /// Whether it has this kind and name.
+    pub(crate) fn has(&self, kind: FilterKind, name: &[u8]) -> bool
+        ensures { result ≡ has_key (record { kind = kind; name = name.now }) self.now }
+    {
+        kind.is(self.kind) && name == self.name.as_bytes()
+    }
+}
+
+/// What a refused job counts as: no job, or want of memory.
+fn without_job(fault: JobFault) -> Result<Option<Job>, Mem>
+    ensures none { IfOk result (λ job. job ≡ None) }
+    ensures refused { OnOk result (fault ≢ JobFault.Mem) }
+{
+    match fault {
+        JobFault::NoDelimiter => Ok(None),
+        JobFault::Unfinished => Ok(None),
+        JobFault::BadFlag => Ok(None),
+        JobFault::BadRegex => Ok(None),
+        JobFault::Mem => Err(Mem),
+    }
+}
+
+fn read_text(alloc: Global, text: &str) -> Result<Option<Job>, Mem>
+    ensures { IfOk result (λ job. job ≡ result_ok (job_of text.now)) }
+{
+    match Job::read(alloc, text) {
+        Ok(job) => Ok(Some(job)),
+        Err(fault) => without_job(fault),
+    }
+}
+
+/// The job of a line, or None where it isn't read.
+fn read_job(alloc: Global, text: &[u8]) -> Result<Option<Job>, Mem>
+    ensures { IfOk result (λ job. job ≡ job_in text.now) }
+{
+    match str::from_utf8(text) {
+        Ok(text) => read_text(alloc, text),
+        Err(_) => Ok(None),
+    }
+}
+
+/// Adds the job of a line, or the line's number where it isn't read.
+fn add_job(
+    alloc: Global,
+    line: &Line,
+    jobs: &mut Vec<Job>,
+    skipped: &mut List<u32>,
+) -> Result<(), Mem>
+    ensures jobs { OnOk result (jobs.new.items ≡ jobs.old.items ++ jobs_in (line.now ∷ [])) }
+    ensures skipped { OnOk result (skipped.new ≡ skipped.old ++ skipped_in (line.now ∷ [])) }
+{
+    match read_job(alloc, line.text.as_bytes())? {
+        Some(job) => {
+            jobs.push(job)?;
+            Ok(())
+        }
+        None => match skipped.push(line.number) {
+            Ok(()) => Ok(()),
+            Err(_) => Err(Mem),
+        },
+    }
+}
+
+fn is_job(line: &Line) -> bool
+    ensures { result ≡ is_job line.now }
+{
+    Keyword::at(line.text.as_bytes()).is_none()
+}
+
+/// The filter of the lines up to the next that begins a part.
+fn read_filter(alloc: Global, below: &[Line], skipped: &mut List<u32>) -> Result<Filter, Mem>
+    ensures filter { IfOk result (λ filter. filter ≡ jobs_in (own_lines below.now)) }
+    ensures skipped { OnOk result (skipped.new ≡ skipped.old ++ skipped_in (own_lines below.now)) }
+{
+    let mut jobs = Vec::new(alloc);
+    for line in below {
+        if !is_job(line) {
+            return Ok(Filter::new(List::from_vec(jobs)));
+        }
+        add_job(alloc, line, &mut jobs, skipped)?;
+    }
+    Ok(Filter::new(List::from_vec(jobs)))
+}
+
+/// Whether a filter has this kind and name.
+fn is_taken(filters: &[NamedFilter], kind: FilterKind, name: &[u8]) -> bool
+    ensures { result ≡ list_any (same_key (record { kind = kind; name = name.now })) (map key_of filters.now) }
+{
+    for filter in filters {
+        if filter.has(kind, name) {
+            return true;
+        }
+    }
+    false
+}
+
+/// The number of the refusal at a heading, if it is refused.
+fn heading_refusal(keyword: Keyword, text: &[u8], filters: &[NamedFilter]) -> Option<u8>
+    requires begins { keyword_at text.now ≡ Some keyword }
+    requires within { length (word_of keyword) ≤ length text.now }
+    ensures { result ≡ heading_refusal (map key_of filters.now) keyword text.now }
+{
+    let name = keyword.name(text);
+    if name.is_empty() {
+        return Some(NAME_MISSING);
+    }
+    match keyword.kind() {
+        Some(kind) => {
+            if is_taken(filters, kind, name) {
+                Some(NAME_TWICE)
+            } else {
+                None
+            }
+        }
+        None => None,
+    }
+}
+
+/// The number of the refusal at a line, if it is refused. `begun` says whether a part begins before it.
+fn refusal(text: &[u8], filters: &[NamedFilter], begun: bool) -> Option<u8>
+    ensures { result ≡ refusal_by (map key_of filters.now) begun text.now }
+{
+    match Keyword::at(text) {
+        Some(keyword) => heading_refusal(keyword, text, filters),
+        None => { if begun { None } else { Some(JOB_BEFORE_FILTER) } }
+    }
+}
+
+/// The kind and the name of the filter that a line begins.
+fn key_at(text: &[u8]) -> Option<(FilterKind, &[u8])>
+    ensures { option_map (λ key. record { kind = key.0; name = key.1.now }) result ≡ key_at text.now }
+{
+    match Keyword::at(text) {
+        Some(keyword) => match keyword.kind() {
+            Some(kind) => Some((kind, keyword.name(text))),
+            None => None,
+        },
+        None => None,
+    }
+}
+
+/// Adds the filter that a line begins, if it begins one, with the jobs of the lines below.
+fn add_filter(
+    alloc: Global,
+    line: &Line,
+    below: &[Line],
+    filters: &mut List<NamedFilter>,
+    skipped: &mut List<u32>,
+) -> Result<(), Mem>
+    ensures filters { OnOk result (filters.new ≡ filters.old ++ option_to_list (filter_at line.now below.now)) }
+    ensures skipped { OnOk result (skipped.new ≡ skipped.old
+        ++ (if is_some (key_at line.now.text) then skipped_in (own_lines below.now) else [])) }
+{
+    match key_at(line.text.as_bytes()) {
+        Some(key) => {
+            let named = NamedFilter {
+                kind: key.0,
+                name: Text::from_bytes(alloc, key.1)?,
+                line: line.number,
+                filter: read_filter(alloc, below, skipped)?,
+            };
+            match filters.push(named) {
+                Ok(()) => Ok(()),
+                Err(_) => Err(Mem),
+            }
+        }
+        None => Ok(()),
+    }
+}
+
+impl FilterFile {
+    ghost use Rattle.px_filter_files.specs.FilterFiles.{file_of};
+
+    /// Reads the lines of a filter file (Privoxy's manual, "Filter Files"). A keyword begins a filter, or a part whose
+    /// lines aren't read; a name and a description follow it. Every other line is a job of the filter above it, and one
+    /// that isn't read is left out. The first line that is refused is answered.
+    pub fn read(alloc: Global, lines: &[Line]) -> Result<FilterFile, FilterFault>
+        ensures { result ≢ Err FilterFault.Mem → result ≡ file_of lines.now }
+    {
+        let mut filters = List::new(alloc);
+        let mut skipped = List::new(alloc);
+        let mut begun = false;
+        for (at, line) in lines.iter().enumerate() {
+            if let Some(number) = refusal(line.text.as_bytes(), filters.as_slice(), begun) {
+                return Err(FilterFault::At {
+                    line: line.number,
+                    number,
+                });
+            }
+            add_filter(alloc, line, &lines[at + 1..], &mut filters, &mut skipped)?;
+            begun = true;
+        }
+        Ok(FilterFile { filters, skipped })
+    }
+}

@@ -1,0 +1,14 @@
+//! Filter files: named filters of substitution jobs.
+#![tactic(auto)]
+
+mod faults;
+mod files;
+mod filters;
+mod kinds;
+#[cfg(test)]
+mod tests;
+
+pub use faults::FilterFault;
+pub use files::{FilterFile, NamedFilter};
+pub use filters::{FilterCounts, Filters};
+pub use kinds::FilterKind;

@@ -1,0 +1,200 @@
+-- What is kept of an unfinished line, and a whole line at once.
+use Rattle.std.proofs.Common.{◌≡◌, ◌≢◌, ℕ, zero, suc, ◌+◌, ◌-◌, ◌<◌, ◌≤◌, ◌⊎◌, inl, inr, Bool, true, false, ◌==◌, ◌&&◌, cond, nat_lt, nat_le, List, [], ◌∷◌, ◌++◌, length, take, drop, slice_index, Option, Some, None, IsTrue, refl, sym, ◌∙◌, ap, subst, arith, append_assoc, length-append, eq-eqb, eqb-true, lt-ltb}
+use Rattle.std.proofs.lemmas.List.{append-nil, length_push, get_or_at, take_at}
+use Rattle.std.proofs.lemmas.Grind.{common_steps}
+use Rattle.std.proofs.lemmas.Bool.Decides.{nat_tests}
+use Rattle.px_framing.specs.declared.places.Place.{Place}
+use Rattle.px_framing.specs.declared.places.Place.TheVariants.{Size, Data, Gap, Trailers, Done, Wrong}
+use Rattle.px_framing.specs.declared.places.Verdict.{Verdict}
+use Rattle.px_framing.specs.declared.places.Verdict.TheVariants as verdict
+use Rattle.px_framing.specs.Lines.{crlf, may_stand, after, after_size, size_of, IsOpen}
+use Rattle.px_framing.specs.Reading.{before, ends_in_cr, without_last, verdict_of, is_line, reads, IsHeld, Moves}
+use Rattle.px_framing.proofs.LineLemmas.{closed, no_cr, ends_in}
+use Rattle.px_framing.proofs.MoveLemmas.{before-before, move-open, move-line, moves-on}
+
+-- ---- the last byte
+
+pub cr-push : (t : List ℕ) (b : ℕ) → ends_in_cr (t ++ b ∷ []) ≡ (b == 13)
+cr-push t b =
+    let len : length (t ++ b ∷ []) ≡ length t + 1 = length_push t b in
+    let last : slice_index (t ++ b ∷ []) (length (t ++ b ∷ []) - 1) ≡ b = get_or_at t b [] 0 (length (t ++ b ∷ []) - 1) (omega arith) in
+    let some : nat_lt 0 (length (t ++ b ∷ [])) ≡ true = lt-ltb 0 (length (t ++ b ∷ [])) (omega arith) in
+    rw (some, last) refl
+
+pub without-push : (t : List ℕ) (b : ℕ) → without_last (t ++ b ∷ []) ≡ t
+without-push t b =
+    let len : length (t ++ b ∷ []) ≡ length t + 1 = length_push t b in
+    take_at t (b ∷ []) (length (t ++ b ∷ []) - 1) (omega arith)
+
+pub cr-front : (k : List ℕ) → ends_in_cr k ≡ true → k ≡ without_last k ++ 13 ∷ []
+cr-front k e =
+    let some : 0 < length k = grind (arith, nat_tests) in
+    let last : slice_index k (length k - 1) ≡ 13 = grind (arith, nat_tests) in
+    ends_in k some ∙ ap (λ b. without_last k ++ b ∷ []) last
+
+true-or-false : (b : Bool) → (b ≡ true) ⊎ (b ≡ false)
+true-or-false true = inl refl
+true-or-false false = inr refl
+
+-- a text that may go on to one that stands doesn't end in CR
+no-cr-at : (p : Place) (k xs : List ℕ) → IsTrue (may_stand p (k ++ xs)) → (ends_in_cr k ≡ true) ⊎ (ends_in_cr k ≡ false) → ends_in_cr k ≡ false
+no-cr-at p k xs h (inl e) = absurd (no_cr p (without_last k) xs (subst (λ (w : List ℕ). IsTrue (may_stand p w)) (ap (λ (w : List ℕ). w ++ xs) (cr-front k e) ∙ append_assoc (without_last k) (13 ∷ []) xs) h))
+no-cr-at p k xs h (inr e) = e
+
+no-cr : (p : Place) (k xs : List ℕ) → IsTrue (may_stand p (k ++ xs)) → ends_in_cr k ≡ false
+no-cr p k xs h = no-cr-at p k xs h (true-or-false (ends_in_cr k))
+
+not-cr : (p : Place) (k : List ℕ) (b : ℕ) (xs : List ℕ) → IsTrue (may_stand p (k ++ b ∷ xs)) → (b == 13) ≡ false
+not-cr p k b xs h = sym (cr-push k b) ∙ no-cr p (k ++ b ∷ []) xs (subst (λ (w : List ℕ). IsTrue (may_stand p w)) (sym (append_assoc k (b ∷ []) xs)) h)
+
+fronts : (p : Place) (k : List ℕ) (b : ℕ) (xs : List ℕ) → IsTrue (may_stand p (k ++ b ∷ xs)) → IsTrue (may_stand p (k ++ b ∷ []))
+fronts p [] b xs h = closed p b [] xs h
+fronts p (x ∷ k) b xs h = closed p x (k ++ b ∷ []) xs (subst (λ (w : List ℕ). IsTrue (may_stand p (x ∷ w))) (sym (append_assoc k (b ∷ []) xs)) h)
+
+-- ---- a whole line at once
+
+open-byte : (p : Place) (k : List ℕ) (b : ℕ) (xs : List ℕ) → IsTrue (may_stand p (k ++ b ∷ xs)) → verdict.Open ≡ verdict_of p k b
+unfolding verdict_of
+open-byte p k b xs h =
+    let front : ends_in_cr k ≡ false = no-cr p k (b ∷ xs) h in
+    let other : (b == 13) ≡ false = not-cr p k b xs h in
+    let stands : may_stand p (k ++ b ∷ []) ≡ true = fronts p k b xs h in
+    rw (front, other, stands) refl
+
+cr-byte : (p : Place) (k : List ℕ) → IsTrue (may_stand p k) → verdict.Open ≡ verdict_of p k 13
+unfolding verdict_of
+cr-byte p k h =
+    let front : ends_in_cr k ≡ false = no-cr p k [] (subst (λ (w : List ℕ). IsTrue (may_stand p w)) (sym (append-nil k)) h) in
+    rw (front, h) refl
+
+lf-byte : (p : Place) (k : List ℕ) → IsTrue (may_stand p k) → verdict.Line (after p k) ≡ verdict_of p (k ++ 13 ∷ []) 10
+unfolding verdict_of
+lf-byte p k h =
+    let front : ends_in_cr (k ++ 13 ∷ []) ≡ true = cr-push k 13 in
+    rw (front, without-push k 13, h) refl
+
+line-from : (p : Place) (k t r : List ℕ) → is_line p ≡ true → IsTrue (may_stand p (k ++ t)) → Moves p k (t ++ crlf) r (r ++ ((k ++ t) ++ crlf)) [] [] (after p (k ++ t)) []
+line-from p k [] r l h =
+    let stands = subst (λ (w : List ℕ). IsTrue (may_stand p w)) (append-nil k) h in
+    let bytes : (k ++ 13 ∷ []) ++ 10 ∷ [] ≡ (k ++ []) ++ crlf = append_assoc k (13 ∷ []) (10 ∷ []) ∙ ap (λ (w : List ℕ). w ++ crlf) (sym (append-nil k)) in
+    moves-on p p (after p (k ++ [])) k (k ++ 13 ∷ []) [] (13 ∷ []) (10 ∷ []) r r (r ++ ((k ++ []) ++ crlf)) [] [] []
+    (move-open p k (k ++ 13 ∷ []) r 13 l (cr-byte p k stands) refl)
+    (move-line p (after p (k ++ [])) (k ++ 13 ∷ []) [] r (r ++ ((k ++ []) ++ crlf)) 10 l (ap (λ (w : List ℕ). verdict.Line (after p w)) (append-nil k) ∙ lf-byte p k stands) (ap (λ (w : List ℕ). r ++ w) (sym bytes)) refl)
+line-from p k (b ∷ t) r l h =
+    let on : (k ++ b ∷ []) ++ t ≡ k ++ b ∷ t = append_assoc k (b ∷ []) t in
+    let rest = line-from p (k ++ b ∷ []) t r l (subst (λ (w : List ℕ). IsTrue (may_stand p w)) (sym on) h) in
+    let rest' = subst (λ (w : List ℕ). Moves p (k ++ b ∷ []) (t ++ crlf) r (r ++ (w ++ crlf)) [] [] (after p w) []) on rest in
+    moves-on p p (after p (k ++ b ∷ t)) k (k ++ b ∷ []) [] (b ∷ []) (t ++ crlf) r r (r ++ ((k ++ b ∷ t) ++ crlf)) [] [] []
+    (move-open p k (k ++ b ∷ []) r b l (open-byte p k b t h) refl) rest'
+
+-- a line by its text
+pub moves-line : (p n : Place) (k k' text bytes r r' : List ℕ) → is_line p ≡ true → IsTrue (may_stand p text) → k ≡ [] → k' ≡ [] → bytes ≡ text ++ crlf → r' ≡ r ++ bytes → n ≡ after p text → Moves p k bytes r r' [] [] n k'
+moves-line p n k k' text bytes r r' l h e f a b c =
+    let m = line-from p [] text r l h in record {
+      put = m.put;
+      data_put = m.data_put;
+      raw_is = b ∙ ap (λ (w : List ℕ). r ++ w) a ∙ m.raw_is;
+      plain_is = m.plain_is;
+      same = λ rest. ap (λ (w : List ℕ). reads p w (bytes ++ rest)) e ∙ ap (λ (w : List ℕ). reads p [] (w ++ rest)) a ∙ m.same rest
+          ∙ (λ i. before m.put m.data_put (length (sym a i)) (reads (sym c i) (sym f i) rest));
+    }
+
+-- ---- what is held
+
+held-line : (p : Place) (k : List ℕ) → is_line p ≡ true → IsOpen p k → IsHeld p k
+held-line Size k l o = o
+held-line (Data n) k l o = absurd (cc)
+held-line Gap k l o = o
+held-line (Trailers n) k l o = o
+held-line Done k l o = absurd (cc)
+held-line Wrong k l o = absurd (cc)
+
+pub open-line : (p : Place) (k : List ℕ) → is_line p ≡ true → IsHeld p k → IsOpen p k
+open-line Size k l o = o
+open-line (Data n) k l o = absurd (cc)
+open-line Gap k l o = o
+open-line (Trailers n) k l o = o
+open-line Done k l o = absurd (cc)
+open-line Wrong k l o = absurd (cc)
+
+open-at : (p : Place) (k : List ℕ) (b : ℕ) (cr lf stands last grown : Bool) → ends_in_cr k ≡ cr → (b == 13) ≡ last → may_stand p k ≡ stands → may_stand p (k ++ b ∷ []) ≡ grown
+    → verdict.Open ≡ cond cr (cond lf (verdict.Line (after p (without_last k))) verdict.Wrong) (cond last (cond stands verdict.Open verdict.Wrong) (cond grown verdict.Open verdict.Wrong)) → IsOpen p (k ++ b ∷ [])
+open-at p k b true true stands last grown a c d e v = absurd (cc)
+open-at p k b true false stands last grown a c d e v = absurd (cc)
+open-at p k b false lf true true grown a c d e v = inr (inr (k, d, ap (λ x. k ++ x ∷ []) (eqb-true b 13 c)))
+open-at p k b false lf false true grown a c d e v = absurd (cc)
+open-at p k b false lf stands false true a c d e v = inr (inl e)
+open-at p k b false lf stands false false a c d e v = absurd (cc)
+
+open-of : (p : Place) (k : List ℕ) (b : ℕ) → verdict.Open ≡ verdict_of p k b → IsOpen p (k ++ b ∷ [])
+unfolding verdict_of
+open-of p k b v = open-at p k b (ends_in_cr k) (b == 10 && may_stand p (without_last k)) (may_stand p k) (b == 13) (may_stand p (k ++ b ∷ [])) refl refl refl refl v
+
+pub held-open : (p : Place) (k k' : List ℕ) (b : ℕ) → is_line p ≡ true → verdict.Open ≡ verdict_of p k b → k' ≡ k ++ b ∷ [] → IsHeld p k'
+held-open p k k' b l v e = held-line p k' l (subst (IsOpen p) (sym e) (open-of p k b v))
+
+some-held : (c : Bool) (n : ℕ) (k : List ℕ) → (n == 0) ≡ c → k ≡ [] → IsHeld (cond c (Trailers 0) (Data n)) k
+some-held true n k z e = inl e
+some-held false n k z e = ((let some : 0 < n = grind (arith, nat_tests) in some), e)
+
+size-held : (o : Option ℕ) (k : List ℕ) → k ≡ [] → IsHeld (after_size o) k
+size-held None k e = e
+size-held (Some n) k e = some-held (n == 0) n k refl e
+
+trailers-held : (c : Bool) (n : ℕ) (k : List ℕ) → k ≡ [] → IsHeld (cond c Done (Trailers n)) k
+trailers-held true n k e = e
+trailers-held false n k e = inl e
+
+-- behind a whole line nothing is held
+after-held : (p : Place) (text k : List ℕ) → k ≡ [] → IsHeld (after p text) k
+unfolding after
+after-held Size text k e = size-held (size_of text) k e
+after-held (Data m) text k e = e
+after-held Gap text k e = inl e
+after-held (Trailers m) text k e = trailers-held (nat_le (length text) 0) (m + length text + 2) k e
+after-held Done text k e = e
+after-held Wrong text k e = e
+
+pub held-after : (p n : Place) (text k : List ℕ) → n ≡ after p text → k ≡ [] → IsHeld n k
+held-after p n text k is e = subst (λ (m : Place). IsHeld m k) (sym is) (after-held p text k e)
+
+line-at : (p n : Place) (k : List ℕ) (b : ℕ) (cr lf stands last grown : Bool)
+    → verdict.Line n ≡ cond cr (cond lf (verdict.Line (after p (without_last k))) verdict.Wrong) (cond last (cond stands verdict.Open verdict.Wrong) (cond grown verdict.Open verdict.Wrong)) → n ≡ after p (without_last k)
+line-at p n k b true true stands last grown v = cc
+line-at p n k b true false stands last grown v = absurd (cc)
+line-at p n k b false lf true true grown v = absurd (cc)
+line-at p n k b false lf false true grown v = absurd (cc)
+line-at p n k b false lf stands false true v = absurd (cc)
+line-at p n k b false lf stands false false v = absurd (cc)
+
+pub held-line-end : (p n : Place) (k k' : List ℕ) (b : ℕ) → verdict.Line n ≡ verdict_of p k b → k' ≡ [] → IsHeld n k'
+unfolding verdict_of
+held-line-end p n k k' b v e = held-after p n (without_last k) k' (line-at p n k b (ends_in_cr k) (b == 10 && may_stand p (without_last k)) (may_stand p k) (b == 13) (may_stand p (k ++ b ∷ [])) v) e
+
+-- ---- little is held
+
+stand-short : (p : Place) (t : List ℕ) → IsTrue (may_stand p t) → length t ≤ 8190
+unfolding may_stand
+stand-short Size t h = grind (arith, nat_tests)
+stand-short (Data n) t h = cc
+stand-short Gap t h = grind (arith, nat_tests)
+stand-short (Trailers n) t h = grind (arith, nat_tests)
+stand-short Done t h = cc
+stand-short Wrong t h = cc
+
+pub open-short : (p : Place) (k : List ℕ) → IsOpen p k → length k ≤ 8191
+open-short p k (inl e) = let n = ap length e in omega arith
+open-short p k (inr (inl h)) = let n = stand-short p k h in omega arith
+open-short p k (inr (inr (t, h, e))) = let n = stand-short p t h in let m = ap length e ∙ length_push t 13 in omega arith
+
+pub held-short : (p : Place) (k : List ℕ) → IsHeld p k → length k ≤ 8191
+held-short Size k o = open-short Size k o
+held-short (Data n) k o = let e = ap length o.1 in omega arith
+held-short Gap k o = open-short Gap k o
+held-short (Trailers n) k o = open-short (Trailers n) k o
+held-short Done k o = let e = ap length o in omega arith
+held-short Wrong k o = let e = ap length o in omega arith
+
+-- what was kept is the front of it with one more byte
+pub front-of : (k all now : List ℕ) (b len : ℕ) → len ≡ length k → all ≡ k ++ b ∷ [] → now ≡ all → take len now ≡ k
+front-of k all now b len n e f = ap (take len) (f ∙ e) ∙ take_at k (b ∷ []) len (sym n)

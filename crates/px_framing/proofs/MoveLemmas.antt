@@ -1,0 +1,143 @@
+-- A byte, a run of data and a whole line further, and moves one after another.
+use Rattle.std.proofs.Common.{◌≡◌, ◌≢◌, ℕ, zero, suc, ◌+◌, ◌-◌, ◌<◌, ◌≤◌, ◌⊎◌, inl, inr, Bool, true, false, ◌==◌, ◌&&◌, cond, nat_lt, nat_le, List, [], ◌∷◌, ◌++◌, length, take, drop, slice_index, Option, Some, None, IsTrue, refl, sym, ◌∙◌, ap, subst, arith, append_assoc, length-append, eq-eqb, eqb-true, lt-ltb}
+use Rattle.std.proofs.lemmas.List.{append-nil, take_all, length_push, get_or_at, take_at}
+use Rattle.std.proofs.lemmas.Grind.{common_steps}
+use Rattle.std.proofs.lemmas.Bool.Decides.{nat_tests}
+use Rattle.px_framing.specs.declared.places.Place.{Place}
+use Rattle.px_framing.specs.declared.places.Place.TheVariants.{Size, Data, Gap, Trailers, Done, Wrong}
+use Rattle.px_framing.specs.declared.places.State.{State}
+use Rattle.px_framing.specs.declared.places.State.TheVariants.{More, Whole, Cut, Misframed}
+use Rattle.px_framing.specs.declared.places.Verdict.{Verdict}
+use Rattle.px_framing.specs.declared.places.Verdict.TheVariants as verdict
+use Rattle.px_framing.specs.Lines.{crlf, may_stand, after, after_size, size_of, data_place, IsOpen}
+use Rattle.px_framing.specs.Body.{Part, nothing}
+use Rattle.px_framing.specs.Reading.{before, ends_in_cr, without_last, verdict_of, Step, line_step, step, state_at, is_last, is_line, reads, IsHeld, Moves}
+use Rattle.px_framing.proofs.LineLemmas.{closed, no_cr, ends_in}
+
+-- ---- what was read before
+
+pub before-before : (r1 q1 r2 q2 : List ℕ) (n1 n2 : ℕ) (p : Part) → before r1 q1 n1 (before r2 q2 n2 p) ≡ before (r1 ++ r2) (q1 ++ q2) (n1 + n2) p
+before-before r1 q1 r2 q2 n1 n2 p =
+    let e : n1 + (n2 + p.used) ≡ n1 + n2 + p.used = omega arith in
+    λ i. record { raw = sym (append_assoc r1 r2 p.raw) i; plain = sym (append_assoc q1 q2 p.plain) i; used = e i; state = p.state }
+
+pub before-same : (r r' q q' : List ℕ) (n n' : ℕ) (p p' : Part) → r ≡ r' → q ≡ q' → n ≡ n' → p ≡ p' → before r q n p ≡ before r' q' n' p'
+before-same r r' q q' n n' p p' a b c d = λ i. before (a i) (b i) (c i) (d i)
+
+-- ---- moves one after another
+
+pub moves-on : (p m n : Place) (k k1 k2 b1 b2 r r1 r2 q q1 q2 : List ℕ) → Moves p k b1 r r1 q q1 m k1 → Moves m k1 b2 r1 r2 q1 q2 n k2 → Moves p k (b1 ++ b2) r r2 q q2 n k2
+moves-on p m n k k1 k2 b1 b2 r r1 r2 q q1 q2 x y = record {
+  put = x.put ++ y.put;
+  data_put = x.data_put ++ y.data_put;
+  raw_is = y.raw_is ∙ ap (λ (w : List ℕ). w ++ y.put) x.raw_is ∙ append_assoc r x.put y.put;
+  plain_is = y.plain_is ∙ ap (λ (w : List ℕ). w ++ y.data_put) x.plain_is ∙ append_assoc q x.data_put y.data_put;
+  same = λ rest. ap (reads p k) (append_assoc b1 b2 rest) ∙ x.same (b2 ++ rest)
+      ∙ ap (before x.put x.data_put (length b1)) (y.same rest)
+      ∙ before-before x.put x.data_put y.put y.data_put (length b1) (length b2) (reads n k2 rest)
+      ∙ ap (λ len. before (x.put ++ y.put) (x.data_put ++ y.data_put) len (reads n k2 rest)) (sym (length-append b1 b2));
+}
+
+pub moves-none : (p : Place) (k r q : List ℕ) → Moves p k [] r r q q p k
+moves-none p k r q = record { put = []; data_put = []; raw_is = sym (append-nil r); plain_is = sym (append-nil q); same = λ rest. λ i. record { raw = (reads p k rest).raw; plain = (reads p k rest).plain; used = (let e : (reads p k rest).used ≡ 0 + (reads p k rest).used = omega arith in e) i; state = (reads p k rest).state } }
+
+-- the bytes taken so far and the bytes of a further step
+pub taken-on : (piece : List ℕ) (n m : ℕ) → take n piece ++ take m (drop n piece) ≡ take (n + m) piece
+taken-on piece zero m = ap (λ (k : ℕ). take k piece) (let e : m ≡ 0 + m = omega arith in e)
+taken-on [] (suc n) zero = sym (take_all (suc n + 0) [] (omega arith))
+taken-on [] (suc n) (suc m) = sym (take_all (suc n + suc m) [] (omega arith))
+taken-on (x ∷ xs) (suc n) m = ap (λ (w : List ℕ). x ∷ w) (taken-on xs n m) ∙ ap (λ (k : ℕ). take k (x ∷ xs)) (let e : suc (n + m) ≡ suc n + m = omega arith in e)
+
+-- a move on from what was taken of a piece
+pub moves-more : (p m n : Place) (k k1 k2 piece r r1 r2 q q1 q2 : List ℕ) (i j : ℕ) → Moves p k (take i piece) r r1 q q1 m k1 → Moves m k1 (take j (drop i piece)) r1 r2 q1 q2 n k2 → Moves p k (take (i + j) piece) r r2 q q2 n k2
+moves-more p m n k k1 k2 piece r r1 r2 q q1 q2 i j x y =
+    subst (λ (b : List ℕ). Moves p k b r r2 q q2 n k2) (taken-on piece i j) (moves-on p m n k k1 k2 (take i piece) (take j (drop i piece)) r r1 r2 q q1 q2 x y)
+
+-- ---- a byte further
+
+pub reads-byte : (p : Place) (k : List ℕ) (b : ℕ) (rest : List ℕ) → is_last p ≡ false → reads p k (b ∷ rest) ≡ before (step p k b).raw (step p k b).plain 1 (reads (step p k b).next (step p k b).kept rest)
+unfolding reads
+reads-byte p k b rest e = rw e refl
+
+pub line-not-last : (p : Place) → is_line p ≡ true → is_last p ≡ false
+line-not-last Size l = refl
+line-not-last (Data n) l = refl
+line-not-last Gap l = refl
+line-not-last (Trailers n) l = refl
+line-not-last Done l = absurd (cc)
+line-not-last Wrong l = absurd (cc)
+
+step-line : (p : Place) (k : List ℕ) (b : ℕ) → is_line p ≡ true → step p k b ≡ line_step p (k ++ b ∷ []) (verdict_of p k b)
+step-line Size k b l = refl
+step-line (Data n) k b l = absurd (cc)
+step-line Gap k b l = refl
+step-line (Trailers n) k b l = refl
+step-line Done k b l = absurd (cc)
+step-line Wrong k b l = absurd (cc)
+
+pub reads-line-byte : (p : Place) (k : List ℕ) (b : ℕ) (rest : List ℕ) (v : Verdict) → is_line p ≡ true → verdict_of p k b ≡ v
+    → reads p k (b ∷ rest) ≡ before (line_step p (k ++ b ∷ []) v).raw (line_step p (k ++ b ∷ []) v).plain 1 (reads (line_step p (k ++ b ∷ []) v).next (line_step p (k ++ b ∷ []) v).kept rest)
+reads-line-byte p k b rest v l e =
+    let s : step p k b ≡ line_step p (k ++ b ∷ []) v = step-line p k b l ∙ ap (line_step p (k ++ b ∷ [])) e in
+    reads-byte p k b rest (line-not-last p l) ∙ ap (λ (t : Step). before t.raw t.plain 1 (reads t.next t.kept rest)) s
+
+-- the bytes of a line that may go on
+pub move-open : (p : Place) (k k' r : List ℕ) (b : ℕ) → is_line p ≡ true → verdict.Open ≡ verdict_of p k b → k' ≡ k ++ b ∷ [] → Moves p k (b ∷ []) r r [] [] p k'
+move-open p k k' r b l v e = record {
+  put = [];
+  data_put = [];
+  raw_is = sym (append-nil r);
+  plain_is = refl;
+  same = λ rest. reads-line-byte p k b rest verdict.Open l (sym v) ∙ ap (λ (w : List ℕ). before [] [] 1 (reads p w rest)) (sym e);
+}
+
+pub move-line : (p n : Place) (k k' r r' : List ℕ) (b : ℕ) → is_line p ≡ true → verdict.Line n ≡ verdict_of p k b → r' ≡ r ++ (k ++ b ∷ []) → k' ≡ [] → Moves p k (b ∷ []) r r' [] [] n k'
+move-line p n k k' r r' b l v e f = record {
+  put = k ++ b ∷ [];
+  data_put = [];
+  raw_is = e;
+  plain_is = refl;
+  same = λ rest. reads-line-byte p k b rest (verdict.Line n) l (sym v) ∙ ap (λ (w : List ℕ). before (k ++ b ∷ []) [] 1 (reads n w rest)) (sym f);
+}
+
+pub move-wrong : (p : Place) (k k' r : List ℕ) (b : ℕ) → is_line p ≡ true → verdict.Wrong ≡ verdict_of p k b → k' ≡ [] → Moves p k (b ∷ []) r r [] [] Wrong k'
+move-wrong p k k' r b l v e = record {
+  put = [];
+  data_put = [];
+  raw_is = sym (append-nil r);
+  plain_is = refl;
+  same = λ rest. reads-line-byte p k b rest verdict.Wrong l (sym v) ∙ ap (λ (w : List ℕ). before [] [] 1 (reads Wrong w rest)) (sym e);
+}
+
+-- ---- a run of data
+
+data-some : (n : ℕ) → 0 < n → Data n ≡ data_place n
+data-some zero h = absurd (omega arith)
+data-some (suc n) h = refl
+
+reads-run : (n : ℕ) (b : ℕ) (bs rest : List ℕ) → length (b ∷ bs) ≤ n → reads (Data n) [] ((b ∷ bs) ++ rest) ≡ before (b ∷ bs) (b ∷ bs) (length (b ∷ bs)) (reads (data_place (n - length (b ∷ bs))) [] rest)
+reads-run n b [] rest fits = reads-byte (Data n) [] b rest refl
+reads-run n b (c ∷ cs) rest fits =
+    let more = reads-run (n - 1) c cs rest (omega arith) in
+    let left : n - 1 - length (c ∷ cs) ≡ n - length (b ∷ c ∷ cs) = omega arith in
+    reads-byte (Data n) [] b ((c ∷ cs) ++ rest) refl
+    ∙ ap (λ p. before (b ∷ []) (b ∷ []) 1 (reads p [] ((c ∷ cs) ++ rest))) (sym (data-some (n - 1) (omega arith)))
+    ∙ ap (before (b ∷ []) (b ∷ []) 1) (more ∙ ap (λ k. before (c ∷ cs) (c ∷ cs) (length (c ∷ cs)) (reads (data_place k) [] rest)) left)
+    ∙ before-before (b ∷ []) (b ∷ []) (c ∷ cs) (c ∷ cs) 1 (length (c ∷ cs)) (reads (data_place (n - length (b ∷ c ∷ cs))) [] rest)
+    ∙ ap (λ k. before (b ∷ c ∷ cs) (b ∷ c ∷ cs) k (reads (data_place (n - length (b ∷ c ∷ cs))) [] rest)) (let e : 1 + length (c ∷ cs) ≡ length (b ∷ c ∷ cs) = omega arith in e)
+
+pub move-data : (n : ℕ) (bs r r' q q' : List ℕ) (p : Place) → 0 < length bs → length bs ≤ n → r' ≡ r ++ bs → q' ≡ q ++ bs → p ≡ data_place (n - length bs) → Moves (Data n) [] bs r r' q q' p []
+move-data n [] r r' q q' p some fits a b c = absurd (omega arith)
+move-data n (x ∷ bs) r r' q q' p some fits a b c = record {
+  put = x ∷ bs;
+  data_put = x ∷ bs;
+  raw_is = a;
+  plain_is = b;
+  same = λ rest. reads-run n x bs rest fits ∙ ap (λ (m : Place). before (x ∷ bs) (x ∷ bs) (length (x ∷ bs)) (reads m [] rest)) (sym c);
+}
+
+pub data-place-zero : (n : ℕ) → n ≡ 0 → Gap ≡ data_place n
+data-place-zero n e = ap data_place (sym e)
+
+pub data-place-some : (n : ℕ) → 0 < n → Data n ≡ data_place n
+data-place-some n h = data-some n h

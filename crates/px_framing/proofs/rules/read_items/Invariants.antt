@@ -1,0 +1,12 @@
+use Rattle.std.proofs.Common.{◌≡◌}
+use Rattle.std.specs.Prelude.{option_copied}
+use Rattle.px_framing.specs.Rules.{items_of}
+use Rattle.px_framing.specs.Seen.{seen_all}
+use Rattle.px_framing.proofs.RuleLemmas.{items_left, left}
+use Rattle.px_framing.proofs.rules.read_items.Given as goal
+
+abbrev pub invariant-items : goal.invariant-items
+invariant-items l = seen_all l.fn.seen (items_of l.fn.value) ≡ seen_all l.seen (items_left (option_copied l.rest))
+
+abbrev pub decreases-items : goal.decreases-items
+decreases-items l = left (option_copied l.rest)

@@ -1,0 +1,29 @@
+-- A chunked body as a list of elements: size lines, data bytes, the CRLF after each chunk's data, trailer lines and the last
+-- empty line (RFC 9112, section 7.1). All but the data bytes are lines, told apart by the place where they stand.
+use Rattle.std.specs.Prelude.{◌≡◌, ℕ, suc, List, [], ◌∷◌, ◌++◌, IsTrue}
+use Rattle.px_framing.specs.declared.places.Place.{Place}
+use Rattle.px_framing.specs.declared.places.Place.TheVariants.{Data}
+use Rattle.px_framing.specs.Lines.{crlf, may_stand, after, data_place}
+
+-- a line by its text, or a byte of a chunk's data
+pub data Element : Type 0 where
+  line : List ℕ → Element
+  byte : ℕ → Element
+
+abbrev pub print : Element → List ℕ
+print (line text) = text ++ crlf
+print (byte b) = b ∷ []
+
+abbrev pub data_of : Element → List ℕ
+data_of (line text) = []
+data_of (byte b) = b ∷ []
+
+-- the element may stand here, and next is what comes after it
+abbrev pub Follows : Place → Element → Place → Type 0
+Follows place (line text) next = IsTrue (may_stand place text) × (next ≡ after place text)
+Follows place (byte b) next = (left : ℕ) × (place ≡ Data (suc left)) × (next ≡ data_place left)
+
+-- the elements may stand here one after another, and next is what comes after them
+abbrev pub Leads : Place → List Element → Place → Type 0
+Leads place [] next = next ≡ place
+Leads place (e ∷ es) next = (mid : Place) × Follows place e mid × Leads mid es next

@@ -1,0 +1,6 @@
+pub mod Rules
+pub mod Lines
+pub mod Elements
+pub mod Body
+pub mod Reading
+pub mod Seen

@@ -1,0 +1,21 @@
+// Laws of bodies.
+ghost use Rattle.std.specs.Prelude.{◌≡◌, List, ℕ, length};
+ghost use Rattle.px_framing.specs.Body.{Body, Part};
+ghost use Rattle.px_framing.specs.Reading.{After, IsSettled, Reading, stage_state};
+ghost use Rattle.px_framing.specs.declared.rules.BodyRule.{BodyRule};
+
+use crate::places::State;
+use crate::rules::BodyRule;
+
+/// However bytes are cut into pieces, they have one raw, one plain, one count of used bytes and one state.
+pub fn cuts_agree()
+    ensures { (rule : BodyRule) (bytes raw raw' plain plain' : List ℕ) (count count' : ℕ) (r r' : Reading)
+        → After rule bytes raw plain count r → After rule bytes raw' plain' count' r' → IsSettled r → IsSettled r'
+        → (raw ≡ raw') × (plain ≡ plain') × (count ≡ count') × (stage_state r.stage ≡ stage_state r'.stage) }
+{}
+
+/// The raw bytes of a whole chunked body are a whole chunked body with the same data.
+pub fn raw_is_whole()
+    ensures { (bytes : List ℕ) (p : Part) → Body BodyRule.Chunked bytes p → p.state ≡ State.Whole
+        → Body BodyRule.Chunked p.raw (record p { used = length p.raw }) }
+{}

@@ -1,0 +1,243 @@
+// The lines of a chunked body.
+ghost use Rattle.std.specs.Prelude.{◌≡◌, ◌↔◌, ◌+◌, ◌-◌, ◌∷◌, ◌++◌, [], ◌<◌, ◌≤◌, length, take, IsTrue, SomeIff, IfSome, MatchOption, min, ℕ, List, false};
+ghost use Rattle.std.specs.Char.{digit_value};
+ghost use Rattle.std.specs.List.{list_all};
+ghost use Rattle.std.specs.Str.Parse.{digits_value};
+ghost use Rattle.px_base.specs.Blanks.{is_blank};
+ghost use Rattle.px_framing.specs.Lines.{after, behind_while, crlf, front_while, is_extension, is_hex, is_plain, may_stand, size_from, size_of, IsOpen};
+ghost use Rattle.px_framing.specs.Reading.{ends_in_cr, verdict_of};
+
+use crate::places::{Place, Verdict};
+use memchr::memchr;
+use px_base::is_blank;
+
+/// The most bytes of a size line's text, of a trailer line's text, and of all trailer lines, without the last CRLF.
+const SIZE_TEXT: usize = 254;
+
+const TRAILER_TEXT: usize = 8_190;
+
+const TRAILERS: usize = 65_534;
+
+/// The most bytes of a line with its CRLF.
+const LINE: u64 = 8_192;
+
+/// The value of a hexadecimal digit.
+fn hex_digit(byte: u8) -> Option<u64>
+    ensures exact { SomeIff result (digit_value byte < 16) (digit_value byte) }
+    ensures value { IfSome result (λ d. (d ≡ digit_value byte) × (d < 16)) }
+{
+    match byte {
+        b'0'..=b'9' => Some((byte - b'0') as u64),
+        b'a'..=b'f' => Some((byte - b'a') as u64 + 10),
+        b'A'..=b'F' => Some((byte - b'A') as u64 + 10),
+        _ => None,
+    }
+}
+
+/// Any byte but CR, LF and NUL.
+fn is_plain_byte(byte: u8) -> bool
+    ensures { result ≡ is_plain byte }
+{
+    byte != b'\r' && byte != b'\n' && byte != 0
+}
+
+fn all_plain(bytes: &[u8]) -> bool
+    ensures { result ≡ list_all is_plain bytes.now }
+{
+    bytes.iter().all(|byte| is_plain_byte(*byte))
+}
+
+/// White space, then nothing or `;` and an extension.
+fn ends_size(bytes: &[u8]) -> bool
+    ensures { result ≡ is_extension (behind_while is_blank bytes.now) }
+{
+    for i in 0..bytes.len() {
+        let byte = bytes[i];
+        if !is_blank(byte) {
+            return byte == b';' && all_plain(&bytes[i + 1..]);
+        }
+    }
+    true
+}
+
+/// The size that digits and what stands behind them give.
+fn digits_and_end(text: &[u8]) -> Option<u64>
+    ensures { result ≡ size_from (digits_value 16 (front_while is_hex text.now)) (behind_while is_hex text.now) }
+{
+    let mut size = 0;
+    for i in 0..text.len() {
+        match hex_digit(text[i]) {
+            Some(digit) => {
+                if size >= 1 << 59 {
+                    return None;
+                }
+                size = size * 16 + digit;
+            }
+            None => {
+                if ends_size(&text[i..]) {
+                    return Some(size);
+                } else {
+                    return None;
+                }
+            }
+        }
+    }
+    Some(size)
+}
+
+/// The size that a size line's text gives.
+#[tactic(auto, unfolding(crate::specs::Lines::size_of))]
+fn read_size(text: &[u8]) -> Option<u64>
+    ensures { result ≡ size_of text.now }
+{
+    if text.is_empty() {
+        return None;
+    }
+    match hex_digit(text[0]) {
+        Some(_) => digits_and_end(text),
+        None => None,
+    }
+}
+
+/// What comes after the line, if it may stand there.
+#[tactic(auto, unfolding(crate::specs::Lines::may_stand, crate::specs::Lines::after))]
+fn next_place(place: Place, text: &[u8]) -> Option<Place>
+    ensures { MatchOption result (may_stand place text.now ≡ false) (λ next. IsTrue (may_stand place text.now) × (next ≡ after place text.now)) }
+{
+    match place {
+        Place::Size => match read_size(text) {
+            Some(size) => {
+                if text.len() > SIZE_TEXT {
+                    None
+                } else if size == 0 {
+                    Some(Place::Trailers(0))
+                } else {
+                    Some(Place::Data(size))
+                }
+            }
+            None => None,
+        },
+        Place::Gap => {
+            if text.is_empty() {
+                Some(Place::Size)
+            } else {
+                None
+            }
+        }
+        Place::Trailers(before) => {
+            if text.is_empty() {
+                Some(Place::Done)
+            } else if fits_trailers(before, text.len()) && all_plain(text) {
+                Some(Place::Trailers(before + text.len() + 2))
+            } else {
+                None
+            }
+        }
+        Place::Data(_) => None,
+        Place::Done => None,
+        Place::Wrong => None,
+    }
+}
+
+/// Whether a trailer line of that many bytes fits behind those before it.
+fn fits_trailers(before: usize, len: usize) -> bool
+    ensures { IsTrue result ↔ ((len ≤ 8190) × (before + len ≤ 65534)) }
+{
+    len <= TRAILER_TEXT && before <= TRAILERS && before + len <= TRAILERS
+}
+
+/// Whether these bytes are the text of a line, where all but the last are or are none. Among the trailers it looks at the
+/// last byte alone.
+#[tactic(auto, unfolding(crate::specs::Lines::may_stand))]
+fn grows(place: Place, front: &[u8], last: u8, bytes: &[u8]) -> bool
+    requires whole { bytes.now ≡ front.now ++ last ∷ [] }
+    requires begun { IsOpen place front.now }
+    requires no_cr { (t : List ℕ) → front.now ≡ t ++ 13 ∷ [] → ⊥ }
+    ensures { result ≡ may_stand place bytes.now }
+{
+    match place {
+        Place::Trailers(before) => is_plain_byte(last) && fits_trailers(before, bytes.len()),
+        Place::Size => next_place(place, bytes).is_some(),
+        Place::Gap => next_place(place, bytes).is_some(),
+        Place::Data(_) => false,
+        Place::Done => false,
+        Place::Wrong => false,
+    }
+}
+
+fn ends_in_cr(bytes: &[u8]) -> bool
+    ensures { result ≡ ends_in_cr bytes.now }
+{
+    !bytes.is_empty() && bytes[bytes.len() - 1] == b'\r'
+}
+
+/// The first bytes, at most so many.
+pub fn front(bytes: &[u8], most: u64) -> &[u8]
+    ensures bytes { result.now ≡ take most bytes.now }
+    ensures len { length result.now ≡ min most (length bytes.now) }
+{
+    if most < bytes.len() as u64 {
+        &bytes[..most as usize]
+    } else {
+        bytes
+    }
+}
+
+/// What the last byte makes of a line.
+#[tactic(auto, unfolding(crate::specs::Reading::verdict_of))]
+pub fn judge(place: Place, front: &[u8], last: u8, bytes: &[u8]) -> Verdict
+    requires whole { bytes.now ≡ front.now ++ last ∷ [] }
+    requires begun { IsOpen place front.now }
+    ensures { result ≡ verdict_of place front.now last }
+{
+    if ends_in_cr(front) {
+        if last == b'\n' {
+            match next_place(place, &front[..front.len() - 1]) {
+                Some(next) => Verdict::Line(next),
+                None => Verdict::Wrong,
+            }
+        } else {
+            Verdict::Wrong
+        }
+    } else if last == b'\r' {
+        match next_place(place, front) {
+            Some(_) => Verdict::Open,
+            None => Verdict::Wrong,
+        }
+    } else if grows(place, front, last, bytes) {
+        Verdict::Open
+    } else {
+        Verdict::Wrong
+    }
+}
+
+/// A whole line at the front of bytes: the length of its text, and what comes after it.
+#[derive(Clone, Copy)]
+pub struct Line {
+    pub text_len: usize,
+    pub next: Place,
+}
+
+/// The whole line that may stand there at the front of the bytes, if there is one.
+pub fn line_at(place: Place, bytes: &[u8]) -> Option<Line>
+    ensures within { IfSome result (λ line. line.text_len + 2 ≤ length bytes.now) }
+    ensures bytes { IfSome result (λ line. take (line.text_len + 2) bytes.now ≡ take line.text_len bytes.now ++ crlf) }
+    ensures stands { IfSome result (λ line. IsTrue (may_stand place (take line.text_len bytes.now))) }
+    ensures next { IfSome result (λ line. line.next ≡ after place (take line.text_len bytes.now)) }
+{
+    match memchr(b'\n', front(bytes, LINE)) {
+        Some(at) => {
+            if at == 0 || bytes[at - 1] != b'\r' {
+                return None;
+            }
+            match next_place(place, &bytes[..at - 1]) {
+                Some(next) => Some(Line {
+                    text_len: at - 1,
+                    next,
+                }),
+                None => None,
+            }
+        }
+        None => None,
+    }
+}

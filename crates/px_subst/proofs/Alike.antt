@@ -1,0 +1,129 @@
+-- A replaced text depends on the spans of the matches and their groups alone, so a built expression gives what the written one gives.
+use Rattle.std.proofs.Common.{◌≡◌, ℕ, ◌+◌, ◌*◌, ◌<◌, ◌==◌, Bool, true, false, cond, List, [], ◌∷◌, ◌++◌, Option, Some, None, flat_map, map, take, length, unwrap_or, option_map, slice_range, slice_index, refl, sym, ap, ap₂, ◌∙◌, arith, ◌-◌, ◌≤◌, ◌^◌}
+use Rattle.std.proofs.lemmas.Bool.{cond-true, cond-false}
+use Rattle.std.proofs.lemmas.List.{length-map, take-map, take_all}
+use Rattle.regex_hir.specs.Re.{Re}
+use Rattle.regex_hir.specs.Find.{Match, find_all}
+use Rattle.regex_syntax.specs.Captures.{SameCaptures}
+use Rattle.regex.specs.Replace.{replaced_by, bytes_of}
+use Rattle.regex.specs.Writes.{both}
+use Rattle.regex.specs.Bytes.{regex_pattern}
+use Rattle.regex.proofs.ForCallers.{spans, find_all_alike}
+use Rattle.px_subst.specs.declared.items.Item.{Item}
+use Rattle.px_subst.specs.declared.items.Item.TheVariants.{Byte, Group}
+use Rattle.px_subst.specs.declared.outcomes.Outcome.{Outcome}
+use Rattle.px_subst.specs.declared.replacers.Replacer.{Replacer}
+use Rattle.px_subst.specs.declared.words.Vars.{Vars}
+use Rattle.px_subst.specs.declared.flags.Flags.{Flags}
+use Rattle.px_subst.specs.Substitutes.{item_bytes, items_by, written}
+use Rattle.px_subst.specs.Expressions.{expression}
+use Rattle.px_subst.specs.Words.{filled}
+use Rattle.px_subst.specs.Jobs.{JobParts, replaced, unchanged, worded, run_job}
+use Rattle.px_subst.specs.Replacers.{Spells, items_in_all, replaced_up_to}
+use Rattle.px_subst.proofs.MatchLemmas.{few_matches}
+
+-- what a caller sees of a match: its start, its end and where its slots lie
+abbrev Seen : Type 0
+Seen = ℕ × ℕ × (ℕ → Option ℕ)
+
+abbrev seen_bytes : List ℕ → Seen → Item → List ℕ
+seen_bytes text s (Byte b) = b ∷ []
+seen_bytes text s (Group n) = bytes_of text (cond (n == 0) (Some (s.0, s.1)) (both (s.2 (2 * n)) (s.2 (2 * n + 1))))
+
+seen_is : (text : List ℕ) (m : Match) (item : Item) → item_bytes text m item ≡ seen_bytes text (spans m) item
+seen_is text m (Byte b) = refl
+seen_is text m (Group n) = refl
+
+written_is : (text : List ℕ) (m : Match) (items : List Item) → written text items m ≡ flat_map (seen_bytes text (spans m)) items
+written_is text m [] = refl
+written_is text m (item ∷ items) = ap₂ ◌++◌ (seen_is text m item) (written_is text m items)
+
+replaced_same : (text : List ℕ) (items : List Item) (at : ℕ) (xs ys : List Match) → map spans xs ≡ map spans ys →
+    replaced_by (written text items) text at xs ≡ replaced_by (written text items) text at ys
+unfolding replaced_by
+replaced_same text items at [] [] e = refl
+replaced_same text items at [] (y ∷ ys) e = absurd (cc e)
+replaced_same text items at (x ∷ xs) [] e = absurd (cc e)
+replaced_same text items at (x ∷ xs) (y ∷ ys) e =
+    let first : spans x ≡ spans y = cc e in
+    let later : map spans xs ≡ map spans ys = cc e in
+    let wrote : written text items x ≡ written text items y =
+    written_is text x items ∙ (ap (λ (s : Seen). flat_map (seen_bytes text s) items) first ∙ sym (written_is text y items)) in
+    let tail : replaced_by (written text items) text x.trace.end xs ≡ replaced_by (written text items) text y.trace.end ys =
+    replaced_same text items x.trace.end xs ys later ∙ ap (λ n. replaced_by (written text items) text n ys) (ap (λ (s : Seen). s.1) first) in
+    ap₂ ◌++◌ (ap₂ (λ n w. slice_range text at n ++ w) (ap (λ (s : Seen). s.0) first) wrote) tail
+
+outcome_same : (text : List ℕ) (items : List Item) (xs ys : List Match) → map spans xs ≡ map spans ys →
+    let one : Outcome = record { text = replaced_by (written text items) text 0 xs; hits = length xs } in
+    one ≡ record { text = replaced_by (written text items) text 0 ys; hits = length ys }
+outcome_same text items xs ys e =
+    ap₂ (λ (t : List ℕ) (n : ℕ). let o : Outcome = record { text = t; hits = n } in o) (replaced_same text items 0 xs ys e)
+    (sym (length-map xs spans) ∙ ap length e ∙ length-map ys spans)
+
+module _ {a b : Re} (same : SameCaptures a b) (text : List ℕ) (bytes : (k : ℕ) → slice_index text k < 256) (items : List Item) where
+  pub replaced_alike : (every : Bool) → replaced every items a text ≡ replaced every items b text
+  replaced_alike true = outcome_same text items _ _ (find_all_alike same text bytes false)
+  replaced_alike false =
+      outcome_same text items _ _
+      (sym (take-map spans 1 (find_all a text)) ∙ ap (take 1) (find_all_alike same text bytes false) ∙ take-map spans 1 (find_all b text))
+
+-- the first matches up to a limit, which is 1 or more than there are
+chosen : (every : Bool) (limit : ℕ) (all : List Match) → limit ≡ cond every (2 ^ 64 - 1) 1 → length all ≤ 2 ^ 64 - 1 → take limit all ≡ cond every all (take 1 all)
+chosen true limit all is few = ap (λ n. take n all) is ∙ take_all (2 ^ 64 - 1) all few
+chosen false limit all is few = ap (λ n. take n all) is
+
+pub replaced_by_limit : (every : Bool) (limit : ℕ) (items : List Item) (re : Re) (text : List ℕ) → limit ≡ cond every (2 ^ 64 - 1) 1 →
+    length text + 1 ≤ 2 ^ 64 - 1 → replaced_up_to limit items re text ≡ replaced every items re text
+replaced_by_limit every limit items re text is short =
+    ap (λ (taken : List Match). let o : Outcome = record { text = replaced_by (written text items) text 0 taken; hits = length taken } in o)
+    (chosen every limit (find_all re text) is (omega (arith, few_matches re text)))
+
+-- what the built expression and parts make of a text is what the pattern and the substitute stand for
+pub spelled_run : (flags : Flags) (pattern substitute : List ℕ) (r : Replacer) → Spells flags pattern substitute r → (text : List ℕ) →
+    ((k : ℕ) → slice_index text k < 256) →
+    replaced r.every (items_in_all r.parts.items) (regex_pattern r.expression) text
+    ≡ unwrap_or (option_map (λ re. replaced flags.every (items_by flags.plain substitute) re text) (expression flags pattern)) (unchanged text)
+spelled_run flags pattern substitute r spells text bytes =
+    ap₂ (λ every items. replaced every items (regex_pattern r.expression) text) spells.every_is spells.items_are
+    ∙ replaced_alike spells.expression_is.2 text bytes (items_by flags.plain substitute) flags.every
+    ∙ sym (ap (λ o. unwrap_or (option_map (λ re. replaced flags.every (items_by flags.plain substitute) re text) o) (unchanged text)) spells.expression_is.1)
+
+-- what a job is run by
+abbrev RunsBy : JobParts → Vars → List ℕ → List ℕ → Type 0
+RunsBy job vars pattern substitute = (worded job.flags vars job.pattern ≡ pattern) × (worded job.flags vars job.substitute ≡ substitute)
+
+as_written : (job : JobParts) (vars : Vars) → job.flags.dynamic ≡ false → RunsBy job vars job.pattern job.substitute
+as_written job vars is = (cond-false _ _ _ is, cond-false _ _ _ is)
+
+as_filled : (job : JobParts) (vars : Vars) → job.flags.dynamic ≡ true → RunsBy job vars (filled vars job.pattern) (filled vars job.substitute)
+as_filled job vars is = (cond-true _ _ _ is, cond-true _ _ _ is)
+
+module _ (job : JobParts) (vars : Vars) (text pattern substitute : List ℕ) (runs : RunsBy job vars pattern substitute) where
+  run_is : unwrap_or (option_map (λ re. replaced job.flags.every (items_by job.flags.plain substitute) re text) (expression job.flags pattern)) (unchanged text)
+      ≡ run_job job vars text
+  unfolding run_job
+  run_is =
+      sym (ap₂ (λ p s. unwrap_or (option_map (λ re. replaced job.flags.every (items_by job.flags.plain s) re text) (expression job.flags p)) (unchanged text)) runs.0 runs.1)
+
+  built_run : (r : Replacer) → Spells job.flags pattern substitute r → ((k : ℕ) → slice_index text k < 256) →
+      replaced r.every (items_in_all r.parts.items) (regex_pattern r.expression) text ≡ run_job job vars text
+  built_run r spells bytes = spelled_run job.flags pattern substitute r spells text bytes ∙ run_is
+
+  unread_run : expression job.flags pattern ≡ None → unchanged text ≡ run_job job vars text
+  unread_run none =
+      sym (ap (λ o. unwrap_or (option_map (λ re. replaced job.flags.every (items_by job.flags.plain substitute) re text) o) (unchanged text)) none) ∙ run_is
+
+module _ (job : JobParts) (vars : Vars) (text : List ℕ) where
+  -- a job whose expression was built when it was read
+  pub ready_run : job.flags.dynamic ≡ false → (r : Replacer) → Spells job.flags job.pattern job.substitute r → ((k : ℕ) → slice_index text k < 256) →
+      replaced r.every (items_in_all r.parts.items) (regex_pattern r.expression) text ≡ run_job job vars text
+  ready_run is r spells bytes = built_run job vars text job.pattern job.substitute (as_written job vars is) r spells bytes
+
+  -- a job whose words are replaced first
+  pub filled_run : job.flags.dynamic ≡ true → (r : Replacer) → Spells job.flags (filled vars job.pattern) (filled vars job.substitute) r →
+      ((k : ℕ) → slice_index text k < 256) →
+      replaced r.every (items_in_all r.parts.items) (regex_pattern r.expression) text ≡ run_job job vars text
+  filled_run is r spells bytes = built_run job vars text (filled vars job.pattern) (filled vars job.substitute) (as_filled job vars is) r spells bytes
+
+  pub unread_filled : job.flags.dynamic ≡ true → expression job.flags (filled vars job.pattern) ≡ None → unchanged text ≡ run_job job vars text
+  unread_filled is none = unread_run job vars text (filled vars job.pattern) (filled vars job.substitute) (as_filled job vars is) none

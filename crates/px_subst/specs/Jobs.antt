@@ -1,0 +1,84 @@
+-- What a job's text spells, and what a job and a filter make of bytes.
+use Rattle.std.specs.Prelude.{ℕ, ◌+◌, ◌-◌, ◌^◌, min, Bool, false, ◌&&◌, not, ◌==◌, List, [], ◌∷◌, take, drop, length, fold, unwrap_or, option_map, Result, Ok, Err, is_some, if◌then◌else◌}
+use Rattle.std.specs.Option.{option_map_or}
+use Rattle.std.specs.Str.{byte}
+use Rattle.regex_hir.specs.Re.{Re}
+use Rattle.regex_hir.specs.Find.{find_all}
+use Rattle.regex.specs.Replace.{replaced_by}
+use Rattle.px_subst.specs.declared.flags.Flags.{Flags}
+use Rattle.px_subst.specs.declared.items.Item.{Item}
+use Rattle.px_subst.specs.declared.words.Vars.{Vars}
+use Rattle.px_subst.specs.declared.outcomes.Outcome.{Outcome}
+use Rattle.px_subst.specs.declared.faults.JobFault.{JobFault}
+use Rattle.px_subst.specs.declared.faults.JobFault.TheVariants.{NoDelimiter, Unfinished, BadFlag, BadRegex}
+use Rattle.px_subst.specs.Fields.{is_delimiter, field_end, unescaped}
+use Rattle.px_subst.specs.JobFlags.{flags_of}
+use Rattle.px_subst.specs.Substitutes.{items_by, written}
+use Rattle.px_subst.specs.Words.{filled}
+use Rattle.px_subst.specs.Expressions.{expression}
+
+-- a job as its text spells it
+pub record JobParts : Type 0 where
+  pub pattern : List ℕ
+  pub substitute : List ℕ
+  pub flags : Flags
+
+-- the job, or BadRegex where its expression isn't read; that of a job with `D` is read at each run
+abbrev pub checked : JobParts → Result JobParts JobFault
+checked job = if not job.flags.dynamic && not (is_some (expression job.flags job.pattern)) then Err BadRegex else Ok job
+
+-- the job of two fields and letters, or the first refusal
+abbrev pub with_flags : List ℕ → List ℕ → List ℕ → Result JobParts JobFault
+with_flags pattern substitute letters =
+    option_map_or (λ flags. checked (record { pattern = pattern; substitute = substitute; flags = flags }))
+    (flags_of letters) (Err BadFlag)
+
+-- the job of a pattern and of what follows the second delimiter
+abbrev pub with_substitute : ℕ → List ℕ → List ℕ → Result JobParts JobFault
+with_substitute d pattern rest =
+    option_map_or (λ n. with_flags pattern (unescaped d false (take n rest)) (drop (n + 1) rest))
+    (field_end d false rest) (Err Unfinished)
+
+-- the job of what follows the first delimiter
+abbrev pub with_delimiter : ℕ → List ℕ → Result JobParts JobFault
+with_delimiter d rest =
+    option_map_or (λ n. with_substitute d (unescaped d false (take n rest)) (drop (n + 1) rest))
+    (field_end d false rest) (Err Unfinished)
+
+-- what a text spells: `s`, a delimiter, a pattern, the delimiter, a substitute, the delimiter, flags; or the first refusal
+unfoldable pub job_of : List ℕ → Result JobParts JobFault
+job_of [] = Err NoDelimiter
+job_of (b ∷ []) = Err NoDelimiter
+job_of (b ∷ d ∷ rest) = if b == byte "s" && is_delimiter d then with_delimiter d rest else Err NoDelimiter
+
+-- the text as it is, with no hit
+abbrev pub unchanged : List ℕ → Outcome
+unchanged text = record { text = text; hits = 0 }
+
+-- the gaps between the matches, joined with what the items write at each; without `every` the first match is the only one
+abbrev pub replaced : Bool → List Item → Re → List ℕ → Outcome
+replaced every items re text =
+    let taken = if every then find_all re text else take 1 (find_all re text) in
+    record { text = replaced_by (written text items) text 0 taken; hits = length taken }
+
+-- a job's text, with values in the place of words where the flag `D` asks for that
+abbrev pub worded : Flags → Vars → List ℕ → List ℕ
+worded flags vars text = if flags.dynamic then filled vars text else text
+
+-- what a job makes of bytes; where its expression isn't read it changes nothing
+unfoldable pub run_job : JobParts → Vars → List ℕ → Outcome
+run_job job vars text =
+    unwrap_or
+    (option_map (λ re. replaced job.flags.every (items_by job.flags.plain (worded job.flags vars job.substitute)) re text)
+    (expression job.flags (worded job.flags vars job.pattern)))
+    (unchanged text)
+
+-- one job after the others: the text of the one before is its own, and the hits are added, up to the greatest u64
+abbrev pub run_next : Vars → Outcome → JobParts → Outcome
+run_next vars done job =
+    let next = run_job job vars done.text in
+    record { text = next.text; hits = min (done.hits + next.hits) (2 ^ 64 - 1) }
+
+-- what a filter makes of bytes, by its jobs in order
+unfoldable pub run_filter : List JobParts → Vars → List ℕ → Outcome
+run_filter jobs vars text = fold (run_next vars) (unchanged text) jobs

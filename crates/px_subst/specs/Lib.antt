@@ -1,0 +1,9 @@
+pub mod Fields
+pub mod JobFlags
+pub mod Substitutes
+pub mod Words
+pub mod Expressions
+pub mod Refusals
+pub mod Jobs
+pub mod Replacers
+pub mod Progress

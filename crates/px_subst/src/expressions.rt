@@ -1,0 +1,40 @@
+// The expression of a pattern.
+ghost use Rattle.std.specs.Prelude.{◌≡◌, None, IfOk, MatchOption};
+ghost use Rattle.regex.specs.Bytes.{regex_pattern};
+ghost use Rattle.px_subst.specs.Expressions.{expression, IsBuiltFrom};
+
+use crate::flags::Flags;
+use px_base::Mem;
+use regex::bytes::Regex;
+use regex::{Error, RegexBuilder};
+use std::alloc::Global;
+
+/// The expression of a pattern, or None where the library reads none or it nests too deep. The library's other refusals
+/// count as want of memory.
+pub(crate) fn build(alloc: Global, flags: Flags, pattern: &[u8]) -> Result<Option<Regex>, Mem>
+    ensures { IfOk result (λ found. MatchOption found (expression flags pattern.now ≡ None)
+        (λ regex. IsBuiltFrom flags pattern.now (regex_pattern regex))) }
+{
+    match str::from_utf8(pattern) {
+        Ok(source) => build_text(alloc, flags, source),
+        Err(_) => Ok(None),
+    }
+}
+
+fn build_text(alloc: Global, flags: Flags, source: &str) -> Result<Option<Regex>, Mem>
+    ensures { IfOk result (λ found. MatchOption found (expression flags source.now ≡ None)
+        (λ regex. IsBuiltFrom flags source.now (regex_pattern regex))) }
+{
+    match RegexBuilder::new(source)
+        .case_insensitive(flags.any_case)
+        .multi_line(flags.multi_line)
+        .dot_matches_new_line(flags.dot_all)
+        .swap_greed(flags.ungreedy)
+        .ignore_whitespace(flags.spaced)
+        .build_bytes(alloc)
+    {
+        Ok(regex) => Ok(Some(regex)),
+        Err(Error::Syntax(_)) => Ok(None),
+        Err(_) => Err(Mem),
+    }
+}
