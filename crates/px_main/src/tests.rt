@@ -9,6 +9,7 @@ const ANSWER: &str = "40\nHTTP/1.1 200 OK\r\nContent-Length: 2\r\n\r\nhi";
 const GET: &str = "GET http://a.test/x HTTP/1.1\r\nHost: a.test\r\n\r\n";
 
 /// What a run of the tool gave.
+#[derive(Drop)]
 struct Run {
     status: u8,
     out: Text,
@@ -17,7 +18,7 @@ struct Run {
 }
 
 /// Runs the tool over files in memory, where each file is a name and its content.
-fn run(
+fn run_over(
     alloc: Global,
     words: &[&str],
     named: &[(&str, &str)],
@@ -77,7 +78,7 @@ const SESSIONS: &[(&str, &str, &str)] = &[
 fn pass_serves_its_input_however_it_is_cut(rt: HostRuntime) -> Result<(), Fail> {
     for (input, out, sent) in SESSIONS {
         for cut in [1, 7, 100] {
-            let run = run(
+            let run = run_over(
                 rt.alloc(),
                 &["pass", "c", "o", "s"],
                 &[("c", ""), ("o", ANSWER)],
@@ -163,7 +164,7 @@ fn pass_refuses_other_words_and_files(rt: HostRuntime) -> Result<(), Fail> {
         if let Some(origin) = origin {
             named.push(("o", *origin))?;
         }
-        let run = run(rt.alloc(), words, &named, GET, 7, &[])?;
+        let run = run_over(rt.alloc(), words, &named, GET, 7, &[])?;
         assert_eq!(rt; run.status, *status, "{err}");
         assert_eq!(rt; run.err.as_bytes(), err.as_bytes());
         assert!(rt; run.out.is_empty());
@@ -175,7 +176,7 @@ fn pass_refuses_other_words_and_files(rt: HostRuntime) -> Result<(), Fail> {
 #[test]
 fn a_failing_call_of_the_files_gives_its_status(rt: HostRuntime) -> Result<(), Fail> {
     for (call, status, err) in [(0, 3, "c:0: 33 ReadFault\n"), (1, 3, ""), (2, 4, "")] {
-        let run = run(
+        let run = run_over(
             rt.alloc(),
             &["pass", "c", "o", "s"],
             &[("c", ""), ("o", ANSWER)],

@@ -1,0 +1,56 @@
+-- The patterns of sections (the manual's chapter on actions files, patterns).
+use Rattle.std.specs.Prelude.{ℕ, Bool, nat_eq, if◌then◌else◌, List, [], ◌∷◌, ◌++◌, length, drop, Option, Some, None, Result, Ok, Err}
+use Rattle.std.specs.List.{starts_with}
+use Rattle.std.specs.Str.{is_utf8}
+use Rattle.px_text.specs.declared.lines.Line.{Line}
+use Rattle.px_patterns.specs.Faults.{pattern_fault_number}
+use Rattle.px_patterns.specs.Patterns.{url_pattern, tag_pattern}
+use Rattle.px_patterns.specs.declared.faults.PatternFault.{PatternFault}
+use Rattle.px_patterns.specs.declared.faults.PatternFault.TheVariants as fault
+use Rattle.px_patterns.specs.declared.patterns.TagPattern.{TagPattern}
+use Rattle.px_action_files.specs.Faults.{result_map, Refused, at_line, and_then}
+use Rattle.px_action_files.specs.declared.patterns.TheConstants.{TAG, NO_REQUEST_TAG, NO_RESPONSE_TAG, CLIENT_TAG}
+use Rattle.px_action_files.specs.declared.patterns.Pattern.{Pattern}
+use Rattle.px_action_files.specs.declared.patterns.Pattern.TheVariants as pattern
+use Rattle.px_action_files.specs.declared.patterns.Tags.{Tags}
+use Rattle.px_action_files.specs.declared.patterns.Tags.TheVariants as tags
+
+-- the word with which the patterns of some tags begin
+abbrev pub word_of : Tags → List ℕ
+word_of tags.Any = TAG.now
+word_of tags.NoneOfRequest = NO_REQUEST_TAG.now
+word_of tags.NoneOfResponse = NO_RESPONSE_TAG.now
+word_of tags.OfClient = CLIENT_TAG.now
+
+abbrev pub begins : List ℕ → Tags → Bool
+begins text which = starts_with nat_eq text (word_of which)
+
+-- the tags of which a text speaks, if it begins with one of the words
+unfoldable pub tags_of : List ℕ → Option Tags
+tags_of text =
+    if begins text tags.Any then Some tags.Any
+    else if begins text tags.NoneOfRequest then Some tags.NoneOfRequest
+    else if begins text tags.NoneOfResponse then Some tags.NoneOfResponse
+    else if begins text tags.OfClient then Some tags.OfClient
+    else None
+
+abbrev pub pattern_on : Tags → TagPattern → Pattern
+pattern_on tags.Any p = pattern.Tag p
+pattern_on tags.NoneOfRequest p = pattern.NoRequestTag p
+pattern_on tags.NoneOfResponse p = pattern.NoResponseTag p
+pattern_on tags.OfClient p = pattern.ClientTag p
+
+-- a tag pattern behind its word, or a URL pattern
+abbrev pub pattern_by : Option Tags → List ℕ → Result Pattern PatternFault
+pattern_by None text = result_map pattern.Url (url_pattern text)
+pattern_by (Some which) text = result_map (pattern_on which) (tag_pattern (drop (length (word_of which)) text))
+
+-- the pattern of a line; bytes that aren't UTF-8 are no expression
+unfoldable pub line_pattern : List ℕ → Result Pattern PatternFault
+line_pattern text = if is_utf8 text then pattern_by (tags_of text) text else Err fault.BadRegex
+
+-- the patterns of lines behind those before them, or the first refusal
+unfoldable pub patterns_of : List Line → List Pattern → Result (List Pattern) Refused
+patterns_of [] before = Ok before
+patterns_of (line ∷ lines) before =
+    and_then (at_line line.number pattern_fault_number (line_pattern line.text)) (λ p. patterns_of lines (before ++ p ∷ []))

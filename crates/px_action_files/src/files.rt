@@ -1,0 +1,96 @@
+// Actions files.
+ghost use Rattle.std.specs.Prelude.{◌≡◌, ◌≤◌, [], length, map, Ok, IfErr, IfOk, OnOk};
+ghost use Rattle.std.specs.List.{position_or_len};
+ghost use Rattle.px_action_files.specs.Faults.{IsReported};
+ghost use Rattle.px_action_files.specs.Files.{file_sections, cut, is_heading};
+ghost use Rattle.px_action_files.specs.Meanings.{seen_section};
+
+use crate::faults::{FileFault, PATTERN_BEFORE_SECTION};
+use crate::headings::is_heading;
+use crate::readings::Reading;
+use crate::sections::Section;
+use px_base::List;
+use px_text::Line;
+use std::alloc::Global;
+
+/// The sections of an actions file, in their order.
+#[derive(Drop)]
+pub struct ActionFile {
+    pub sections: List<Section>,
+}
+
+impl ActionFile {
+    /// Reads the lines of an actions file. The refusal at the first line that has one is answered.
+    ///
+    /// A line that begins with `{` is a heading. `{{alias}}`, `{{settings}}` and `{{description}}` begin blocks; the
+    /// lines of the latter two have no effect. Any other heading begins a section: its words stand between its braces,
+    /// and the lines below it are patterns. Aliases are seen in their own file alone.
+    pub fn read(alloc: Global, lines: &[Line]) -> Result<ActionFile, FileFault>
+        ensures sections { IfOk result (λ file. file_sections lines.now ≡ Ok (map seen_section file.sections)) }
+        ensures refused { IfErr result (IsReported (file_sections lines.now)) }
+    {
+        let mut reading = Reading::begin(alloc);
+        let mut rest = without_front(lines)?;
+        'headings: while let Some((heading, others)) = rest.split_first() {
+            let (body, later) = split_body(others);
+            match reading.add(alloc, heading, body) {
+                Ok(()) => {}
+                Err(fault) => return Err(fault),
+            }
+            rest = later;
+        }
+        Ok(ActionFile {
+            sections: reading.sections,
+        })
+    }
+}
+
+/// The lines, where no line stands before the first heading.
+#[tactic(auto, unfolding(crate::specs::Files::file_sections))]
+fn without_front(lines: &[Line]) -> Result<&[Line], FileFault>
+    ensures same { IfOk result (λ rest. rest.now ≡ lines.now) }
+    ensures front { OnOk result ((cut lines.now).front ≡ []) }
+    ensures refused { IfErr result (IsReported (file_sections lines.now)) }
+{
+    match lines.split_first() {
+        Some((line, _)) => {
+            if is_heading(line) {
+                Ok(lines)
+            } else {
+                Err(FileFault::At {
+                    line: line.number,
+                    number: PATTERN_BEFORE_SECTION,
+                })
+            }
+        }
+        None => Ok(lines),
+    }
+}
+
+/// The lines up to the next heading, and the lines from it on.
+#[tactic(auto, using(crate::proofs::CutLemmas::cut_laws))]
+fn split_body(lines: &[Line]) -> (&[Line], &[Line])
+    ensures body { result.0.now ≡ (cut lines.now).front }
+    ensures later { (cut result.1.now).blocks ≡ (cut lines.now).blocks }
+    ensures front { (cut result.1.now).front ≡ [] }
+    ensures shorter { length result.1.now ≤ length lines.now }
+{
+    lines.split_at(body_length(lines))
+}
+
+/// How many lines stand before the next heading.
+fn body_length(lines: &[Line]) -> usize
+    ensures value { result ≡ position_or_len is_heading lines.now }
+    ensures within { result ≤ length lines.now }
+{
+    let mut rest = lines;
+    let mut len = 0;
+    'lines: while let Some((line, others)) = rest.split_first() {
+        if is_heading(line) {
+            return len;
+        }
+        rest = others;
+        len += 1;
+    }
+    len
+}

@@ -1,0 +1,171 @@
+// The patterns of sections.
+ghost use Rattle.std.specs.Prelude.{◌≡◌, [], Ok, Some, None, IfErr, IfOk, MatchOption, nat_eq, true, false, length, drop};
+ghost use Rattle.std.specs.List.{starts_with};
+ghost use Rattle.std.specs.Str.{is_utf8};
+ghost use Rattle.px_patterns.specs.Faults.{IsPatternRefusal, pattern_fault_number};
+ghost use Rattle.px_patterns.specs.Patterns.{tag_pattern};
+ghost use Rattle.px_action_files.specs.Faults.{result_map, IsReported, at_line};
+ghost use Rattle.px_action_files.specs.Patterns.{word_of, tags_of, pattern_on, pattern_by, line_pattern, patterns_of};
+
+use crate::faults::FileFault;
+use px_base::List;
+use px_patterns::{PatternFault, TagPattern, UrlPattern};
+use px_text::Line;
+use std::alloc::Global;
+
+pub const TAG: &str = "TAG:";
+
+pub const NO_REQUEST_TAG: &str = "NO-REQUEST-TAG:";
+
+pub const NO_RESPONSE_TAG: &str = "NO-RESPONSE-TAG:";
+
+pub const CLIENT_TAG: &str = "CLIENT-TAG:";
+
+/// A pattern that switches a section on.
+#[derive(Drop)]
+pub enum Pattern {
+    /// For the URLs that match.
+    Url(UrlPattern),
+    /// Where a tag matches.
+    Tag(TagPattern),
+    /// Where no tag of the request matches.
+    NoRequestTag(TagPattern),
+    /// Where no tag of the response matches.
+    NoResponseTag(TagPattern),
+    /// Where a tag of the client matches.
+    ClientTag(TagPattern),
+}
+
+/// The tags of which a tag pattern speaks.
+#[derive(Clone, Copy, Debug, PartialEq, Eq)]
+pub enum Tags {
+    Any,
+    NoneOfRequest,
+    NoneOfResponse,
+    OfClient,
+}
+
+impl Tags {
+    fn pattern(self, pattern: TagPattern) -> Pattern
+        ensures { result ≡ pattern_on self pattern }
+    {
+        match self {
+            Tags::Any => Pattern::Tag(pattern),
+            Tags::NoneOfRequest => Pattern::NoRequestTag(pattern),
+            Tags::NoneOfResponse => Pattern::NoResponseTag(pattern),
+            Tags::OfClient => Pattern::ClientTag(pattern),
+        }
+    }
+}
+
+/// What stands behind a front, if a text begins with it.
+fn behind<'a>(text: &'a str, front: &str) -> Option<&'a str>
+    ensures { MatchOption result (starts_with nat_eq text.now front.now ≡ false) (λ rest. (starts_with nat_eq text.now front.now ≡ true) × (rest.now ≡ drop (length front.now) text.now)) }
+{
+    text.strip_prefix(front)
+}
+
+/// The tags of which a text speaks and what stands behind their word, if it begins with one of the words.
+#[tactic(auto, unfolding(crate::specs::Patterns::tags_of))]
+fn split_tags(text: &str) -> Option<(Tags, &str)>
+    ensures { MatchOption result (tags_of text.now ≡ None) (λ t. (tags_of text.now ≡ Some t.0) × (t.1.now ≡ drop (length (word_of t.0)) text.now)) }
+{
+    if let Some(tag) = behind(text, TAG) {
+        return Some((Tags::Any, tag));
+    }
+    if let Some(tag) = behind(text, NO_REQUEST_TAG) {
+        return Some((Tags::NoneOfRequest, tag));
+    }
+    if let Some(tag) = behind(text, NO_RESPONSE_TAG) {
+        return Some((Tags::NoneOfResponse, tag));
+    }
+    match behind(text, CLIENT_TAG) {
+        Some(tag) => Some((Tags::OfClient, tag)),
+        None => None,
+    }
+}
+
+#[tactic(auto, using(crate::proofs::PatternLemmas::refusal_map))]
+fn tag_pattern(alloc: Global, which: Tags, tag: &str) -> Result<Pattern, PatternFault>
+    ensures pattern { IfOk result (λ p. result_map (pattern_on which) (tag_pattern tag.now) ≡ Ok p) }
+    ensures refused { IfErr result (IsPatternRefusal (result_map (pattern_on which) (tag_pattern tag.now))) }
+{
+    match TagPattern::read(alloc, tag) {
+        Ok(pattern) => Ok(which.pattern(pattern)),
+        Err(fault) => Err(fault),
+    }
+}
+
+#[tactic(auto, using(crate::proofs::PatternLemmas::refusal_map))]
+fn url_pattern(alloc: Global, text: &str) -> Result<Pattern, PatternFault>
+    ensures pattern { IfOk result (λ p. pattern_by None text.now ≡ Ok p) }
+    ensures refused { IfErr result (IsPatternRefusal (pattern_by None text.now)) }
+{
+    match UrlPattern::read(alloc, text) {
+        Ok(pattern) => Ok(Pattern::Url(pattern)),
+        Err(fault) => Err(fault),
+    }
+}
+
+/// The pattern of a text: `TAG:`, `NO-REQUEST-TAG:`, `NO-RESPONSE-TAG:` and `CLIENT-TAG:` begin tag patterns, all else is
+/// a URL pattern.
+#[tactic(auto, using(crate::proofs::PatternLemmas::refusal_same))]
+fn text_pattern(alloc: Global, text: &str) -> Result<Pattern, PatternFault>
+    ensures pattern { IfOk result (λ p. pattern_by (tags_of text.now) text.now ≡ Ok p) }
+    ensures refused { IfErr result (IsPatternRefusal (pattern_by (tags_of text.now) text.now)) }
+{
+    match split_tags(text) {
+        Some((which, tag)) => tag_pattern(alloc, which, tag),
+        None => url_pattern(alloc, text),
+    }
+}
+
+/// The bytes as a text, if they are UTF-8.
+#[tactic(auto, using(crate::proofs::PatternLemmas::text_laws))]
+fn as_text(bytes: &[u8]) -> Option<&str>
+    ensures { MatchOption result (is_utf8 bytes.now ≡ false) (λ text. (is_utf8 bytes.now ≡ true) × (text.now ≡ bytes.now)) }
+{
+    match str::from_utf8(bytes) {
+        Ok(text) => Some(text),
+        Err(_) => None,
+    }
+}
+
+/// The pattern of a line. Bytes that aren't UTF-8 are no expression.
+#[tactic(auto, using(crate::proofs::PatternLemmas::refusal_same), unfolding(crate::specs::Patterns::line_pattern))]
+fn line_pattern(alloc: Global, bytes: &[u8]) -> Result<Pattern, PatternFault>
+    ensures pattern { IfOk result (λ p. line_pattern bytes.now ≡ Ok p) }
+    ensures refused { IfErr result (IsPatternRefusal (line_pattern bytes.now)) }
+{
+    match as_text(bytes) {
+        Some(text) => text_pattern(alloc, text),
+        None => Err(PatternFault::BadRegex),
+    }
+}
+
+#[tactic(auto, using(crate::proofs::PatternLemmas::refusal_reported))]
+fn pattern_at(alloc: Global, line: &Line) -> Result<Pattern, FileFault>
+    ensures pattern { IfOk result (λ p. at_line line.now.number pattern_fault_number (line_pattern line.now.text) ≡ Ok p) }
+    ensures refused { IfErr result (IsReported (at_line line.now.number pattern_fault_number (line_pattern line.now.text))) }
+{
+    match line_pattern(alloc, line.text.as_bytes()) {
+        Ok(pattern) => Ok(pattern),
+        Err(fault) => Err(FileFault::of_pattern(line.number, fault)),
+    }
+}
+
+/// The patterns of lines, or the first refusal.
+#[tactic(auto, using(crate::proofs::ResultLemmas::reported_then, crate::proofs::ResultLemmas::reported_same), unfolding(crate::specs::Patterns::patterns_of))]
+pub(crate) fn read_patterns(alloc: Global, lines: &[Line]) -> Result<List<Pattern>, FileFault>
+    ensures patterns { IfOk result (λ ps. patterns_of lines.now [] ≡ Ok ps) }
+    ensures refused { IfErr result (IsReported (patterns_of lines.now [])) }
+{
+    let mut patterns = Vec::new(alloc);
+    let mut rest = lines;
+    'lines: while let Some((line, others)) = rest.split_first() {
+        let pattern = pattern_at(alloc, line)?;
+        patterns.push(pattern)?;
+        rest = others;
+    }
+    Ok(List::from_vec(patterns))
+}

@@ -1,0 +1,70 @@
+-- What a built regex says of the expression of its text, and what a refusal says.
+use Rattle.std.proofs.Common.{◌≡◌, ◌<◌, ◌≤◌, ℕ, Bool, true, false, List, Option, None, Some, chars, inl, inr, refl, ap, sym, arith, length, ◌∙◌}
+use Rattle.std.specs.Prelude.{◌⊎◌, ◌≢◌, IsSomeAnd, IfSome, nat_le, if◌then◌else◌, is_some, option_and_then, Err, Ok, slice_index}
+use Rattle.std.proofs.lemmas.Bool.{le-leb, lt-leb}
+use Rattle.regex_hir.specs.declared.hir.Hir.{Hir}
+use Rattle.regex_hir.specs.Find.{find}
+use Rattle.regex_hir.specs.Meaning.{meaning}
+use Rattle.regex_hir.specs.Re.{Re}
+use Rattle.regex_syntax.specs.Brackets.{Nested}
+use Rattle.regex_syntax.specs.Captures.{SameCaptures}
+use Rattle.regex_syntax.specs.Grammar.{Names, read, group_count}
+use Rattle.regex_syntax.specs.Verdict.{Reads, Refuses, default_config}
+use Rattle.regex_syntax.specs.declared.Config.{Config}
+use Rattle.regex_syntax.specs.declared.error.ErrorKind.{ErrorKind}
+use Rattle.regex_syntax.specs.declared.error.ErrorKind.TheVariants.{OutOfMemory}
+use Rattle.regex.proofs.ForCallers.{is_match_alike}
+use Rattle.regex.specs.declared.builder.RegexBuilder.{RegexBuilder}
+use Rattle.px_patterns.specs.declared.faults.PatternFault.TheVariants.{BadRegex}
+use Rattle.px_patterns.specs.Expressions.{expression, expression_of, finds, is_expression, options}
+
+-- an expression that nests within the limit
+abbrev within_limit : Option (Nested Re × Names) → Option Re
+within_limit o = option_and_then (λ ((re, names) : Nested Re × Names). if nat_le re.depth 250 then Some re.value else None) o
+
+read_within : (o : Option (Nested Re × Names)) (hir : Hir) (names : Names) → IsSomeAnd o (λ (re, found).
+    (re.depth ≤ 250) × SameCaptures (meaning hir) re.value × (names ≡ found) × (group_count (meaning hir) ≤ length names)) →
+    (re : Re) × (within_limit o ≡ Some re) × SameCaptures (meaning hir) re
+read_within None hir names read = absurd read
+read_within (Some (re, found)) hir names read = (re.value, rw (le-leb re.depth 250 read.0) refl, read.1)
+
+-- the expression of a text from which a tree was read
+pub expression_from_reads : (text : List ℕ) (config : Config) (source : List ℕ) (hir : Hir) (names : Names) → config ≡ options → source ≡ text → Reads config source hir names →
+    (re : Re) × (expression text ≡ Some re) × SameCaptures (meaning hir) re
+unfolding Reads expression
+expression_from_reads text config source hir names is_config is_source reads = read_within (read options (chars text)) hir names (rw (is_config, is_source) at reads)
+
+pub expression_of-reads : (text shown : List ℕ) (config : Config) (source : List ℕ) (hir : Hir) (names : Names) → config ≡ options → source ≡ text → shown ≡ text → Reads config source hir names → expression_of text ≡ Ok shown
+expression_of-reads text shown config source hir names is_config is_source is_shown reads =
+    rw (ap is_some (expression_from_reads text config source hir names is_config is_source reads).1) (ap (λ t. Ok t) (sym is_shown))
+
+deep_or_unread : (o : Option (Nested Re × Names)) → IfSome o (λ (re, found). 250 < re.depth) → within_limit o ≡ None
+deep_or_unread None deep = refl
+deep_or_unread (Some (re, found)) deep = rw (lt-leb re.depth 250 deep) refl
+
+-- a refusal of the syntax: no expression, or one that nests too deep
+pub unread_from_refuses : (text : List ℕ) (config : Config) (source : List ℕ) (kind : ErrorKind) → config ≡ options → source ≡ text → kind ≢ OutOfMemory → Refuses config source kind → expression text ≡ None
+unfolding Refuses expression
+unread_from_refuses text config source kind is_config is_source memory refuses =
+    elim (rw (is_config, is_source) at refuses) [
+      | inl is ↦ absurd (memory is)
+      | inr other ↦ elim other [ inl none ↦ ap within_limit none | inr deep ↦ deep_or_unread (read options (chars text)) deep.1 ]
+    ]
+
+pub refusal_of : (text : List ℕ) → expression text ≡ None → expression_of text ≡ Err BadRegex
+refusal_of text none = rw none refl
+
+-- what the builder's steps make of the options
+pub options_of : (new set : RegexBuilder) → new.config ≡ default_config → set ≡ record new { config = record new.config { flags = record new.config.flags { case_insensitive = true } } } →
+    record set.config { utf8 = false } ≡ options
+options_of new set is_new is_set =
+    ap (λ (b : RegexBuilder). record b.config { utf8 = false }) is_set
+    ∙ ap (λ (k : Config). record k { flags = record k.flags { case_insensitive = true }; utf8 = false }) is_new
+
+-- a search by a built expression finds what the expression of its text does
+pub finds_from_reads : (text bytes : List ℕ) (config : Config) (hir : Hir) (names : Names) → config ≡ options → Reads config text hir names → ((k : ℕ) → slice_index bytes k < 256) →
+    is_some (find (meaning hir) bytes 0) ≡ finds text bytes
+unfolding finds
+finds_from_reads text bytes config hir names is_config reads fits =
+    let built = expression_from_reads text config text hir names is_config refl reads in
+    is_match_alike built.2 bytes fits false 0 ∙ sym (ap (λ (o : Option Re). is_some (option_and_then (λ re. find re bytes 0) o)) built.1)

@@ -1,0 +1,318 @@
+-- A glob matches a label exactly where the label can be cut into pieces, and where a scan from `*` to `*` finds it.
+use Rattle.std.proofs.Common.{◌≡◌, ◌≢◌, ℕ, zero, suc, ◌+◌, ◌-◌, ◌<◌, ◌≤◌, ◌⊎◌, ◌↔◌, Bool, true, false, not, ◌&&◌, ◌||◌, IsTrue, List, [], ◌∷◌, ◌++◌, length, take, drop, map, refl, ap, sym, ◌∙◌, subst, arith, cond, inl, inr, Option, None, Some, append-nil, append_assoc, length-append, length-drop}
+use Rattle.std.specs.Prelude.{◌==◌, nat_le, nat_lt, if◌then◌else◌, slice_index, slice_index_or}
+use Rattle.std.specs.Char.{eq_ignore_ascii_case, to_ascii_lowercase}
+use Rattle.std.specs.List.{list_any}
+use Rattle.std.specs.Str.{str_eq_ignore_ascii_case}
+use Rattle.std.proofs.lemmas.Bool.{both_ways, false≢true, cases_Bool, and_parts, or_cases, and_from, eqb-true, eq-eqb, ne_eqb, le-leb, lt-leb, and_right}
+use Rattle.std.proofs.lemmas.List.{drop-drop, drop_all, drop_at, drop_more, take-append-drop, take_rest}
+use Rattle.std.proofs.lemmas.Bool.Decides.{same_from_decides}
+use Rattle.std.specs.Cmp.Lexicographic.{bytes_decides}
+use Rattle.px_patterns.specs.declared.labels.Item.{Item}
+use Rattle.px_patterns.specs.declared.labels.Item.TheVariants.{AnyByte, AnyRun, Byte, Class}
+use Rattle.px_patterns.specs.declared.labels.LabelPattern.{LabelPattern}
+use Rattle.px_patterns.specs.declared.labels.LabelPattern.TheVariants.{Glob, Plain}
+use Rattle.px_patterns.specs.Globs.{ArePieces, CanBeCut, IsPiece, glob_matches, items_in, joined_pieces, label_matches, some_tail, takes, takes_first}
+use Rattle.px_patterns.specs.Runs.{behind_first, behind_run, has_run, is_run, takes_front}
+
+-- ---- tests
+
+pub or_right : (a b : Bool) → b ≡ true → (a || b) ≡ true
+or_right true b is = refl
+or_right false b is = is
+
+and_assoc : (a b c : Bool) → (a && (b && c)) ≡ (a && b && c)
+and_assoc true b c = refl
+and_assoc false b c = refl
+
+or_absorbs : (a b : Bool) → (b ≡ true → a ≡ true) → (a || b) ≡ a
+or_absorbs true b there = refl
+or_absorbs false true there = absurd (cc (there refl))
+or_absorbs false false there = refl
+
+some_same : {X : Type 0} (x y : X) → Some x ≡ Some y → x ≡ y
+some_same x y e = cc e
+
+none_some : {X : Type 0} (x : X) → None ≡ Some x → ⊥
+none_some x e = absurd (cc e)
+
+-- two tests that pass together are the same
+pub same_test : (a b : Bool) → (a ≡ true → b ≡ true) → (b ≡ true → a ≡ true) → a ≡ b
+same_test true true there back = refl
+same_test true false there back = absurd (cc (there refl))
+same_test false true there back = absurd (cc (back refl))
+same_test false false there back = refl
+
+-- ---- tails
+
+-- a tail that passes
+pub some_tail-at : {X : Type 0} (test : List X → Bool) (front back : List X) → test back ≡ true → some_tail test (front ++ back) ≡ true
+some_tail-at test [] [] passes = passes
+some_tail-at test [] (x ∷ back) passes = rw passes refl
+some_tail-at test (x ∷ front) back passes = or_right (test (x ∷ front ++ back)) (some_tail test (front ++ back)) (some_tail-at test front back passes)
+
+pub tail_of-some : {X : Type 0} (test : List X → Bool) (xs : List X) → some_tail test xs ≡ true → (front : List X) × (back : List X) × (xs ≡ front ++ back) × (test back ≡ true)
+tail_of-some test [] passes = ([], [], refl, passes)
+tail_of-some test (x ∷ xs) passes =
+    elim (or_cases (test (x ∷ xs)) (some_tail test xs) passes) [
+      | inl here ↦ ([], x ∷ xs, refl, here)
+      | inr later ↦ let found = tail_of-some test xs later in (x ∷ found.0, found.1, ap (λ l. x ∷ l) found.2, found.3)
+    ]
+
+-- ---- cuts
+
+-- the first piece is a byte that the item takes
+first_piece : (item : Item) (piece : List ℕ) → is_run item ≡ false → IsPiece item piece → (b : ℕ) × (piece ≡ b ∷ []) × IsTrue (takes item b)
+first_piece AnyRun piece fixed is = absurd (cc fixed)
+first_piece AnyByte piece fixed is = is
+first_piece (Byte a) piece fixed is = is
+first_piece (Class ranges) piece fixed is = is
+
+piece_of : (item : Item) (b : ℕ) → is_run item ≡ false → takes item b ≡ true → IsPiece item (b ∷ [])
+piece_of AnyRun b fixed is = absurd (cc fixed)
+piece_of AnyByte b fixed is = (b, refl, is)
+piece_of (Byte a) b fixed is = (b, refl, is)
+piece_of (Class ranges) b fixed is = (b, refl, is)
+
+glob-fixed : (item : Item) (items : List Item) (label : List ℕ) → is_run item ≡ false → glob_matches (item ∷ items) label ≡ takes_first item (glob_matches items) label
+unfolding glob_matches
+glob-fixed AnyRun items label fixed = absurd (cc fixed)
+glob-fixed AnyByte items label fixed = refl
+glob-fixed (Byte a) items label fixed = refl
+glob-fixed (Class ranges) items label fixed = refl
+
+glob-run : (items : List Item) (label : List ℕ) → glob_matches (AnyRun ∷ items) label ≡ some_tail (glob_matches items) label
+unfolding glob_matches
+glob-run items label = refl
+
+-- a cut of a label that the glob matches
+pub cut-from-glob : (items : List Item) (label : List ℕ) → glob_matches items label ≡ true → CanBeCut items label
+unfolding glob_matches
+cut-from-glob [] [] matches = ([], tt, refl)
+cut-from-glob [] (b ∷ label) matches = absurd (omega (arith, eqb-true (length (b ∷ label)) 0 matches))
+cut-from-glob (AnyRun ∷ items) label matches =
+    let found = tail_of-some (glob_matches items) label matches in
+    let later = cut-from-glob items found.1 found.3 in
+    (found.0 ∷ later.0, (tt, later.1), ap (λ l. found.0 ++ l) later.2 ∙ sym found.2)
+cut-from-glob (item ∷ items) [] matches = absurd (cc matches)
+cut-from-glob (item ∷ items) (b ∷ label) matches =
+    let both = and_parts (takes item b) (glob_matches items label) matches in
+    let later = cut-from-glob items label both.1 in
+    ((b ∷ []) ∷ later.0, ((b, refl, both.0), later.1), ap (λ l. b ∷ l) later.2)
+
+pub glob-from-cut : (items : List Item) (pieces : List (List ℕ)) → ArePieces items pieces → glob_matches items (joined_pieces pieces) ≡ true
+unfolding glob_matches
+glob-from-cut [] [] are = refl
+glob-from-cut [] (piece ∷ pieces) are = absurd are
+glob-from-cut (item ∷ items) [] are = absurd are
+glob-from-cut (AnyRun ∷ items) (piece ∷ pieces) are = some_tail-at (glob_matches items) piece (joined_pieces pieces) (glob-from-cut items pieces are.1)
+glob-from-cut (item ∷ items) (piece ∷ pieces) are =
+    rw are.0.1 (and_from (takes item are.0.0) (glob_matches items (joined_pieces pieces)) are.0.2 (glob-from-cut items pieces are.1))
+
+-- ---- from `*` to `*`
+
+-- items without `*` take bytes at the front
+first_fixed : (item : Item) (items : List Item) → has_run (item ∷ items) ≡ false → is_run item ≡ false
+first_fixed item items fixed = elim (cases_Bool (is_run item)) [ inl does ↦ absurd (both_ways (has_run (item ∷ items)) fixed (rw does refl)) | inr fails ↦ fails ]
+
+rest_fixed : (item : Item) (items : List Item) → has_run (item ∷ items) ≡ false → has_run items ≡ false
+rest_fixed item items fixed = rw (first_fixed item items fixed) at fixed
+
+pub glob-front : (front more : List Item) (label : List ℕ) → has_run front ≡ false → glob_matches (front ++ more) label ≡ (takes_front front label && glob_matches more (drop (length front) label))
+unfolding takes_front
+glob-front [] more label fixed = refl
+glob-front (item ∷ front) more [] fixed = glob-fixed item (front ++ more) [] (first_fixed item front fixed)
+glob-front (item ∷ front) more (b ∷ label) fixed =
+    glob-fixed item (front ++ more) (b ∷ label) (first_fixed item front fixed)
+    ∙ ap (λ t. takes item b && t) (glob-front front more label (rest_fixed item front fixed))
+    ∙ and_assoc (takes item b) (takes_front front label) (glob_matches more (drop (length front) label))
+
+-- what the items between two `*` take
+pub run_front : (items front : List Item) (behind : Option (List Item)) (label : List ℕ) → items ≡ front ++ behind_run behind → has_run front ≡ false →
+    glob_matches items label ≡ (takes_front front label && glob_matches (behind_run behind) (drop (length front) label))
+run_front items front behind label is fixed = ap (λ l. glob_matches l label) is ∙ glob-front front (behind_run behind) label fixed
+
+pub no_front : (items front : List Item) (behind : Option (List Item)) (label : List ℕ) → items ≡ front ++ behind_run behind → has_run front ≡ false → takes_front front label ≡ false → false ≡ glob_matches items label
+no_front items front behind label is fixed lacks = sym (run_front items front behind label is fixed ∙ rw lacks refl)
+
+-- the front is taken, and a `*` follows, or nothing
+pub front_and_run : (items front more : List Item) (label : List ℕ) → items ≡ front ++ AnyRun ∷ more → has_run front ≡ false → takes_front front label ≡ true →
+    some_tail (glob_matches more) (drop (length front) label) ≡ glob_matches items label
+front_and_run items front more label is fixed takes = sym (run_front items front (Some more) label is fixed ∙ rw takes (glob-run more (drop (length front) label)))
+
+pub front_alone : (items front : List Item) (label : List ℕ) → items ≡ front ++ [] → has_run front ≡ false → takes_front front label ≡ true → (length (drop (length front) label) == 0) ≡ glob_matches items label
+unfolding glob_matches
+front_alone items front label is fixed takes = sym (run_front items front None label is fixed ∙ rw takes refl)
+
+pub takes_front-fits : (items : List Item) (bytes : List ℕ) → takes_front items bytes ≡ true → length items ≤ length bytes
+unfolding takes_front
+takes_front-fits [] bytes all = omega arith
+takes_front-fits (item ∷ items) [] all = absurd (cc all)
+takes_front-fits (item ∷ items) (b ∷ bytes) all = omega (arith, takes_front-fits items bytes (and_parts (takes item b) (takes_front items bytes) all).1)
+
+-- ---- the last items
+
+whole_front : (front : List Item) (label : List ℕ) → has_run front ≡ false → glob_matches front label ≡ (takes_front front label && (length (drop (length front) label) == 0))
+unfolding glob_matches
+whole_front front label fixed = ap (λ l. glob_matches l label) (sym (append-nil front)) ∙ glob-front front [] label fixed
+
+-- items without `*` behind a `*` take the last bytes
+pub last_items : (front : List Item) (label : List ℕ) → has_run front ≡ false → length front ≤ length label → takes_front front (drop (length label - length front) label) ≡ some_tail (glob_matches front) label
+last_items front label fixed fits =
+    let back = drop (length label - length front) label in
+    same_test (takes_front front back) (some_tail (glob_matches front) label)
+    (λ takes. subst (λ (l : List ℕ). some_tail (glob_matches front) l ≡ true) (take-append-drop (length label - length front) label)
+    (some_tail-at (glob_matches front) (take (length label - length front) label) back
+    (whole_front front back fixed ∙ and_from (takes_front front back) (length (drop (length front) back) == 0) takes
+    (eq-eqb (length (drop (length front) back)) 0 (omega (arith, length-drop (length front) back, length-drop (length label - length front) label))))))
+    (λ some.
+    let found = tail_of-some (glob_matches front) label some in
+    let both = and_parts (takes_front front found.1) (length (drop (length front) found.1) == 0) (sym (whole_front front found.1 fixed) ∙ found.3) in
+    let ends : length found.1 ≡ length front =
+    omega (arith, eqb-true (length (drop (length front) found.1)) 0 both.1, length-drop (length front) found.1, takes_front-fits front found.1 both.0) in
+    subst (λ (l : List ℕ). takes_front front l ≡ true)
+    (sym (ap (drop (length label - length front)) found.2
+    ∙ drop_at found.0 found.1 (length label - length front) (omega (arith, ap length found.2, length-append found.0 found.1, ends)))) both.0)
+
+pub too_few : (front : List Item) (label : List ℕ) → has_run front ≡ false → length label < length front → false ≡ some_tail (glob_matches front) label
+too_few front label fixed short =
+    same_test false (some_tail (glob_matches front) label) (λ no. absurd (false≢true no))
+    (λ some.
+    let found = tail_of-some (glob_matches front) label some in
+    let both = and_parts (takes_front front found.1) (length (drop (length front) found.1) == 0) (sym (whole_front front found.1 fixed) ∙ found.3) in
+    absurd (omega (arith, ap length found.2, length-append found.0 found.1, takes_front-fits front found.1 both.0)))
+
+-- ---- the first place between two `*`
+
+some_tail-drop : {X : Type 0} (test : List X → Bool) (n : ℕ) (xs : List X) → some_tail test (drop n xs) ≡ true → some_tail test xs ≡ true
+some_tail-drop test n xs some =
+    let found = tail_of-some test (drop n xs) some in
+    let whole : (take n xs ++ found.0) ++ found.1 ≡ xs = append_assoc (take n xs) found.0 found.1 ∙ (ap (λ l. take n xs ++ l) (sym found.2) ∙ take-append-drop n xs) in
+    subst (λ l. some_tail test l ≡ true) whole (some_tail-at test (take n xs ++ found.0) found.1 found.3)
+
+-- the glob of some items, a `*`, and more
+abbrev run_between : List Item → List Item → List ℕ → Bool
+run_between front more label = takes_front front label && some_tail (glob_matches more) (drop (length front) label)
+
+between_is : (front more : List Item) (label : List ℕ) → has_run front ≡ false → glob_matches (front ++ AnyRun ∷ more) label ≡ run_between front more label
+between_is front more label fixed = glob-front front (AnyRun ∷ more) label fixed ∙ ap (λ t. takes_front front label && t) (glob-run more (drop (length front) label))
+
+-- a later place leaves no more than the first one
+later_place : (front more : List Item) (b : ℕ) (label : List ℕ) → has_run front ≡ false → some_tail (glob_matches (front ++ AnyRun ∷ more)) label ≡ true → some_tail (glob_matches more) (drop (length front) (b ∷ label)) ≡ true
+later_place front more b label fixed some =
+    let found = tail_of-some (glob_matches (front ++ AnyRun ∷ more)) label some in
+    let both = and_parts (takes_front front found.1) (some_tail (glob_matches more) (drop (length front) found.1)) (sym (between_is front more found.1 fixed) ∙ found.3) in
+    let whole : b ∷ label ≡ (b ∷ found.0) ++ found.1 = ap (λ l. b ∷ l) found.2 in
+    let later : drop (length (b ∷ found.0)) (drop (length front) (b ∷ label)) ≡ drop (length front) found.1 =
+    drop-drop (length (b ∷ found.0)) (length front) (b ∷ label) ∙ (ap (λ n. drop n (b ∷ label)) (omega arith) ∙ (sym (drop-drop (length front) (length (b ∷ found.0)) (b ∷ label))
+    ∙ ap (drop (length front)) (ap (drop (length (b ∷ found.0))) whole ∙ drop_at (b ∷ found.0) found.1 (length (b ∷ found.0)) refl))) in
+    some_tail-drop (glob_matches more) (length (b ∷ found.0)) (drop (length front) (b ∷ label)) (ap (some_tail (glob_matches more)) later ∙ both.1)
+
+-- where the items between two `*` first stand, the rest decides
+pub first_place : (front more : List Item) (label rest : List ℕ) → has_run front ≡ false → behind_first front label ≡ Some rest → some_tail (glob_matches (front ++ AnyRun ∷ more)) label ≡ some_tail (glob_matches more) rest
+unfolding behind_first
+first_place front more [] rest fixed found =
+    elim (cases_Bool (takes_front front [])) [
+      | inl does ↦ between_is front more [] fixed ∙ rw does (ap (some_tail (glob_matches more)) (some_same _ _ (rw does at found)))
+      | inr fails ↦ absurd (none_some rest (rw fails at found))
+    ]
+first_place front more (b ∷ label) rest fixed found =
+    let M = some_tail (glob_matches more) in
+    elim (cases_Bool (takes_front front (b ∷ label))) [
+      | inl does ↦
+          let here : glob_matches (front ++ AnyRun ∷ more) (b ∷ label) ≡ M (drop (length front) (b ∷ label)) = between_is front more (b ∷ label) fixed ∙ rw does refl in
+          ap (λ t. t || some_tail (glob_matches (front ++ AnyRun ∷ more)) label) here
+          ∙ or_absorbs (M (drop (length front) (b ∷ label))) (some_tail (glob_matches (front ++ AnyRun ∷ more)) label) (later_place front more b label fixed)
+          ∙ ap M (some_same _ _ (rw does at found))
+      | inr fails ↦
+          let here : glob_matches (front ++ AnyRun ∷ more) (b ∷ label) ≡ false = between_is front more (b ∷ label) fixed ∙ rw fails refl in
+          ap (λ t. t || some_tail (glob_matches (front ++ AnyRun ∷ more)) label) here
+          ∙ first_place front more label rest fixed (rw fails at found)
+    ]
+
+pub no_place : (front more : List Item) (label : List ℕ) → has_run front ≡ false → behind_first front label ≡ None → some_tail (glob_matches (front ++ AnyRun ∷ more)) label ≡ false
+unfolding behind_first
+no_place front more [] fixed none =
+    elim (cases_Bool (takes_front front [])) [
+      | inl does ↦ absurd (none_some _ (sym (rw does at none)))
+      | inr fails ↦ between_is front more [] fixed ∙ rw fails refl
+    ]
+no_place front more (b ∷ label) fixed none =
+    elim (cases_Bool (takes_front front (b ∷ label))) [
+      | inl does ↦ absurd (none_some _ (sym (rw does at none)))
+      | inr fails ↦
+          let here : glob_matches (front ++ AnyRun ∷ more) (b ∷ label) ≡ false = between_is front more (b ∷ label) fixed ∙ rw fails refl in
+          ap (λ t. t || some_tail (glob_matches (front ++ AnyRun ∷ more)) label) here
+          ∙ no_place front more label fixed (rw fails at none)
+    ]
+
+-- ---- the walks over items and bytes
+
+pub front_too_long : (items : List Item) (bytes : List ℕ) → length bytes < length items → false ≡ takes_front items bytes
+front_too_long items bytes long = elim (cases_Bool (takes_front items bytes)) [ inl does ↦ absurd (omega (arith, takes_front-fits items bytes does)) | inr fails ↦ sym fails ]
+
+-- one item and one byte of the walk
+pub front_at : (items : List Item) (bytes : List ℕ) (at : ℕ) (item : Item) → at < length items → at < length bytes → item ≡ slice_index_or items at item →
+    takes_front (drop at items) (drop at bytes) ≡ (takes item (slice_index bytes at) && takes_front (drop (at + 1) items) (drop (at + 1) bytes))
+unfolding takes_front
+front_at items bytes at item within fits is =
+    ap (λ l. takes_front l (drop at bytes)) (drop_more items at item within ∙ ap (λ i. i ∷ drop (at + 1) items) (sym is))
+    ∙ ap (takes_front (item ∷ drop (at + 1) items)) (drop_more bytes at 0 fits)
+
+pub front_past : (items : List Item) (bytes : List ℕ) (at : ℕ) → length items ≤ at → takes_front (drop at items) (drop at bytes) ≡ true
+unfolding takes_front
+front_past items bytes at past = rw (drop_all at items past)
+
+-- one place of the search
+pub behind_here : (items : List Item) (bytes : List ℕ) → takes_front items bytes ≡ true → behind_first items bytes ≡ Some (drop (length items) bytes)
+unfolding behind_first
+behind_here items [] takes = rw takes refl
+behind_here items (b ∷ bytes) takes = rw takes refl
+
+pub behind_end : (items : List Item) (bytes : List ℕ) → takes_front items bytes ≡ false → length bytes ≡ 0 → behind_first items bytes ≡ None
+unfolding behind_first
+behind_end items [] fails empty = rw fails refl
+behind_end items (b ∷ bytes) fails empty = absurd (omega (arith, empty))
+
+pub behind_later : (items : List Item) (bytes : List ℕ) → takes_front items bytes ≡ false → (length bytes ≡ 0 → ⊥) → behind_first items bytes ≡ behind_first items (take (length bytes - 1) (drop 1 bytes))
+unfolding behind_first
+behind_later items [] fails some = absurd (some refl)
+behind_later items (b ∷ bytes) fails some = rw fails (ap (behind_first items) (sym (take_rest (b ∷ bytes) 1)))
+
+-- ---- a label without `*`, `?` and `[`
+
+pub plain-glob : (text label : List ℕ) → glob_matches (map (λ b. Byte b) text) label ≡ str_eq_ignore_ascii_case text label
+unfolding glob_matches
+plain-glob [] [] = refl
+plain-glob [] (b ∷ label) = ne_eqb (length (b ∷ label)) 0 (λ e. omega (arith, e))
+plain-glob (a ∷ text) [] = refl
+plain-glob (a ∷ text) (b ∷ label) = ap (λ t. eq_ignore_ascii_case a b && t) (plain-glob text label)
+
+pub label-cut : (pattern : LabelPattern) (label : List ℕ) → IsTrue (label_matches pattern label) ↔ CanBeCut (items_in pattern) label
+label-cut (Plain text) label = (
+  λ is. cut-from-glob (map (λ b. Byte b) text) label (plain-glob text label ∙ is),
+  λ cut. sym (plain-glob text label) ∙ ap (glob_matches (map (λ b. Byte b) text)) (sym cut.2) ∙ glob-from-cut (map (λ b. Byte b) text) cut.0 cut.1,
+)
+label-cut (Glob items) label = (λ is. cut-from-glob items label is, λ cut. ap (glob_matches items) (sym cut.2) ∙ glob-from-cut items cut.0 cut.1)
+
+-- a test of two texts without case
+pub same_text-from : (r : Bool) (a b : List ℕ) → (IsTrue r ↔ (map to_ascii_lowercase a ≡ map to_ascii_lowercase b)) → r ≡ str_eq_ignore_ascii_case a b
+same_text-from r a b is =
+    same_from_decides r (str_eq_ignore_ascii_case a b) is (bytes_decides (map to_ascii_lowercase a) (map to_ascii_lowercase b))
+
+-- ---- the scan behind a `*`
+
+pub last_of_run : (items front : List Item) (label : List ℕ) → items ≡ front ++ [] → has_run front ≡ false → length front ≤ length label →
+    takes_front front (drop (length label - length front) label) ≡ some_tail (glob_matches items) label
+last_of_run items front label is fixed fits =
+    last_items front label fixed fits ∙ ap (λ (l : List Item). some_tail (glob_matches l) label) (sym (is ∙ append-nil front))
+
+pub too_few_of_run : (items front : List Item) (label : List ℕ) → items ≡ front ++ [] → has_run front ≡ false → length label < length front → false ≡ some_tail (glob_matches items) label
+too_few_of_run items front label is fixed short = too_few front label fixed short ∙ ap (λ (l : List Item). some_tail (glob_matches l) label) (sym (is ∙ append-nil front))
+
+pub run_first : (items front more : List Item) (label rest : List ℕ) → items ≡ front ++ AnyRun ∷ more → has_run front ≡ false → behind_first front label ≡ Some rest →
+    some_tail (glob_matches items) label ≡ some_tail (glob_matches more) rest
+run_first items front more label rest is fixed found = ap (λ (l : List Item). some_tail (glob_matches l) label) is ∙ first_place front more label rest fixed found
+
+pub run_none : (items front more : List Item) (label : List ℕ) → items ≡ front ++ AnyRun ∷ more → has_run front ≡ false → behind_first front label ≡ None → some_tail (glob_matches items) label ≡ false
+run_none items front more label is fixed none = ap (λ (l : List Item). some_tail (glob_matches l) label) is ∙ no_place front more label fixed none

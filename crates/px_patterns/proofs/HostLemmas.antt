@@ -1,0 +1,335 @@
+-- Labels of hosts: from the front, from the end, and between.
+use Rattle.std.proofs.Common.{◌≡◌, ◌≢◌, ℕ, zero, suc, ◌+◌, ◌-◌, ◌<◌, ◌≤◌, ◌⊎◌, ◌↔◌, Bool, true, false, not, ◌&&◌, ◌||◌, IsTrue, List, [], ◌∷◌, ◌++◌, length, take, drop, refl, ap, sym, ◌∙◌, subst, arith, cond, inl, inr, Option, None, Some, is_none, append-nil, append_assoc, All}
+use Rattle.std.specs.Prelude.{◌==◌, slice_index, slice_index_or, if◌then◌else◌}
+use Rattle.std.specs.List.{list_any, onto_first, slice_split}
+use Rattle.std.specs.Str.{str_eq_ignore_ascii_case}
+use Rattle.std.proofs.lemmas.Bool.{and_from, both_ways, and_parts, cases_Bool, eq-eqb, eqb-true, false≢true, ne_eqb, or_cases}
+use Rattle.std.proofs.lemmas.List.{drop_all, drop_more, get_or_default, get_or-drop, length-drop, take-append-drop, take_rest}
+use Rattle.std.proofs.lemmas.List.Splits.{length-slice_split, slice_split_none}
+use Rattle.px_base.specs.Cuts.{parts_of}
+use Rattle.px_patterns.specs.declared.TheConstants.{DOT}
+use Rattle.px_patterns.specs.declared.hosts.HostLabels.{HostLabels}
+use Rattle.px_patterns.specs.declared.hosts.HostPattern.{HostPattern}
+use Rattle.px_patterns.specs.declared.hosts.HostPattern.TheVariants.{Address, Always, Labels}
+use Rattle.px_patterns.specs.declared.labels.Item.{Item}
+use Rattle.px_patterns.specs.declared.labels.LabelPattern.{LabelPattern}
+use Rattle.px_patterns.specs.declared.labels.LabelPattern.TheVariants.{Glob, Plain}
+use Rattle.px_patterns.specs.Globs.{CanBeCut, items_in, label_matches, some_tail}
+use Rattle.px_patterns.specs.Hosts.{EachFits, HostFits, LabelsFit, fitting_labels, host_labels, host_matches, labels_in, labels_match, last_plain, later_or, without_last_dot}
+use Rattle.px_patterns.proofs.GlobLemmas.{label-cut, some_tail-at, tail_of-some}
+
+-- ---- from the end
+
+move_test : (a b c : Bool) → (a && (b && c)) ≡ (b && (a && c))
+move_test true true c = refl
+move_test true false c = refl
+move_test false true c = refl
+move_test false false c = refl
+
+both_or : (a b c : Bool) → ((a && b) || (a && c)) ≡ (a && (b || c))
+both_or true b c = refl
+both_or false b c = refl
+
+or_false : (a : Bool) → (a || false) ≡ a
+or_false true = refl
+or_false false = refl
+
+and_false : (a : Bool) → false ≡ (a && false)
+and_false true = refl
+and_false false = refl
+
+none_left : (labels : List (List ℕ)) (label : List ℕ) → labels_match false [] (labels ++ label ∷ []) ≡ false
+unfolding labels_match
+none_left [] label = refl
+none_left (first ∷ labels) label = refl
+
+none_fit : (patterns : List LabelPattern) (last : LabelPattern) → labels_match false (patterns ++ last ∷ []) [] ≡ false
+unfolding labels_match
+none_fit [] last = refl
+none_fit (pattern ∷ patterns) last = refl
+
+-- the last pattern matches the last label, and those before match those before
+match-push : (patterns : List LabelPattern) (last : LabelPattern) (labels : List (List ℕ)) (label : List ℕ) →
+    labels_match false (patterns ++ last ∷ []) (labels ++ label ∷ []) ≡ (label_matches last label && labels_match false patterns labels)
+unfolding labels_match
+match-push [] last [] label = refl
+match-push [] last (first ∷ labels) label = ap (λ t. label_matches last first && t) (none_left labels label) ∙ (sym (and_false (label_matches last first)) ∙ and_false (label_matches last label))
+match-push (pattern ∷ patterns) last [] label = ap (λ t. label_matches pattern label && t) (none_fit patterns last) ∙ (sym (and_false (label_matches pattern label)) ∙ and_false (label_matches last label))
+match-push (pattern ∷ patterns) last (first ∷ labels) label =
+    ap (λ t. label_matches pattern first && t) (match-push patterns last labels label)
+    ∙ move_test (label_matches pattern first) (label_matches last label) (labels_match false patterns labels)
+
+-- whether the patterns match the last labels
+abbrev pub ends : List LabelPattern → List (List ℕ) → Bool
+ends patterns labels = some_tail (labels_match false patterns) labels
+
+pub ends-push : (patterns : List LabelPattern) (last : LabelPattern) (labels : List (List ℕ)) (label : List ℕ) →
+    ends (patterns ++ last ∷ []) (labels ++ label ∷ []) ≡ (label_matches last label && ends patterns labels)
+ends-push patterns last [] label =
+    ap (λ t. t || labels_match false (patterns ++ last ∷ []) []) (match-push patterns last [] label)
+    ∙ ap (λ t. (label_matches last label && labels_match false patterns []) || t) (none_fit patterns last) ∙ or_false (label_matches last label && labels_match false patterns [])
+ends-push patterns last (first ∷ labels) label =
+    ap (λ t. t || ends (patterns ++ last ∷ []) (labels ++ label ∷ [])) (match-push patterns last (first ∷ labels) label)
+    ∙ ap (λ t. (label_matches last label && labels_match false patterns (first ∷ labels)) || t) (ends-push patterns last labels label)
+    ∙ both_or (label_matches last label) (labels_match false patterns (first ∷ labels)) (ends patterns labels)
+
+pub ends-none : (labels : List (List ℕ)) → ends [] labels ≡ true
+unfolding labels_match
+ends-none labels = subst (λ (l : List (List ℕ)). ends [] l ≡ true) (append-nil labels) (some_tail-at (labels_match false []) labels [] refl)
+
+-- ---- cuts at the last dot
+
+pub onto_first-append : {X : Type 0} (x : X) (parts more : List (List X)) → 0 < length parts → onto_first x (parts ++ more) ≡ onto_first x parts ++ more
+onto_first-append x [] more some = absurd (omega arith)
+onto_first-append x (part ∷ parts) more some = refl
+
+-- a text is cut at its last dot
+pub labels_in-last : (front label : List ℕ) → All (λ b. (b == DOT) ≡ false) label → labels_in (front ++ DOT ∷ label) ≡ labels_in front ++ label ∷ []
+labels_in-last [] label none = ap (λ l. [] ∷ l) (slice_split_none (λ b. b == DOT) label none)
+labels_in-last (b ∷ front) label none =
+    elim (cases_Bool (b == DOT)) [
+      | inl does ↦ rw does (ap (λ l. [] ∷ l) (labels_in-last front label none))
+      | inr fails ↦ rw fails
+          (ap (onto_first b) (labels_in-last front label none)
+          ∙ onto_first-append b (labels_in front) (label ∷ []) (omega (arith, length-slice_split (λ b. b == DOT) front)))
+    ]
+
+pub labels_in-one : (label : List ℕ) → All (λ b. (b == DOT) ≡ false) label → labels_in label ≡ label ∷ []
+labels_in-one label none = slice_split_none (λ b. b == DOT) label none
+
+-- ---- tests
+
+or_right : (a b : Bool) → b ≡ true → (a || b) ≡ true
+or_right true b is = refl
+or_right false b is = is
+
+or_left : (a b : Bool) → a ≡ true → (a || b) ≡ true
+or_left true b is = refl
+or_left false b is = absurd (false≢true is)
+
+none_some : (text : List ℕ) → None ≡ Some text → ⊥
+none_some text e = absurd (cc e)
+
+cons_nil : {x : List ℕ} {xs : List (List ℕ)} → x ∷ xs ≡ [] → ⊥
+cons_nil e = absurd (cc e)
+
+-- the text is that of a later label, or of this one
+known_or : (later : Option (List ℕ)) (pattern : LabelPattern) (text : List ℕ) → later_or later pattern ≡ Some text → (later ≡ Some text) ⊎ (pattern ≡ Plain text)
+known_or (Some other) pattern text is = inl is
+known_or None (Plain other) text is = let same : other ≡ text = cc is in inr (ap (λ t. Plain t) same)
+known_or None (Glob items) text is = absurd (none_some text is)
+
+not_dot : (b : ℕ) → ¬ ((b == DOT) ≡ true) → (b == DOT) ≡ false
+not_dot b other = elim (cases_Bool (b == DOT)) [ inl does ↦ absurd (other does) | inr fails ↦ fails ]
+
+-- no label may follow unless more may
+past_end : (more : Bool) (labels : List (List ℕ)) → 0 < length labels → labels_match more [] labels ≡ more
+unfolding labels_match
+past_end more [] some = absurd (omega arith)
+past_end more (label ∷ labels) some = refl
+
+-- ---- from the front
+
+pub match-cons : (more : Bool) (pattern : LabelPattern) (patterns : List LabelPattern) (label : List ℕ) (labels : List (List ℕ)) →
+    labels_match more (pattern ∷ patterns) (label ∷ labels) ≡ (label_matches pattern label && labels_match more patterns labels)
+unfolding labels_match
+match-cons more pattern patterns label labels = refl
+
+pub match-short : (more : Bool) (patterns : List LabelPattern) → 0 < length patterns → labels_match more patterns [] ≡ false
+unfolding labels_match
+match-short more [] some = absurd (omega arith)
+match-short more (pattern ∷ patterns) some = refl
+
+-- one pattern and one label of the walk
+pub begin_step : (more : Bool) (patterns : List LabelPattern) (at : ℕ) (pattern : LabelPattern) (bytes label : List ℕ) (behind : Option (List ℕ)) → at < length patterns →
+    pattern ≡ slice_index_or patterns at pattern → labels_in bytes ≡ label ∷ parts_of DOT behind →
+    labels_match more (drop at patterns) (parts_of DOT (Some bytes)) ≡ (label_matches pattern label && labels_match more (drop (at + 1) patterns) (parts_of DOT behind))
+begin_step more patterns at pattern bytes label behind within is cut =
+    ap (λ l. labels_match more l (labels_in bytes)) (drop_more patterns at pattern within ∙ ap (λ p. p ∷ drop (at + 1) patterns) (sym is))
+    ∙ ap (labels_match more (pattern ∷ drop (at + 1) patterns)) cut
+    ∙ match-cons more pattern (drop (at + 1) patterns) label (parts_of DOT behind)
+
+pub begin_short : (more : Bool) (patterns : List LabelPattern) (at : ℕ) → at < length patterns → labels_match more (drop at patterns) [] ≡ false
+begin_short more patterns at within = match-short more (drop at patterns) (omega (arith, length-drop at patterns))
+
+pub begin_open : (more : Bool) (patterns : List LabelPattern) (at : ℕ) (bytes : List ℕ) → length patterns ≤ at → labels_match more (drop at patterns) (parts_of DOT (Some bytes)) ≡ more
+begin_open more patterns at bytes past =
+    ap (λ l. labels_match more l (labels_in bytes)) (drop_all at patterns past) ∙ past_end more (labels_in bytes) (omega (arith, length-slice_split (λ b. b == DOT) bytes))
+
+pub begin_done : (more : Bool) (patterns : List LabelPattern) (at : ℕ) → length patterns ≤ at → labels_match more (drop at patterns) [] ≡ true
+unfolding labels_match
+begin_done more patterns at past = ap (λ l. labels_match more l []) (drop_all at patterns past)
+
+-- ---- between
+
+-- one place of the search
+pub place_here : (patterns : List LabelPattern) (bytes : List ℕ) → labels_match true patterns (labels_in bytes) ≡ true → some_tail (labels_match true patterns) (labels_in bytes) ≡ true
+place_here patterns bytes begins = some_tail-at (labels_match true patterns) [] (labels_in bytes) begins
+
+pub place_later : (patterns : List LabelPattern) (bytes label : List ℕ) (behind : Option (List ℕ)) → labels_in bytes ≡ label ∷ parts_of DOT behind → labels_match true patterns (labels_in bytes) ≡ false →
+    some_tail (labels_match true patterns) (labels_in bytes) ≡ some_tail (labels_match true patterns) (parts_of DOT behind)
+place_later patterns bytes label behind cut fails =
+    let here : labels_match true patterns (label ∷ parts_of DOT behind) ≡ false = ap (labels_match true patterns) (sym cut) ∙ fails in
+    ap (some_tail (labels_match true patterns)) cut ∙ ap (λ t. t || some_tail (labels_match true patterns) (parts_of DOT behind)) here
+
+pub place_none : (patterns : List LabelPattern) (bytes label : List ℕ) → labels_in bytes ≡ label ∷ [] → labels_match true patterns (labels_in bytes) ≡ false → some_tail (labels_match true patterns) (labels_in bytes) ≡ false
+unfolding labels_match
+place_none [] bytes label cut fails = absurd (both_ways (labels_match true [] (labels_in bytes)) fails (ap (labels_match true []) cut))
+place_none (pattern ∷ patterns) bytes label cut fails = place_later (pattern ∷ patterns) bytes label None cut fails
+
+-- ---- from the end
+
+-- one pattern and one label of the walk
+pub end_step : (patterns before : List LabelPattern) (last : LabelPattern) (bytes label : List ℕ) (front : Option (List ℕ)) → patterns ≡ before ++ last ∷ [] → labels_in bytes ≡ parts_of DOT front ++ label ∷ [] →
+    ends patterns (parts_of DOT (Some bytes)) ≡ (label_matches last label && ends before (parts_of DOT front))
+end_step patterns before last bytes label front is cut =
+    ap (λ (l : List LabelPattern). ends l (labels_in bytes)) is ∙ ap (ends (before ++ last ∷ [])) cut ∙ ends-push before last (parts_of DOT front) label
+
+pub end_short : (patterns before : List LabelPattern) (last : LabelPattern) → patterns ≡ before ++ last ∷ [] → ends patterns [] ≡ false
+end_short patterns before last is = ap (λ (l : List LabelPattern). ends l []) is ∙ none_fit before last
+
+pub end_done : (patterns : List LabelPattern) (labels : List (List ℕ)) → length patterns ≡ 0 → ends patterns labels ≡ true
+end_done [] labels none = ends-none labels
+end_done (pattern ∷ patterns) labels none = absurd (omega (arith, none))
+
+-- ---- the last plain label
+
+last_plain-push : (patterns : List LabelPattern) (text : List ℕ) → last_plain (patterns ++ Plain text ∷ []) ≡ Some text
+last_plain-push [] text = refl
+last_plain-push (pattern ∷ patterns) text = ap (λ o. later_or o pattern) (last_plain-push patterns text)
+
+last_plain-glob : (patterns : List LabelPattern) (items : List Item) → last_plain (patterns ++ Glob items ∷ []) ≡ last_plain patterns
+last_plain-glob [] items = refl
+last_plain-glob (pattern ∷ patterns) items = ap (λ o. later_or o pattern) (last_plain-glob patterns items)
+
+pub plain_last : (patterns before : List LabelPattern) (last : LabelPattern) (text : List ℕ) → patterns ≡ before ++ last ∷ [] → last ≡ Plain text → last_plain patterns ≡ Some text
+plain_last patterns before last text is plain = ap last_plain (is ∙ ap (λ p. before ++ p ∷ []) plain) ∙ last_plain-push before text
+
+pub glob_last : (patterns before : List LabelPattern) (last : LabelPattern) (items : List Item) → patterns ≡ before ++ last ∷ [] → last ≡ Glob items → last_plain patterns ≡ last_plain before
+glob_last patterns before last items is glob = ap last_plain (is ∙ ap (λ p. before ++ p ∷ []) glob) ∙ last_plain-glob before items
+
+-- a plain label stands in each list of labels that the patterns match
+has_plain : (more : Bool) (patterns : List LabelPattern) (labels : List (List ℕ)) (text : List ℕ) → labels_match more patterns labels ≡ true → last_plain patterns ≡ Some text →
+    list_any (str_eq_ignore_ascii_case text) labels ≡ true
+unfolding labels_match
+has_plain more [] labels text matches plain = absurd (none_some text plain)
+has_plain more (pattern ∷ patterns) [] text matches plain = absurd (false≢true matches)
+has_plain more (pattern ∷ patterns) (label ∷ labels) text matches plain =
+    let both = and_parts (label_matches pattern label) (labels_match more patterns labels) matches in
+    elim (known_or (last_plain patterns) pattern text plain) [
+      | inl later ↦ or_right (str_eq_ignore_ascii_case text label) (list_any (str_eq_ignore_ascii_case text) labels) (has_plain more patterns labels text both.1 later)
+      | inr here ↦ or_left (str_eq_ignore_ascii_case text label) (list_any (str_eq_ignore_ascii_case text) labels) (ap (λ p. label_matches p label) (sym here) ∙ both.0)
+    ]
+
+any-append : (test : List ℕ → Bool) (front back : List (List ℕ)) → list_any test back ≡ true → list_any test (front ++ back) ≡ true
+any-append test [] back some = some
+any-append test (label ∷ front) back some = or_right (test label) (list_any test (front ++ back)) (any-append test front back some)
+
+pub plain_kept : (pattern : HostLabels) (labels : List (List ℕ)) (text : List ℕ) → fitting_labels pattern labels ≡ true → last_plain pattern.labels ≡ Some text → list_any (str_eq_ignore_ascii_case text) labels ≡ true
+plain_kept pattern labels text fits plain =
+    elim (cases_Bool pattern.open_front) [
+      | inl does ↦
+          let found = tail_of-some (labels_match pattern.open_end pattern.labels) labels (rw does at fits) in
+          subst (λ (l : List (List ℕ)). list_any (str_eq_ignore_ascii_case text) l ≡ true) (sym found.2)
+          (any-append (str_eq_ignore_ascii_case text) found.0 found.1 (has_plain pattern.open_end pattern.labels found.1 text found.3 plain))
+      | inr fails ↦ has_plain pattern.open_end pattern.labels labels text (rw fails at fits) plain
+    ]
+
+-- ---- what a match means
+
+each-from-match : (more : Bool) (patterns : List LabelPattern) (labels : List (List ℕ)) → labels_match more patterns labels ≡ true →
+    (fitting : List (List ℕ)) × (behind : List (List ℕ)) × (labels ≡ fitting ++ behind) × EachFits patterns fitting × (more ≡ false → behind ≡ [])
+unfolding labels_match
+each-from-match more [] [] matches = ([], [], refl, tt, λ closed. refl)
+each-from-match more [] (label ∷ labels) matches = ([], label ∷ labels, refl, tt, λ closed. absurd (both_ways more closed matches))
+each-from-match more (pattern ∷ patterns) [] matches = absurd (false≢true matches)
+each-from-match more (pattern ∷ patterns) (label ∷ labels) matches =
+    let both = and_parts (label_matches pattern label) (labels_match more patterns labels) matches in
+    let later = each-from-match more patterns labels both.1 in
+    (label ∷ later.0, later.1, ap (λ l. label ∷ l) later.2, ((label-cut pattern label).0 both.0, later.3), later.4)
+
+match-from-each : (more : Bool) (patterns : List LabelPattern) (fitting behind : List (List ℕ)) → EachFits patterns fitting → (more ≡ false → behind ≡ []) → labels_match more patterns (fitting ++ behind) ≡ true
+unfolding labels_match
+match-from-each more [] [] [] each closed = refl
+match-from-each more [] [] (label ∷ behind) each closed = elim (cases_Bool more) [ inl does ↦ does | inr fails ↦ absurd (cons_nil (closed fails)) ]
+match-from-each more [] (label ∷ fitting) behind each closed = absurd each
+match-from-each more (pattern ∷ patterns) [] behind each closed = absurd each
+match-from-each more (pattern ∷ patterns) (label ∷ fitting) behind each closed =
+    and_from (label_matches pattern label) (labels_match more patterns (fitting ++ behind)) ((label-cut pattern label).1 each.0) (match-from-each more patterns fitting behind each.1 closed)
+
+labels-fit : (pattern : HostLabels) (labels : List (List ℕ)) → fitting_labels pattern labels ≡ true → LabelsFit pattern labels
+labels-fit pattern labels fits =
+    elim (cases_Bool pattern.open_front) [
+      | inl does ↦
+          let found = tail_of-some (labels_match pattern.open_end pattern.labels) labels (rw does at fits) in
+          let each = each-from-match pattern.open_end pattern.labels found.1 found.3 in
+          record {
+            before = found.0;
+            fitting = each.0;
+            behind = each.1;
+            whole = found.2 ∙ ap (λ l. found.0 ++ l) each.2 ∙ sym (append_assoc found.0 each.0 each.1);
+            front = λ closed. absurd (both_ways pattern.open_front closed does);
+            end = each.4;
+            each = each.3;
+          }
+      | inr fails ↦
+          let each = each-from-match pattern.open_end pattern.labels labels (rw fails at fits) in
+          record { before = []; fitting = each.0; behind = each.1; whole = each.2; front = λ closed. refl; end = each.4; each = each.3 }
+    ]
+
+fit-labels : (pattern : HostLabels) (labels : List (List ℕ)) → LabelsFit pattern labels → fitting_labels pattern labels ≡ true
+fit-labels pattern labels fit =
+    let matches = match-from-each pattern.open_end pattern.labels fit.fitting fit.behind fit.each fit.end in
+    let whole : labels ≡ fit.before ++ (fit.fitting ++ fit.behind) = fit.whole ∙ append_assoc fit.before fit.fitting fit.behind in
+    elim (cases_Bool pattern.open_front) [
+      | inl does ↦ rw does
+          (subst (λ (l : List (List ℕ)). some_tail (labels_match pattern.open_end pattern.labels) l ≡ true) (sym whole)
+          (some_tail-at (labels_match pattern.open_end pattern.labels) fit.before (fit.fitting ++ fit.behind) matches))
+      | inr fails ↦ rw fails
+          (subst (λ (l : List (List ℕ)). labels_match pattern.open_end pattern.labels l ≡ true) (sym (whole ∙ ap (λ l. l ++ (fit.fitting ++ fit.behind)) (fit.front fails))) matches)
+    ]
+
+-- a host pattern matches exactly the hosts that it fits
+pub host-fits : (pattern : HostPattern) (host : List ℕ) → IsTrue (host_matches pattern host) ↔ HostFits pattern host
+unfolding host_matches
+host-fits Always host = (λ is. tt, λ fits. refl)
+host-fits (Address text) host = (λ is. is, λ fits. fits)
+host-fits (Labels pattern) host = (labels-fit pattern (host_labels host), fit-labels pattern (host_labels host))
+
+-- ---- the last dot
+
+pub cut_at_last : (bytes : List ℕ) (at : ℕ) → at < length bytes → (slice_index bytes at == DOT) ≡ true → ((k : ℕ) → at + 1 ≤ k → k < length bytes → ¬ ((slice_index bytes k == DOT) ≡ true)) →
+    labels_in bytes ≡ labels_in (take at bytes) ++ take (length bytes - (at + 1)) (drop (at + 1) bytes) ∷ []
+cut_at_last bytes at within here none =
+    ap labels_in (sym (take-append-drop at bytes) ∙ ap (λ l. take at bytes ++ l) (drop_more bytes at 0 within))
+    ∙ ap (λ b. labels_in (take at bytes ++ b ∷ drop (at + 1) bytes)) (eqb-true (slice_index bytes at) DOT here)
+    ∙ labels_in-last (take at bytes) (drop (at + 1) bytes)
+    (λ k d short.
+    let low : at + 1 ≤ at + 1 + k = omega arith in
+    rw (get_or_default (drop (at + 1) bytes) k d 0 short)
+    (rw (get_or-drop (at + 1) bytes k 0) (not_dot (slice_index bytes (at + 1 + k)) (none (at + 1 + k) low (omega (arith, length-drop (at + 1) bytes))))))
+    ∙ ap (λ l. labels_in (take at bytes) ++ l ∷ []) (sym (take_rest bytes (at + 1)))
+
+pub cut_nowhere : (bytes : List ℕ) → ((k : ℕ) → 0 ≤ k → k < length bytes → ¬ ((slice_index bytes k == DOT) ≡ true)) → labels_in bytes ≡ bytes ∷ []
+cut_nowhere bytes none = labels_in-one bytes (λ k d short. rw (get_or_default bytes k d 0 short) (not_dot (slice_index bytes k) (none k (omega arith) short)))
+
+-- ---- patterns as a whole
+
+pub labels_value : (pattern : HostPattern) (labels : HostLabels) (host shown : List ℕ) (r : Bool) → pattern ≡ Labels labels → shown ≡ without_last_dot host → r ≡ fitting_labels labels (labels_in shown) →
+    IsTrue r ↔ HostFits pattern host
+unfolding host_matches
+labels_value pattern labels host shown r is without value =
+    let whole : r ≡ host_matches pattern host =
+    value ∙ ap (λ l. fitting_labels labels (labels_in l)) without ∙ ap (λ (p : HostPattern). host_matches p host) (sym is) in
+    subst (λ (t : Bool). IsTrue t ↔ HostFits pattern host) (sym whole) (host-fits pattern host)
+
+pub address_kept : (pattern : HostPattern) (text host shown : List ℕ) → pattern ≡ Address text → shown ≡ text → host_matches pattern host ≡ true → str_eq_ignore_ascii_case shown host ≡ true
+unfolding host_matches
+address_kept pattern text host shown is same matches =
+    ap (λ (t : List ℕ). str_eq_ignore_ascii_case t host) same ∙ (ap (λ (p : HostPattern). host_matches p host) (sym is) ∙ matches)
+
+pub labels_kept : (pattern : HostPattern) (labels : HostLabels) (patterns : List LabelPattern) (host text : List ℕ) → pattern ≡ Labels labels → patterns ≡ labels.labels → Some text ≡ last_plain patterns →
+    host_matches pattern host ≡ true → list_any (str_eq_ignore_ascii_case text) (host_labels host) ≡ true
+unfolding host_matches
+labels_kept pattern labels patterns host text is same plain matches =
+    plain_kept labels (host_labels host) text (ap (λ (p : HostPattern). host_matches p host) (sym is) ∙ matches) (sym (plain ∙ ap last_plain same))

@@ -1,0 +1,9 @@
+pub mod ExpressionLemmas
+pub mod FaultLemmas
+pub mod PatternLemmas
+pub mod GlobLemmas
+pub mod HostLemmas
+pub mod ReadingLemmas
+pub mod OptionLemmas
+pub mod PlaceLemmas
+pub mod UrlLemmas

@@ -1,0 +1,35 @@
+use Rattle.std.proofs.Common.{◌+◌, ◌&&◌, ◌||◌, ◌∙◌, sym, ap, drop}
+use Rattle.std.specs.Prelude.{option_copied}
+use Rattle.px_base.specs.Cuts.{parts_of}
+use Rattle.px_patterns.specs.declared.TheConstants.{DOT}
+use Rattle.px_patterns.specs.Hosts.{labels_match}
+use Rattle.px_patterns.proofs.HostLemmas.{begin_done, begin_open, begin_short, begin_step}
+use Rattle.px_patterns.proofs.hosts.begin.Goals as goal
+
+pub returns-then-not-matches : goal.returns-then-not-matches
+returns-then-not-matches c =
+    sym
+    ((rw c.in-Some.is at c.loop-pattern.invariant)
+    ∙ begin_step c.args.more c.args.patterns.now c.loop-pattern.pattern-index c.pattern-item.result c.in-Some.bytes.now c.cut.result.0.now (option_copied c.cut.result.1) c.loop-pattern-test.true
+    c.pattern-item.is c.cut.ensures.parts
+    ∙ ap (λ t. t && labels_match c.args.more (drop (c.loop-pattern.pattern-index + 1) c.args.patterns.now) (parts_of DOT (option_copied c.cut.result.1)))
+    (sym c.matches.ensures.value ∙ c.if-not-matches.true))
+
+pub returns-in-None : goal.returns-in-None
+returns-in-None c =
+    sym ((rw c.in-None.is at c.loop-pattern.invariant) ∙ begin_short c.args.more c.args.patterns.now c.loop-pattern.pattern-index c.loop-pattern-test.true)
+
+pub loop-pattern-preserved : goal.loop-pattern-preserved
+loop-pattern-preserved c =
+    (rw c.in-Some.is at c.loop-pattern.invariant)
+    ∙ begin_step c.args.more c.args.patterns.now c.loop-pattern.pattern-index c.pattern-item.result c.in-Some.bytes.now c.cut.result.0.now (option_copied c.cut.result.1) c.loop-pattern-test.true
+    c.pattern-item.is c.cut.ensures.parts
+    ∙ ap (λ t. t && labels_match c.args.more (drop (c.loop-pattern.pattern-index + 1) c.args.patterns.now) (parts_of DOT (option_copied c.cut.result.1)))
+    (sym c.matches.ensures.value ∙ c.if-not-matches.false)
+
+pub returns-in-Some-rest : goal.returns-in-Some-rest
+returns-in-Some-rest c =
+    sym ((rw c.in-Some-rest.is at c.loop-pattern.invariant) ∙ begin_open c.args.more c.args.patterns.now c.loop-pattern.pattern-index c.in-Some-rest.field-0.now c.loop-pattern-test.false)
+
+pub returns-in-None-rest : goal.returns-in-None-rest
+returns-in-None-rest c = sym ((rw c.in-None-rest.is at c.loop-pattern.invariant) ∙ begin_done c.args.more c.args.patterns.now c.loop-pattern.pattern-index c.loop-pattern-test.false)

@@ -1,0 +1,10 @@
+use Rattle.std.proofs.Common.{◌≡◌, drop}
+use Rattle.std.specs.Prelude.{option_copied}
+use Rattle.px_base.specs.Cuts.{parts_of}
+use Rattle.px_patterns.specs.declared.TheConstants.{DOT}
+use Rattle.px_patterns.specs.Hosts.{labels_match}
+use Rattle.px_patterns.proofs.hosts.begin.Given as goal
+
+abbrev pub invariant-loop-pattern : goal.invariant-loop-pattern
+invariant-loop-pattern l =
+    labels_match l.more l.patterns (parts_of DOT (option_copied l.initial.rest)) ≡ labels_match l.more (drop l.pattern-index l.patterns) (parts_of DOT (option_copied l.rest))

@@ -1,0 +1,25 @@
+use Rattle.std.proofs.Common.{◌&&◌, ◌∙◌, sym, ap}
+use Rattle.std.specs.Prelude.{option_copied}
+use Rattle.px_base.specs.Cuts.{parts_of}
+use Rattle.px_patterns.specs.declared.TheConstants.{DOT}
+use Rattle.px_patterns.proofs.HostLemmas.{end_done, end_short, end_step, ends}
+use Rattle.px_patterns.proofs.hosts.end.Goals as goal
+
+pub returns-then-not-matches : goal.returns-then-not-matches
+returns-then-not-matches c =
+    sym
+    ((rw c.in-Some-rest.is at c.labels.invariant)
+    ∙ end_step c.labels.left.now c.in-Some.before.now c.in-Some.last.now c.in-Some-rest.bytes.now c.cut_last.result.1.now (option_copied c.cut_last.result.0) c.in-Some.ensures.cases.0 c.cut_last.ensures
+    ∙ ap (λ t. t && ends c.in-Some.before.now (parts_of DOT (option_copied c.cut_last.result.0))) (sym c.matches.ensures.value ∙ c.if-not-matches.true))
+
+pub returns-in-None : goal.returns-in-None
+returns-in-None c = sym ((rw c.in-None.is at c.labels.invariant) ∙ end_short c.labels.left.now c.in-Some.before.now c.in-Some.last.now c.in-Some.ensures.cases.0)
+
+pub labels-preserved : goal.labels-preserved
+labels-preserved c =
+    (rw c.in-Some-rest.is at c.labels.invariant)
+    ∙ end_step c.labels.left.now c.in-Some.before.now c.in-Some.last.now c.in-Some-rest.bytes.now c.cut_last.result.1.now (option_copied c.cut_last.result.0) c.in-Some.ensures.cases.0 c.cut_last.ensures
+    ∙ ap (λ t. t && ends c.in-Some.before.now (parts_of DOT (option_copied c.cut_last.result.0))) (sym c.matches.ensures.value ∙ c.if-not-matches.false)
+
+pub returns : goal.returns
+returns c = sym (c.labels.invariant ∙ end_done c.labels.left.now (parts_of DOT (option_copied c.labels.rest)) c.in_default.ensures.cases)

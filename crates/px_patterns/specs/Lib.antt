@@ -1,0 +1,9 @@
+pub mod Results
+pub mod Expressions
+pub mod Globs
+pub mod Runs
+pub mod Hosts
+pub mod Urls
+pub mod Places
+pub mod Patterns
+pub mod Faults

@@ -1,0 +1,121 @@
+-- URL patterns and tag patterns: what their texts stand for, and what they match.
+use Rattle.std.specs.Prelude.{◌≡◌, ℕ, ◌==◌, ◌&&◌, ◌||◌, not, Bool, true, false, if◌then◌else◌, List, [], ◌∷◌, length, take, drop, slice_index, Option, None, Some, Result, Ok, Err, codes}
+use Rattle.std.specs.List.{after_first, before_first, list_any}
+use Rattle.px_patterns.specs.Results.{result_map}
+use Rattle.px_base.specs.Ports.{allows, port_list}
+use Rattle.px_base.specs.declared.ports.PortRange.{PortRange}
+use Rattle.px_patterns.specs.declared.TheConstants.{ADDRESS_BEGIN, ADDRESS_END, CARET, COLON, SLASH}
+use Rattle.px_patterns.specs.declared.faults.PatternFault.{PatternFault}
+use Rattle.px_patterns.specs.declared.faults.PatternFault.TheVariants.{BadAddress, BadPort, HasProtocol}
+use Rattle.px_patterns.specs.declared.hosts.HostPattern.{HostPattern}
+use Rattle.px_patterns.specs.declared.hosts.HostPattern.TheVariants.{Address}
+use Rattle.px_patterns.specs.declared.patterns.UrlPattern.{UrlPattern}
+use Rattle.px_patterns.specs.declared.patterns.TagPattern.{TagPattern}
+use Rattle.px_patterns.specs.declared.urls.Url.{Url}
+use Rattle.px_patterns.specs.Expressions.{expression_of, finds}
+use Rattle.px_patterns.specs.Hosts.{host_matches, host_pattern}
+use Rattle.px_patterns.specs.Urls.{begins_with, is_address}
+
+-- ---- what a text stands for
+
+abbrev pub has_protocol : List ℕ → Bool
+has_protocol text = begins_with text (codes "http://") || begins_with text (codes "https://")
+
+abbrev pub is_slash : ℕ → Bool
+is_slash b = b == SLASH
+
+abbrev pub is_colon : ℕ → Bool
+is_colon b = b == COLON
+
+-- the host part goes to the first slash
+abbrev pub pattern_host_part : List ℕ → List ℕ
+pattern_host_part text = before_first is_slash text
+
+-- the path pattern is all from the first slash on
+abbrev pub path_pattern : List ℕ → Option (List ℕ)
+path_pattern text = if list_any is_slash text then Some (SLASH ∷ after_first is_slash text) else None
+
+-- a path pattern, by what stands behind its slash
+abbrev pub behind_slash : Option (List ℕ) → Option (List ℕ)
+behind_slash None = None
+behind_slash (Some behind) = Some (SLASH ∷ behind)
+
+-- what stands behind the first colon is a list of ports
+abbrev pub port_text : List ℕ → Option (List ℕ)
+port_text text = if list_any is_colon text then Some (after_first is_colon text) else None
+
+abbrev pub with_ports : Option (List PortRange) → Result (Option (List PortRange)) PatternFault
+with_ports None = Err BadPort
+with_ports (Some ports) = Ok (Some ports)
+
+-- the ports of a text, which isn't empty where there is one
+unfoldable pub ports_of : Option (List ℕ) → Result (Option (List PortRange)) PatternFault
+ports_of None = Ok None
+ports_of (Some text) = if length text == 0 then Err BadPort else with_ports (port_list text)
+
+-- the path pattern as an expression that begins at the front of the path
+unfoldable pub path_of : Option (List ℕ) → Result (Option (List ℕ)) PatternFault
+path_of None = Ok None
+path_of (Some pattern) = result_map (λ text. Some text) (expression_of (CARET ∷ pattern))
+
+-- the refusals of the parts in their order: the ports, the host, the path
+abbrev pub with_path : HostPattern → Option (List PortRange) → Result (Option (List ℕ)) PatternFault → Result UrlPattern PatternFault
+with_path host ports (Err fault) = Err fault
+with_path host ports (Ok path) = Ok record { host = host; ports = ports; path = path }
+
+abbrev pub with_host : Option (List PortRange) → Result HostPattern PatternFault → Option (List ℕ) → Result UrlPattern PatternFault
+with_host ports (Err fault) path = Err fault
+with_host ports (Ok host) path = with_path host ports (path_of path)
+
+abbrev pub with_parts : Result HostPattern PatternFault → Result (Option (List PortRange)) PatternFault → Option (List ℕ) → Result UrlPattern PatternFault
+with_parts host (Err fault) path = Err fault
+with_parts host (Ok ports) path = with_host ports host path
+
+-- a host by its address: behind `<` an address goes to `>`, and nothing or a colon follows
+abbrev pub address_end : ℕ → Bool
+address_end b = b == ADDRESS_END
+
+abbrev pub is_addressed : List ℕ → Bool
+is_addressed text =
+    (list_any address_end text && is_address (before_first address_end text))
+    && (length (after_first address_end text) == 0 || slice_index (after_first address_end text) 0 == COLON)
+
+abbrev pub addressed_pattern : List ℕ → Option (List ℕ) → Result UrlPattern PatternFault
+addressed_pattern text path =
+    if is_addressed text then with_parts (Ok (Address (before_first address_end text))) (ports_of (port_text (after_first address_end text))) path
+    else Err BadAddress
+
+-- a host by its labels, which goes to the first colon
+abbrev pub named_pattern : List ℕ → Option (List ℕ) → Result UrlPattern PatternFault
+named_pattern part path = with_parts (host_pattern (before_first is_colon part)) (ports_of (port_text part)) path
+
+-- the URL pattern of a host part and a path pattern
+abbrev pub pattern_of_parts : List ℕ → Option (List ℕ) → Result UrlPattern PatternFault
+pattern_of_parts part path = if slice_index part 0 == ADDRESS_BEGIN then addressed_pattern (drop 1 part) path else named_pattern part path
+
+-- the URL pattern that a text stands for, or the first refusal
+unfoldable pub url_pattern : List ℕ → Result UrlPattern PatternFault
+url_pattern text = if has_protocol text then Err HasProtocol else pattern_of_parts (pattern_host_part text) (path_pattern text)
+
+-- the tag pattern that a text stands for, or its refusal
+unfoldable pub tag_pattern : List ℕ → Result TagPattern PatternFault
+tag_pattern text = result_map (λ expression. record { expression = expression }) (expression_of text)
+
+-- ---- what a pattern matches
+
+-- an absent part matches everything
+abbrev pub ports_match : Option (List PortRange) → ℕ → Bool
+ports_match None port = true
+ports_match (Some ranges) port = allows ranges port
+
+abbrev pub path_matches : Option (List ℕ) → List ℕ → Bool
+path_matches None path = true
+path_matches (Some expression) path = finds expression path
+
+-- a URL pattern matches a URL where host, port and path match
+unfoldable pub url_matches : UrlPattern → Url → Bool
+url_matches pattern url = (host_matches pattern.host url.host && ports_match pattern.ports url.port) && path_matches pattern.path url.path
+
+-- a tag pattern matches a tag where its expression has a match somewhere in it
+abbrev pub tag_matches : TagPattern → List ℕ → Bool
+tag_matches pattern tag = finds pattern.expression tag

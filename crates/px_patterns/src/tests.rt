@@ -1,0 +1,225 @@
+ghost use Rattle.std.specs.Prelude.{◌≡◌, ◌<◌};
+
+use crate::*;
+use px_base::Steps;
+use std::alloc::Global;
+use std::marker::Brand;
+use std::sync::ledger::{Blank, Ledger};
+use std::test::Fail;
+
+/// A pattern, texts of URLs that it matches, and of URLs that it doesn't.
+const PATTERNS: &[(&str, &[&str], &[&str])] = &[
+    (
+        ".example.com",
+        &[
+            "http://example.com",
+            "http://a.b.example.com./",
+            "http://EXAMPLE.com/",
+        ],
+        &["http://another-example.com/"],
+    ),
+    ("www.", &["http://www.a.test/"], &["http://wwwx.a.test/"]),
+    (
+        ".example.",
+        &["http://a.example.org/"],
+        &["http://examples.org/"],
+    ),
+    (
+        "ad[0-9]*.test",
+        &["http://ad7x.test/"],
+        &["http://adx.test/", "http://ad7.b.test/"],
+    ),
+    (
+        "<2001:db8::1>/",
+        &["http://[2001:DB8::1]/"],
+        &["http://a.test/"],
+    ),
+    (
+        "/a|b",
+        &["http://a.test/a", "http://a.test/xb"],
+        &["http://a.test/x"],
+    ),
+    ("/(?-i)A", &["http://a.test/A"], &["http://a.test/a"]),
+    (
+        "a.test:81-",
+        &["http://a.test:81/", "http://a.test:65535/x"],
+        &["http://a.test/"],
+    ),
+    ("/", &["http://a.test/", "http://b.test:81/?x"], &[]),
+];
+
+fn url_of(alloc: Global, text: &str) -> Result<Url, Fail> {
+    match Url::read(alloc, text.as_bytes()) {
+        Ok(url) => Ok(url),
+        Err(_) => Err(Fail::from("no URL")),
+    }
+}
+
+fn matches_counted<L: Ledger>(
+    alloc: Global,
+    pattern: &UrlPattern,
+    url: &Url,
+    blank: Blank,
+) -> Option<bool>
+    requires name { blank.name ≡ L.name }
+    requires parts { blank.parts ≡ L.parts }
+    requires some { 0 < L.parts }
+{
+    let mut steps: Steps<L> = Steps::begin(blank);
+    match pattern.matches(alloc, url, &mut steps) {
+        Ok(yes) => Some(yes),
+        Err(_) => None,
+    }
+}
+
+fn matches(alloc: Global, pattern: &UrlPattern, url: &Url) -> Option<bool> {
+    matches_counted::<Brand>(alloc, pattern, url, Blank::new(1))
+}
+
+#[test]
+fn patterns_match_what_the_manual_says(rt: HostRuntime) -> Result<(), Fail> {
+    let alloc = rt.alloc();
+    for (text, matching, others) in PATTERNS {
+        let Ok(pattern) = UrlPattern::read(alloc, text) else {
+            panic!(rt; "{text} isn't read");
+        };
+        for url in *matching {
+            assert_eq!(rt;
+                matches(alloc, &pattern, &url_of(alloc, url)?),
+                Some(true),
+                "{url} at {text}"
+            );
+        }
+        for url in *others {
+            assert_eq!(rt;
+                matches(alloc, &pattern, &url_of(alloc, url)?),
+                Some(false),
+                "{url} at {text}"
+            );
+        }
+    }
+    Ok(())
+}
+
+#[test]
+fn patterns_are_refused_by_their_number(rt: HostRuntime) -> Result<(), Fail> {
+    for (text, wanted) in [
+        ("a..b", 7),
+        ("[z-a].test", 5),
+        ("http://a.test", 3),
+        ("a.test:0", 4),
+        ("<x>", 42),
+        ("/(", 6),
+        ("a.test:", 4),
+        ("[].test", 5),
+        ("[a.test", 5),
+        ("<::1>x", 42),
+    ] {
+        match UrlPattern::read(rt.alloc(), text) {
+            Err(PatternFault::Mem) => panic!(rt; "no memory for {text}"),
+            Err(fault) => assert_eq!(rt; fault.number(), wanted, "{text}"),
+            Ok(_) => panic!(rt; "{text} is read"),
+        }
+    }
+    let shown = format!(in rt.alloc(); "{}", PatternFault::BadClass)?;
+    assert_eq!(rt; shown.as_str(), "BadClass");
+    Ok(())
+}
+
+#[test]
+fn urls_are_read_and_printed(rt: HostRuntime) -> Result<(), Fail> {
+    let alloc = rt.alloc();
+    for (text, host, port, path, shown) in [
+        ("http://A.test", "A.test", 80, "/", "http://A.test/"),
+        ("HTTP://a.test:/?q", "a.test", 80, "/?q", "http://a.test/?q"),
+        ("http://[::1]:81/x", "::1", 81, "/x", "http://[::1]:81/x"),
+    ] {
+        let url = url_of(alloc, text)?;
+        assert_eq!(rt; url.host.as_bytes(), host.as_bytes(), "{text}");
+        assert_eq!(rt; url.port, port, "{text}");
+        assert_eq!(rt; url.path.as_bytes(), path.as_bytes(), "{text}");
+        let Ok(printed) = url.print(alloc) else {
+            panic!(rt; "{text} isn't printed");
+        };
+        assert_eq!(rt; printed.as_bytes(), shown.as_bytes(), "{text}");
+    }
+    let Ok(host_port) = url_of(alloc, "http://[::1]:81/x")?.host_port(alloc) else {
+        panic!(rt; "no host and port");
+    };
+    assert_eq!(rt; host_port.as_bytes(), b"[::1]:81".as_slice());
+    Ok(())
+}
+
+#[test]
+fn urls_are_refused_by_their_number(rt: HostRuntime) {
+    for (text, wanted) in [
+        ("http://u@a.test/", 10),
+        ("http:///x", 9),
+        ("http://a.test:70000/", 11),
+        ("http://a.test/a b", 43),
+        ("ftp://a.test/", 8),
+    ] {
+        match Url::read(rt.alloc(), text.as_bytes()) {
+            Err(UrlFault::Mem) => panic!(rt; "no memory for {text}"),
+            Err(fault) => assert_eq!(rt; fault.number(), wanted, "{text}"),
+            Ok(_) => panic!(rt; "{text} is read"),
+        }
+    }
+}
+
+#[test]
+fn an_authority_needs_its_port(rt: HostRuntime) {
+    let alloc = rt.alloc();
+    match Url::authority(alloc, b"a.test:443") {
+        Ok(url) => {
+            assert_eq!(rt; url.port, 443);
+            assert_eq!(rt; url.path.as_bytes(), b"/".as_slice());
+        }
+        Err(_) => panic!(rt; "a host and a port aren't read"),
+    }
+    for text in ["a.test", "a.test:", "a.test:443/"] {
+        assert!(rt;
+            matches!(
+                Url::authority(alloc, text.as_bytes()),
+                Err(UrlFault::BadPort)
+            ),
+            "{text}"
+        );
+    }
+}
+
+#[test]
+fn tag_patterns_search_anywhere_in_a_tag(rt: HostRuntime) {
+    let alloc = rt.alloc();
+    for (text, tag, wanted) in [
+        ("^Xx$", "Xx", true),
+        ("^Xx$", "xX", true),
+        ("^Xx$", "Xxx", false),
+        ("Xx", "aXxb", true),
+        ("Xx", "Yy", false),
+    ] {
+        match TagPattern::read(alloc, text) {
+            Ok(pattern) => match pattern.matches(alloc, tag.as_bytes()) {
+                Ok(found) => assert_eq!(rt; found, wanted, "{text} at {tag}"),
+                Err(_) => panic!(rt; "no memory for {text}"),
+            },
+            Err(_) => panic!(rt; "{text} isn't read"),
+        }
+    }
+    assert!(rt; matches!(TagPattern::read(alloc, "("), Err(PatternFault::BadRegex)));
+}
+
+#[test]
+fn buckets_are_the_last_plain_label_or_the_address(rt: HostRuntime) {
+    for (text, wanted) in [
+        (".a*.b.test", Bucket::Label(b"test")),
+        ("a*.b?", Bucket::Always),
+        ("<::1>", Bucket::Address(b"::1")),
+        ("", Bucket::Always),
+    ] {
+        match UrlPattern::read(rt.alloc(), text) {
+            Ok(pattern) => assert!(rt; pattern.host().bucket() == wanted, "{text}"),
+            Err(_) => panic!(rt; "{text} isn't read"),
+        }
+    }
+}
