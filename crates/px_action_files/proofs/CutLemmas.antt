@@ -1,11 +1,10 @@
 -- The blocks of lines.
-use Rattle.std.proofs.Common.{◌≡◌, ℕ, suc, zero, Bool, true, false, List, [], ◌∷◌, length, take, drop, refl, sym, ap, subst, ◌∙◌, Ok, arith}
+use Rattle.std.proofs.Common.{◌≡◌, Bool, true, false, List, [], ◌∷◌, length, take, drop, refl, sym, ap, subst, ◌∙◌, Ok, arith}
 use Rattle.std.proofs.Math.Numerals.{one-add}
-use Rattle.std.specs.Prelude.{if◌then◌else◌}
 use Rattle.std.specs.List.{position_or_len}
 use Rattle.px_text.specs.declared.lines.Line.{Line}
-use Rattle.px_action_files.specs.Faults.{Refused, result_map, and_then, IsReported}
-use Rattle.px_action_files.specs.Files.{Cut, Lines, Given, cut, is_heading, lines_of, with_line, after_block, after_blocks, nothing_given, behind_front, file_sections}
+use Rattle.px_action_files.specs.Faults.{and_then, IsReported}
+use Rattle.px_action_files.specs.Files.{Lines, Given, cut, is_heading, lines_of, after_block, after_blocks, nothing_given, file_sections}
 use Rattle.px_action_files.specs.declared.faults.FileFault.{FileFault}
 use Rattle.px_action_files.proofs.ResultLemmas.{reported_then, reported_map, reported_same}
 

@@ -1,5 +1,5 @@
 -- What is read part by part.
-use Rattle.std.proofs.Common.{◌≡◌, ℕ, refl, sym, ap, subst, ◌∙◌, Ok, Err}
+use Rattle.std.proofs.Common.{◌≡◌, ℕ, ap, subst, Ok, Err}
 use Rattle.std.specs.Prelude.{Result, ◌≢◌}
 use Rattle.px_actions.specs.declared.faults.ActionFault.{ActionFault}
 use Rattle.px_actions.specs.declared.faults.ActionFault.TheVariants as action

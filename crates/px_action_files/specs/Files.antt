@@ -1,5 +1,5 @@
 -- Actions files: blocks of lines, each with a heading (the manual's chapter on actions files).
-use Rattle.std.specs.Prelude.{ℕ, ◌-◌, ◌==◌, ◌&&◌, ◌||◌, Bool, true, false, not, if◌then◌else◌, List, [], ◌∷◌, ◌++◌, length, take, drop, slice_index, Option, Some, None, Result, Ok, Err, is_some, unwrap_or, codes}
+use Rattle.std.specs.Prelude.{ℕ, ◌-◌, ◌==◌, ◌||◌, Bool, false, not, if◌then◌else◌, List, [], ◌∷◌, ◌++◌, length, take, drop, slice_index, Option, Some, None, Result, Ok, Err, is_some, unwrap_or, codes}
 use Rattle.std.specs.Str.{str_eq_ignore_ascii_case}
 use Rattle.px_base.specs.Blanks.{trimmed}
 use Rattle.px_text.specs.declared.lines.Line.{Line}

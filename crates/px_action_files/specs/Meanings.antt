@@ -1,5 +1,5 @@
 -- What the parts of an actions file stand for, as plain data.
-use Rattle.std.specs.Prelude.{ℕ, List, map, Option, option_map}
+use Rattle.std.specs.Prelude.{ℕ, List, map}
 use Rattle.px_actions.specs.declared.kinds.Kind.{Kind}
 use Rattle.px_actions.specs.declared.changes.Change.{Change}
 use Rattle.px_actions.specs.declared.updates.Update.{Update}
