@@ -1,4 +1,6 @@
 use crate::{Line, TextFault, logical_lines};
+use px_base::List;
+use std::alloc::Global;
 use std::test::Fail;
 
 /// A file's bytes, and the lines that they stand for.
@@ -39,20 +41,26 @@ fn push_line(file: &mut Vec<u8>, count: usize, end: &[u8]) -> Result<(), Fail> {
     Ok(())
 }
 
+/// Reads the lines of a short file.
+fn read(alloc: Global, file: &[u8]) -> Result<List<Line>, TextFault> {
+    if file.len() <= 100_000 {
+        logical_lines(alloc, file)
+    } else {
+        Err(TextFault::Mem)
+    }
+}
+
 #[test]
 fn the_refusal_at_the_smallest_line_is_answered(rt: HostRuntime) -> Result<(), Fail> {
     let alloc = rt.alloc();
     let mut file = Vec::new(alloc);
     push_line(&mut file, 8192, b"\n")?;
-    assert!(rt;
-        logical_lines(alloc, file.as_slice()).is_ok(),
-        "8,192 bytes"
-    );
+    assert!(rt; read(alloc, file.as_slice()).is_ok(), "8,192 bytes");
     file.clear();
     push_line(&mut file, 8191, b" b\n\xff\n")?;
     assert!(rt;
         matches!(
-            logical_lines(alloc, file.as_slice()),
+            read(alloc, file.as_slice()),
             Err(TextFault::TooLong { line: 1 })
         ),
         "8,193 bytes before a line that isn't text"
@@ -62,7 +70,7 @@ fn the_refusal_at_the_smallest_line_is_answered(rt: HostRuntime) -> Result<(), F
     push_line(&mut file, 8192, b"\n")?;
     assert!(rt;
         matches!(
-            logical_lines(alloc, file.as_slice()),
+            read(alloc, file.as_slice()),
             Err(TextFault::TooLong { line: 2 })
         ),
         "a joined line that is too long, and whose second line isn't text"
