@@ -8,8 +8,10 @@ use Rattle.httparse.specs.declared.spans.RequestSpans.{RequestSpans}
 use Rattle.httparse.specs.declared.spans.ResponseSpans.{ResponseSpans}
 use Rattle.httparse.proofs.GrammarLemmas.{request_unique, response_unique}
 use Rattle.px_head.specs.Fields.{field_at, field_of}
-use Rattle.px_head.specs.Heads.{request_of, response_of}
+use Rattle.px_head.specs.Heads.{request_of, response_of, IsRequest, IsResponse}
 use Rattle.px_head.specs.declared.fields.Field.{Field}
+use Rattle.px_head.specs.declared.requests.RequestHead.{RequestHead}
+use Rattle.px_head.specs.declared.responses.ResponseHead.{ResponseHead}
 
 map-after : {X Y Z : Type 0} (f : X → Y) (g : Y → Z) (xs : List X) → map g (map f xs) ≡ map (λ x. g (f x)) xs
 map-after f g [] = refl
@@ -52,6 +54,10 @@ finds-request block headers r of whole fits =
 pub one-request-count : (block : List ℕ) (h k : grammar.RequestHead) → grammar.ReadsRequest block h [] → grammar.ReadsRequest block k [] → length h.fields ≡ length k.fields
 one-request-count block h k a b = ap (λ (t : grammar.RequestHead). length t.fields) (request_unique block h k [] [] a b).0
 
+-- the head that a block is, is the one that is found in it
+pub one-request : (block : List ℕ) (head : RequestHead) (h : grammar.RequestHead) → IsRequest block head → grammar.ReadsRequest block h [] → head ≡ request_of h
+one-request block head h is reads = is.parts ∙ ap request_of (request_unique block is.tree h [] [] is.reads reads).0
+
 -- the same for a response
 pub record FindsResponse (block : List ℕ) (headers : List HeaderSpan) (r : ResponseSpans) : Type 0 where
   pub tree : grammar.ResponseHead
@@ -72,3 +78,7 @@ finds-response block headers r of whole fits =
 
 pub one-response-count : (block : List ℕ) (h k : grammar.ResponseHead) → grammar.ReadsResponse block h [] → grammar.ReadsResponse block k [] → length h.fields ≡ length k.fields
 one-response-count block h k a b = ap (λ (t : grammar.ResponseHead). length t.fields) (response_unique block h k [] [] a b).0
+
+-- the head that a block is, is the one that is found in it
+pub one-response : (block : List ℕ) (head : ResponseHead) (h : grammar.ResponseHead) → IsResponse block head → grammar.ReadsResponse block h [] → head ≡ response_of h
+one-response block head h is reads = is.parts ∙ ap response_of (response_unique block is.tree h [] [] is.reads reads).0

@@ -1,5 +1,5 @@
 -- The refusals of heads: number, name, and when one comes.
-use Rattle.std.specs.Prelude.{◌≡◌, ℕ, ◌⊎◌, List, codes, Result, Err, MatchResult}
+use Rattle.std.specs.Prelude.{◌≡◌, ℕ, ◌⊎◌, List, codes, Result, Ok, Err, MatchResult}
 use Rattle.px_head.specs.declared.faults.HeadFault.{HeadFault}
 use Rattle.px_head.specs.declared.faults.HeadFault.TheVariants.{Malformed, TooManyFields, Mem}
 
@@ -17,6 +17,10 @@ fault_name Mem = codes "Mem"
 -- the fault is the answer, or memory was wanting
 abbrev pub IsRefused : {T : Type 0} → Result T HeadFault → HeadFault → Type 0
 IsRefused result fault = MatchResult result (λ _. ⊥) (λ e. (e ≡ fault) ⊎ (e ≡ Mem))
+
+-- that head is the answer, or memory was wanting
+abbrev pub IsReadAs : {T : Type 0} → Result T HeadFault → T → Type 0
+IsReadAs result head = (result ≡ Ok head) ⊎ (result ≡ Err Mem)
 
 -- the fault comes exactly where that holds, save that memory may be wanting there
 pub record ComesExactly {T : Type 0} (result : Result T HeadFault) (fault : HeadFault) (where_ : Type 0) : Type 0 where

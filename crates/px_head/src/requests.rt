@@ -1,5 +1,5 @@
 // Heads of requests.
-ghost use Rattle.std.specs.Prelude.{◌≡◌, ◌==◌, ◌≤◌, [], length, map, count_by, All, IfOk, IfSome, IfNone, IsOkUnless};
+ghost use Rattle.std.specs.Prelude.{◌≡◌, ◌==◌, ◌≤◌, [], length, map, count_by, All, IfOk, IfSome, IfNone};
 ghost use Rattle.httparse.specs.Grammar as grammar;
 ghost use Rattle.httparse.specs.Spans.{IsWithin, IsHeaderWithin, IsRequestWithin, IsRequestOf, span_bytes};
 ghost use Rattle.px_head.specs.Fields.{field_at};
@@ -25,7 +25,7 @@ pub struct RequestHead {
 }
 
 impl RequestHead {
-    ghost use Rattle.px_head.specs.Faults.{ComesExactly};
+    ghost use Rattle.px_head.specs.Faults.{ComesExactly, IsReadAs};
     ghost use Rattle.px_head.specs.Heads.{IsRequest, IsNoRequest, HasManyRequestFields};
     ghost use Rattle.px_head.specs.Prints.{request_line};
 
@@ -38,8 +38,7 @@ impl RequestHead {
         ensures head { IfOk result (IsRequest block.now) }
         ensures malformed { ComesExactly result HeadFault.Malformed (IsNoRequest block.now) }
         ensures too_many { ComesExactly result HeadFault.TooManyFields (HasManyRequestFields block.now) }
-        ensures read { (h : grammar.RequestHead) → grammar.ReadsRequest block.now h [] → length h.fields ≤ FIELD_LIMIT
-            → IsOkUnless result HeadFault.Mem }
+        ensures read { (head : RequestHead) → IsRequest block.now head → IsReadAs result head }
     {
         let mut room = room_for(alloc, block)?;
         let spans = room.as_mut_slice();

@@ -1,5 +1,5 @@
 // Heads of responses.
-ghost use Rattle.std.specs.Prelude.{◌≡◌, ◌==◌, ◌≤◌, [], length, map, count_by, All, IfOk, IfSome, IfNone, IsOkUnless};
+ghost use Rattle.std.specs.Prelude.{◌≡◌, ◌==◌, ◌≤◌, [], length, map, count_by, All, IfOk, IfSome, IfNone};
 ghost use Rattle.httparse.specs.Grammar as grammar;
 ghost use Rattle.httparse.specs.Spans.{IsWithin, IsHeaderWithin, IsResponseWithin, IsResponseOf, span_bytes};
 ghost use Rattle.px_head.specs.Fields.{field_at};
@@ -26,7 +26,7 @@ pub struct ResponseHead {
 }
 
 impl ResponseHead {
-    ghost use Rattle.px_head.specs.Faults.{ComesExactly};
+    ghost use Rattle.px_head.specs.Faults.{ComesExactly, IsReadAs};
     ghost use Rattle.px_head.specs.Heads.{IsResponse, IsNoResponse, HasManyResponseFields};
     ghost use Rattle.px_head.specs.Prints.{status_line};
 
@@ -39,8 +39,7 @@ impl ResponseHead {
         ensures head { IfOk result (IsResponse block.now) }
         ensures malformed { ComesExactly result HeadFault.Malformed (IsNoResponse block.now) }
         ensures too_many { ComesExactly result HeadFault.TooManyFields (HasManyResponseFields block.now) }
-        ensures read { (h : grammar.ResponseHead) → grammar.ReadsResponse block.now h [] → length h.fields ≤ FIELD_LIMIT
-            → IsOkUnless result HeadFault.Mem }
+        ensures read { (head : ResponseHead) → IsResponse block.now head → IsReadAs result head }
     {
         let mut room = room_for(alloc, block)?;
         let spans = room.as_mut_slice();

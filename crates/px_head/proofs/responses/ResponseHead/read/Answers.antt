@@ -1,11 +1,16 @@
-use Rattle.std.proofs.Common.{◌≤◌, ◌∙◌, sym, length, arith}
-use Rattle.px_head.proofs.HeadLemmas.{finds-response, one-response-count}
+use Rattle.std.proofs.Common.{◌≤◌, ◌∙◌, sym, ap, inl, length, arith, Ok}
+use Rattle.px_head.proofs.HeadLemmas.{finds-response, one-response, one-response-count}
 use Rattle.px_head.proofs.responses.ResponseHead.read.Goals as goal
 
 pub returns-then-found-gt-FIELD_LIMIT-clause-read : goal.returns-then-found-gt-FIELD_LIMIT-clause-read
-returns-then-found-gt-FIELD_LIMIT-clause-read c h reads few =
+returns-then-found-gt-FIELD_LIMIT-clause-read c head is =
     let found = finds-response _ _ _ c.in-Some.ensures.reads c.in-Some.ensures.whole c.in-Some.ensures.within.section.count_fits in
-    absurd (omega (arith, one-response-count _ h found.tree reads found.reads, found.count))
+    absurd (omega (arith, one-response-count _ is.tree found.tree is.reads found.reads, found.count, is.few))
+
+pub returns-clause-read : goal.returns-clause-read
+returns-clause-read c head is =
+    let found = finds-response _ _ _ c.in-Some.ensures.reads c.in-Some.ensures.whole c.in-Some.ensures.within.section.count_fits in
+    inl (ap Ok (c.in_ok-build.ensures ∙ sym found.parts ∙ sym (one-response _ head found.tree is found.reads)))
 
 pub returns-clause-head : goal.returns-clause-head
 returns-clause-head c =
