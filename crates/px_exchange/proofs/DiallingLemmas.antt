@@ -13,7 +13,7 @@ use Rattle.px_base.specs.Sources.{SourceState, SourceGoesOn}
 use Rattle.px_base.specs.Sinks.{SinkState, SinkGoesOn}
 use Rattle.px_base.specs.Dials.{DialerState, IsFresh, IsTold, HangsUp, traffic, Traffic, is_open, is_open_at, finish, closed_dial, agrees}
 use Rattle.px_exchange.specs.declared.judging.Plan.{Plan}
-use Rattle.px_exchange.specs.declared.answering.Reply.{Reply}
+use Rattle.px_exchange.specs.declared.replies.Reply.{Reply}
 use Rattle.px_exchange.specs.Sending.{GivesOver, IsPrefix, link_seen}
 use Rattle.px_exchange.specs.Dialling.{DialsOnce, WantsFor, Comes}
 
@@ -81,7 +81,7 @@ added_once old mid new i i' o' host tells em unmarked on_in hung =
     en ∙ ap (finish i.mark t) em ∙ finish-last i.mark t d old.dials unmarked (eq-eqb i.mark i.mark refl) ∙ ap (λ (x : Dial). old.dials ++ x ∷ []) seen
 
 -- a dial, a talk over its link, and hanging up
-pub dialed_once : (old mid new : DialerState) (i i' : SourceState) (o o' : SinkState) (plan : Plan) (r : Result Reply Mem)
+pub dialed_once : (old mid new : DialerState) (i i' : SourceState) (o o' : SinkState) (plan : Plan) (reply : Reply)
     → IsTrue mid.tells
     → mid.dials ≡ old.dials ++ record { host = plan.host; port = 80; outcome = outcome.Open i.mark i.offered } ∷ []
     → IsTold old (record { link_in = i; link_out = o })
@@ -92,10 +92,9 @@ pub dialed_once : (old mid new : DialerState) (i i' : SourceState) (o o' : SinkS
     → SourceGoesOn i i'
     → SinkGoesOn o o'
     → HangsUp mid new i' o'
-    → IfOk r (GivesOver plan (link_seen i' o'))
-    → IfOk r (DialsOnce old new plan)
-dialed_once old mid new i i' o o' plan (Err f) tells em told fresh agree left stay on_in on_out hung gives = tt
-dialed_once old mid new i i' o o' plan (Ok reply) tells em told fresh agree left stay on_in on_out hung gives =
+    → GivesOver plan (link_seen i' o') reply
+    → DialsOnce old new plan reply
+dialed_once old mid new i i' o o' plan reply tells em told fresh agree left stay on_in on_out hung gives =
     record {
       dial = record { host = plan.host; port = 80; outcome = outcome.Link (link_seen i' o') };
       added = added_once old mid new i i' o' plan.host tells em told.new_mark on_in hung;
@@ -108,16 +107,15 @@ dialed_once old mid new i i' o o' plan (Ok reply) tells em told fresh agree left
     }
 
 -- the same, where memory was wanting in the talk
-pub wanted_once : (old mid new : DialerState) (i i' : SourceState) (o' : SinkState) (plan : Plan) (r : Result Reply Mem)
+pub wanted_once : (old mid new : DialerState) (i i' : SourceState) (o' : SinkState) (plan : Plan)
     → IsTrue mid.tells
     → mid.dials ≡ old.dials ++ record { host = plan.host; port = 80; outcome = outcome.Open i.mark i.offered } ∷ []
     → is_open i.mark old.dials ≡ false
     → SourceGoesOn i i'
     → HangsUp mid new i' o'
-    → OnErr r (IsPrefix o'.taken plan.sent)
-    → OnErr r (WantsFor old new plan)
-wanted_once old mid new i i' o' plan (Ok reply) tells em unmarked on_in hung wants = tt
-wanted_once old mid new i i' o' plan (Err f) tells em unmarked on_in hung wants =
+    → IsPrefix o'.taken plan.sent
+    → WantsFor old new plan
+wanted_once old mid new i i' o' plan tells em unmarked on_in hung wants =
     inr (inr (record {
       dial = record { host = plan.host; port = 80; outcome = outcome.Link (link_seen i' o') };
       added = added_once old mid new i i' o' plan.host tells em unmarked on_in hung;

@@ -1,4 +1,8 @@
 pub mod Cutting
-pub mod AnsweringLemmas
 pub mod DiallingLemmas
 pub mod FrontLemmas
+pub mod HearingLemmas
+pub mod PumpLemmas
+pub mod ReturningLemmas
+pub mod SendingLemmas
+pub mod ShowsLemmas

@@ -7,13 +7,13 @@ use Rattle.px_exchange.specs.declared.wire.TheConstants.{NOT_BUILT}
 use Rattle.px_exchange.specs.declared.pages.Page.TheVariants as page
 use Rattle.px_exchange.specs.declared.judging.HeadSeen.{HeadSeen}
 use Rattle.px_exchange.specs.declared.judging.Plan.{Plan}
-use Rattle.px_exchange.specs.declared.answering.Reply.{Reply}
+use Rattle.px_exchange.specs.declared.replies.Reply.{Reply}
 use Rattle.px_exchange.specs.declared.notes.Ending.{Ending}
 use Rattle.px_exchange.specs.declared.notes.Ending.TheVariants as ending
 use Rattle.px_exchange.specs.declared.notes.After.{After}
 use Rattle.px_exchange.specs.declared.notes.After.TheVariants as after
 use Rattle.px_exchange.specs.Judging.{Judged}
-use Rattle.px_exchange.specs.Sending.{IsPrefix}
+use Rattle.px_exchange.specs.Returning.{AddsPrefix}
 use Rattle.px_exchange.specs.Answering.{page_reply}
 use Rattle.px_exchange.specs.Dialling.{DialsOnce, WantsFor}
 
@@ -47,10 +47,6 @@ pub record WantsOn (seen : HeadSeen) (first last : Bool) (old new : DialerState)
 abbrev pub Wants : HeadSeen → Bool → Bool → DialerState → DialerState → Type 0
 Wants seen first last old new = (new.dials ≡ old.dials) ⊎ WantsOn seen first last old new
 
--- a prefix of the bytes was added
-abbrev pub AddsPrefix : List ℕ → List ℕ → List ℕ → Type 0
-AddsPrefix old new bytes = (added : List ℕ) × IsPrefix added bytes × (new ≡ old ++ added)
-
 -- what the client's sink took of a reply, by what came after
 abbrev pub Returns : List ℕ → List ℕ → Reply → Ending → After → Type 0
 Returns old new reply e after.Keep = (new ≡ old ++ reply.bytes) × (reply.keep ≡ true) × (e ≡ reply.ending)
@@ -58,24 +54,26 @@ Returns old new reply e after.Close = (new ≡ old ++ reply.bytes) × (reply.kee
 Returns old new reply e after.WriteFailed = AddsFront old new reply.bytes × (e ≡ ending.Broken)
 Returns old new reply e after.NoMemory = AddsPrefix old new reply.bytes × (e ≡ ending.Broken)
 
--- a reply was due, and was returned, or after a fault or for want of memory a prefix of it
-pub record Replies (seen : HeadSeen) (first last : Bool) (old new : DialerState) (taken taken' : List ℕ) (e : Ending) (a : After) : Type 0 where
-  pub reply : Reply
-  pub due : Due seen first last old new reply
-  pub returned : Returns taken taken' reply e a
-
--- memory was wanting before a reply was due, and nothing was returned
-pub record GivesUp (seen : HeadSeen) (first last : Bool) (old new : DialerState) (taken taken' : List ℕ) (e : Ending) (a : After) : Type 0 where
-  pub wants : Wants seen first last old new
+-- what was returned of the reply that was due, or that memory was wanting before and nothing was returned
+pub record GivesUp (Wants : Type 0) (taken taken' : List ℕ) (e : Ending) (a : After) : Type 0 where
+  pub wants : Wants
   pub nothing_returned : taken' ≡ taken
   pub broken : e ≡ ending.Broken
   pub no_memory : a ≡ after.NoMemory
+
+pub record Replies (Due : Reply → Type 0) (taken taken' : List ℕ) (e : Ending) (a : After) : Type 0 where
+  pub reply : Reply
+  pub due : Due reply
+  pub returned : Returns taken taken' reply e a
+
+abbrev pub Concludes : (Reply → Type 0) → Type 0 → List ℕ → List ℕ → Ending → After → Type 0
+Concludes Due Wants taken taken' e a = Replies Due taken taken' e a ⊎ GivesUp Wants taken taken' e a
 
 -- one exchange: its request, whether it is the first and the last one of its connection, the dialer before and after,
 -- what the client's sink had taken before and after, its ending, and what comes after
 abbrev pub Exchanges : HeadSeen → Bool → Bool → DialerState → DialerState → List ℕ → List ℕ → Ending → After → Type 0
 Exchanges seen first last old new taken taken' e a =
-    Replies seen first last old new taken taken' e a ⊎ GivesUp seen first last old new taken taken' e a
+    Concludes (Due seen first last old new) (Wants seen first last old new) taken taken' e a
 
 -- the client's sink failed exactly where its count says so
 abbrev pub WriteCause : SinkState → SinkState → After → Type 0

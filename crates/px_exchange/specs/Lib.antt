@@ -4,7 +4,10 @@ pub mod Pages
 pub mod Reading
 pub mod Judging
 pub mod Answering
+pub mod Pumps
 pub mod Sending
+pub mod Returning
+pub mod Hearing
 pub mod Dialling
 pub mod Exchange
 pub mod Configs

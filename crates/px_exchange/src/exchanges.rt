@@ -1,50 +1,25 @@
 // One exchange: a request, and all that follows from it.
-ghost use Rattle.std.specs.Prelude.{◌≡◌, true, IsTrue, IfOk, OnErr};
-ghost use Rattle.px_base.specs.Sinks.{SinkGoesOn};
-ghost use Rattle.px_base.specs.Dials.{DialerGoesOn};
+ghost use Rattle.std.specs.Prelude.{◌≡◌, ◌≢◌, ℕ, Bool, List, true, IsTrue};
+ghost use Rattle.px_base.specs.Sinks.{SinkState, SinkGoesOn};
+ghost use Rattle.px_base.specs.Dials.{DialerState, DialerGoesOn};
 ghost use Rattle.px_exchange.specs.declared.pages.Page.{Page};
 ghost use Rattle.px_exchange.specs.Dialling.{ConnectCause};
-ghost use Rattle.px_exchange.specs.Answering.{IsOfAnswer};
-ghost use Rattle.px_exchange.specs.Exchange.{refusal, Due, Wants, Exchanges, Returns, WriteCause, after_whole};
+ghost use Rattle.px_exchange.specs.declared.replies.Reply.{Reply};
+ghost use Rattle.px_exchange.specs.Answering.{page_reply};
+ghost use Rattle.px_exchange.specs.Returning.{ReturnsBy, TalkCause, IsHeard};
+ghost use Rattle.px_exchange.specs.Exchange.{Due, Wants, Exchanges, Returns, WriteCause, after_whole};
 
-use crate::answering::{Reply, page_reply};
 use crate::dialling::carry_out;
 use crate::feeds::Feed;
 use crate::judging::{HeadSeen, judge};
 use crate::notes::{After, Ending, ExchangeNote, Exchanged};
 use crate::pages::Page;
+use crate::replies::{Reply, page_reply};
 use crate::snapshots::{Config, Snapshot};
+use crate::talks::Talked;
 use crate::wire::NOT_BUILT;
 use px_base::{Dialer, Mem, Peer, Sink, SinkFault, Source, Text, write_all};
 use std::alloc::Global;
-
-/// The page of a refused request.
-#[tactic(auto, unfolding(crate::specs::Answering::page_reply))]
-fn refusal(alloc: Global) -> Result<Reply, Mem>
-    ensures value { IfOk result (λ reply. reply ≡ refusal) }
-    ensures kind { IfOk result IsOfAnswer }
-{
-    page_reply(alloc, Page::InvalidRequest, NOT_BUILT)
-}
-
-/// What is due to the client for a request. After `Mem` something may have been sent on.
-fn compose<D: Dialer>(
-    alloc: Global,
-    seen: &HeadSeen,
-    first: bool,
-    last: bool,
-    dialer: &mut D,
-) -> Result<Reply, Mem>
-    ensures due { IsTrue (D.state dialer.old).tells → IfOk result (Due seen.now first last (D.state dialer.old) (D.state dialer.new)) }
-    ensures wants { IsTrue (D.state dialer.old).tells → OnErr result (Wants seen.now first last (D.state dialer.old) (D.state dialer.new)) }
-    ensures connect_failed { IfOk result (λ reply. reply.ending ≡ Ending.Page Page.ConnectFailed → ConnectCause (D.state dialer.old) (D.state dialer.new)) }
-    ensures goes_on { DialerGoesOn (D.state dialer.old) (D.state dialer.new) }
-{
-    match judge(alloc, seen, first, last)? {
-        None => refusal(alloc),
-        Some(plan) => carry_out(alloc, &plan, dialer),
-    }
-}
 
 /// What was returned of a reply, and what comes after.
 #[derive(Clone, Copy, Debug, PartialEq, Eq)]
@@ -84,6 +59,51 @@ fn after_whole(keep: bool) -> After
     if keep { After::Keep } else { After::Close }
 }
 
+/// Returns a page to the client. `error` is as for its text.
+#[tactic(auto, unfolding(crate::specs::Answering::page_reply))]
+fn give_page<O: Sink>(alloc: Global, client_out: &mut O, page: Page, error: &[u8]) -> Given
+    ensures returns { IsTrue (O.state client_out.old).tells → Returns (O.state client_out.old).taken (O.state client_out.new).taken (page_reply page error.now) result.ending result.after }
+    ensures cause { WriteCause (O.state client_out.old) (O.state client_out.new) result.after }
+    ensures page { (p : Page) → result.ending ≡ Ending.Page p → p ≡ page }
+    ensures open { (O.state client_out.new).finished ≡ (O.state client_out.old).finished }
+    ensures goes_on { SinkGoesOn (O.state client_out.old) (O.state client_out.new) }
+{
+    match page_reply(alloc, page, error) {
+        Ok(reply) => give(client_out, &reply),
+        Err(Mem) => Given {
+            ending: Ending::Broken,
+            after: After::NoMemory,
+        },
+    }
+}
+
+/// What is left to return after a talk, and what comes after.
+fn conclude<O: Sink>(alloc: Global, client_out: &mut O, talked: Talked) -> Given
+    ensures exchanges { IsTrue (O.state client_out.old).tells → (seen : HeadSeen) (first last : Bool) (old new : DialerState) (taken : List ℕ)
+        → ReturnsBy (Due seen first last old new) (Wants seen first last old new) taken (O.state client_out.old).taken talked
+        → Exchanges seen first last old new taken (O.state client_out.new).taken result.ending result.after }
+    ensures cause { (old : SinkState) → TalkCause old (O.state client_out.old) talked → WriteCause old (O.state client_out.new) result.after }
+    ensures heard { IsHeard talked → result.ending ≢ Ending.Page Page.ConnectFailed }
+    ensures open { (O.state client_out.new).finished ≡ (O.state client_out.old).finished }
+    ensures goes_on { SinkGoesOn (O.state client_out.old) (O.state client_out.new) }
+{
+    match talked {
+        Talked::Page(page) => give_page(alloc, client_out, page, &[]),
+        Talked::Returned { keep, ending } => Given {
+            ending,
+            after: after_whole(keep),
+        },
+        Talked::WriteFailed => Given {
+            ending: Ending::Broken,
+            after: After::WriteFailed,
+        },
+        Talked::NoMemory => Given {
+            ending: Ending::Broken,
+            after: After::NoMemory,
+        },
+    }
+}
+
 /// Answers one request: judges it, dials, sends it on, hears the answer and returns what is due.
 fn respond<O: Sink, D: Dialer>(
     alloc: Global,
@@ -101,8 +121,12 @@ fn respond<O: Sink, D: Dialer>(
     ensures out_goes_on { SinkGoesOn (O.state client_out.old) (O.state client_out.new) }
     ensures goes_on { DialerGoesOn (D.state dialer.old) (D.state dialer.new) }
 {
-    match compose(alloc, seen, first, last, dialer) {
-        Ok(reply) => give(client_out, &reply),
+    match judge(alloc, seen, first, last) {
+        Ok(None) => give_page(alloc, client_out, Page::InvalidRequest, NOT_BUILT),
+        Ok(Some(plan)) => {
+            let talked = carry_out(alloc, &plan, dialer, client_out);
+            conclude(alloc, client_out, talked)
+        }
         Err(Mem) => Given {
             ending: Ending::Broken,
             after: After::NoMemory,

@@ -3,16 +3,21 @@
 
 mod ahead;
 mod answering;
+mod bodies;
 mod dialling;
 mod exchanges;
 mod feeds;
 mod fronts;
+mod heads;
 mod judging;
 mod names;
 mod notes;
 mod pages;
+mod pumps;
+mod replies;
 mod sending;
 mod snapshots;
+mod talks;
 mod targets;
 pub mod wire;
 
@@ -23,6 +28,7 @@ pub use fronts::{Front, read_front};
 pub use judging::HeadSeen;
 pub use notes::{After, Ending, ExchangeNote, Exchanged};
 pub use pages::Page;
+pub use pumps::{Asked, Flow, Pump};
 pub use snapshots::{Config, Configs, FixedConfig, Snapshot};
 
 #[cfg(test)]

@@ -6,8 +6,10 @@ use crate::pages::Page;
 pub enum Ending {
     /// A page in place of an answer.
     Page(Page),
-    /// The origin's answer.
+    /// The origin's answer, with its whole body.
     Passed,
+    /// The origin's answer, whose body ended too early: the front of it that came.
+    CutFront,
     /// Not all that was due, for a fault of the client's sink or want of memory.
     Broken,
 }

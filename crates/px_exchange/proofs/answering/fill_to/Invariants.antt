@@ -1,9 +1,0 @@
-use Rattle.std.proofs.Common.{◌-◌, length}
-use Rattle.px_exchange.specs.Reading.{Kept}
-use Rattle.px_exchange.proofs.answering.fill_to.Given as goal
-
-abbrev pub invariant-more : goal.invariant-more
-invariant-more g l = Kept (g.S.Source.state l.initial.source) (g.S.Source.state l.source) l.initial.ahead l.ahead
-
-abbrev pub decreases-more : goal.decreases-more
-decreases-more g l = l.want - length l.ahead

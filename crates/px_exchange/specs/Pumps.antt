@@ -1,0 +1,223 @@
+-- The pump: what it has put out of an answer that it is fed in pieces.
+use Rattle.std.specs.Prelude.{◌≡◌, ◌≢◌, ℕ, ◌+◌, ◌-◌, ◌<◌, ◌≤◌, ◌^◌, Bool, true, false, not, ◌&&◌, ◌⊎◌, if◌then◌else◌, List, [], ◌++◌, length, take, drop}
+use Rattle.px_head.specs.declared.responses.ResponseHead.{ResponseHead}
+use Rattle.px_head.specs.declared.blocks.HeadEnd.TheVariants as end
+use Rattle.px_head.specs.Blocks.{head_end}
+use Rattle.px_exchange.specs.declared.pages.Page.{Page}
+use Rattle.px_exchange.specs.declared.pages.Page.TheVariants as page
+use Rattle.px_exchange.specs.declared.notes.Ending.{Ending}
+use Rattle.px_exchange.specs.declared.notes.Ending.TheVariants as ending
+use Rattle.px_exchange.specs.declared.bodies.Body.{Body}
+use Rattle.px_exchange.specs.declared.bodies.Body.TheVariants as body
+use Rattle.px_exchange.specs.declared.replies.Reply.{Reply}
+use Rattle.px_exchange.specs.declared.pumps.Flow.{Flow}
+use Rattle.px_exchange.specs.declared.pumps.Flow.TheVariants as flow
+use Rattle.px_exchange.specs.declared.pumps.Stage.{Stage}
+use Rattle.px_exchange.specs.declared.pumps.Stage.TheVariants as stage
+use Rattle.px_exchange.specs.declared.talks.Talked.{Talked}
+use Rattle.px_exchange.specs.declared.talks.Talked.TheVariants as talked
+use Rattle.px_exchange.specs.declared.heads.HeadRead.{HeadRead}
+use Rattle.px_exchange.specs.declared.heads.HeadRead.TheVariants as read
+use Rattle.px_exchange.specs.Answering.{Seen, Waiting, Bad, Good, Shows, ShowsBlock, Answered, page_reply, no_data, most_of, has_end, is_full, is_whole, ending_of, returned_head}
+
+-- the bytes show that, and nothing else
+pub record ShowsOnly (bytes : List ℕ) (seen : Seen) : Type 0 where
+  pub shows : Shows bytes seen
+  pub only : (other : Seen) → Shows bytes other → other ≡ seen
+
+-- what a block shows, and nothing else, whatever follows it
+pub record BlockShows (block : List ℕ) (seen : List ℕ → Seen) : Type 0 where
+  pub shows : (rest : List ℕ) → ShowsBlock block rest (seen rest)
+  pub only : (rest : List ℕ) (other : Seen) → ShowsBlock block rest other → other ≡ seen rest
+
+-- what was read of a whole block
+abbrev pub ReadsBlock : HeadRead → List ℕ → Type 0
+ReadsBlock read.NotYet block = ⊥
+ReadsBlock read.Refused block = BlockShows block (λ rest. Bad)
+ReadsBlock (read.Good head b n) block = (n ≡ length block) × BlockShows block (λ rest. Good head b rest)
+
+-- what was read of a head is what the bytes show, whatever follows
+abbrev pub ReadsHead : HeadRead → List ℕ → Type 0
+ReadsHead read.NotYet held = (head_end 65536 held ≡ end.NotYet) × (length held < 65536)
+ReadsHead read.Refused held = (more : List ℕ) → ShowsOnly (held ++ more) Bad
+ReadsHead (read.Good head b n) held = (n ≤ length held) × ((more : List ℕ) → ShowsOnly (held ++ more) (Good head b (drop n held ++ more)))
+
+-- a body of which so many bytes were passed
+abbrev pub shorter : Body → ℕ → Body
+shorter (body.Length n) k = body.Length (n - k)
+shorter (body.ToClose n) k = body.ToClose (n - k)
+
+-- the stage behind bytes of a body
+abbrev pub stage_behind : Bool → Body → List ℕ → Stage
+stage_behind keep b bytes = if is_full b bytes
+    then stage.Done (keep && is_whole b bytes false) (ending_of (is_whole b bytes false))
+    else stage.Passing keep (shorter b (length bytes))
+
+-- a head stands whole in the fed bytes, and it was put out with the body's bytes behind it
+pub record Behind (keep : Bool) (fed put : List ℕ) : Type 0 where
+  pub head : ResponseHead
+  pub body : Body
+  pub rest : List ℕ
+  pub shows : (more : List ℕ) → ShowsOnly (fed ++ more) (Good head body (rest ++ more))
+  pub put_is : put ≡ returned_head keep body head ++ take (most_of body) rest
+
+-- the body may go on
+pub record PassesOn (keep : Bool) (fed put : List ℕ) (keeps : Bool) (left : Body) : Type 0 where
+  pub behind : Behind keep fed put
+  pub open_ : is_full behind.body behind.rest ≡ false
+  pub keeps_is : keeps ≡ (keep && has_end behind.body)
+  pub left_is : left ≡ shorter behind.body (length behind.rest)
+
+-- the body has all its bytes
+pub record Finished (keep : Bool) (fed put : List ℕ) (keeps : Bool) (e : Ending) : Type 0 where
+  pub behind : Behind keep fed put
+  pub full : is_full behind.body behind.rest ≡ true
+  pub keeps_is : keeps ≡ (keep && has_end behind.body && is_whole behind.body behind.rest false)
+  pub ending_is : e ≡ ending_of (is_whole behind.body behind.rest false)
+
+-- no head that is returned stands in the fed bytes, whatever follows, and nothing was put out
+pub record Refuses (fed put : List ℕ) (p : Page) : Type 0 where
+  pub shows : (more : List ℕ) → ShowsOnly (fed ++ more) Bad
+  pub page_is : p ≡ page.NoServerData
+  pub quiet : put ≡ []
+
+-- what is held of a head that isn't whole, and nothing was put out
+pub record Holds (keep : Bool) (fed put : List ℕ) (keeps : Bool) (held : List ℕ) : Type 0 where
+  pub keeps_is : keeps ≡ keep
+  pub held_is : held ≡ fed
+  pub quiet : put ≡ []
+
+-- what a stage says of all the bytes that were fed and put out; keep is whether the connection may be kept
+abbrev pub After : Bool → List ℕ → List ℕ → Stage → Type 0
+After keep fed put (stage.Heading keeps held) = Holds keep fed put keeps held
+After keep fed put (stage.Passing keeps left) = PassesOn keep fed put keeps left
+After keep fed put (stage.Done keeps e) = Finished keep fed put keeps e
+After keep fed put (stage.Refused p) = Refuses fed put p
+After keep fed put stage.Wanting = ⊥
+
+-- an answer's own ending isn't a page, and one page is returned in place of an answer
+abbrev pub IsOfAnswer : Flow → Type 0
+IsOfAnswer flow.More = Unit {0}
+IsOfAnswer (flow.Done e) = (p : Page) → e ≢ ending.Page p
+IsOfAnswer (flow.Refused p) = p ≡ page.NoServerData
+
+-- what is true of a stage by itself: a head that is held isn't whole, a body that is passed has bytes to come, and the ending is
+-- one of answers
+abbrev pub IsSettled : Stage → Type 0
+IsSettled (stage.Heading keeps held) = (head_end 65536 held ≡ end.NotYet) × (length held < 65536)
+IsSettled (stage.Passing keeps left) = 0 < most_of left
+IsSettled (stage.Done keeps e) = IsOfAnswer (flow.Done e)
+IsSettled (stage.Refused p) = IsOfAnswer (flow.Refused p)
+IsSettled stage.Wanting = Unit {0}
+
+-- what a stage shows
+abbrev pub flow_at : Stage → Flow
+flow_at (stage.Heading keeps held) = flow.More
+flow_at (stage.Passing keeps left) = flow.More
+flow_at (stage.Done keeps e) = flow.Done e
+flow_at (stage.Refused p) = flow.Refused p
+flow_at stage.Wanting = flow.More
+
+-- whether the connection is kept behind a stage
+abbrev pub keeps_at : Stage → Bool
+keeps_at (stage.Heading keeps held) = false
+keeps_at (stage.Passing keeps left) = false
+keeps_at (stage.Done keeps e) = keeps
+keeps_at (stage.Refused p) = false
+keeps_at stage.Wanting = false
+
+-- the ending of a body that ended before it had all its bytes
+abbrev pub short_ending : Body → Bool → Ending
+short_ending (body.Length n) failed = ending.CutFront
+short_ending (body.ToClose n) failed = ending_of (not failed)
+
+-- the stage at the end of the bytes; failed is whether their reading failed
+abbrev pub end_at : Stage → Bool → Stage
+end_at (stage.Heading keeps held) failed = stage.Refused page.NoServerData
+end_at (stage.Passing keeps left) failed = stage.Done false (short_ending left failed)
+end_at (stage.Done keeps e) failed = stage.Done keeps e
+end_at (stage.Refused p) failed = stage.Refused p
+end_at stage.Wanting failed = stage.Wanting
+
+-- the bytes behind those that were there
+abbrev pub added : List ℕ → List ℕ → List ℕ
+added old new = drop (length old) new
+
+-- what is settled by what the bytes show: the head isn't whole, or its body may go on; it isn't returned; or the body has all its bytes
+abbrev pub flow_of : Seen → Flow
+flow_of Waiting = flow.More
+flow_of Bad = flow.Refused page.NoServerData
+flow_of (Good head b rest) = if is_full b rest then flow.Done (ending_of (is_whole b rest false)) else flow.More
+
+-- what may be returned of the bytes so far: the head, and the body's bytes behind it
+abbrev pub passed_of : Bool → Seen → List ℕ
+passed_of keep Waiting = []
+passed_of keep Bad = []
+passed_of keep (Good head b rest) = returned_head keep b head ++ take (most_of b) rest
+
+-- the bytes are a front of the reply's, and there are none where the reply is a page
+pub record Begins (put : List ℕ) (reply : Reply) : Type 0 where
+  pub front : take (length put) reply.bytes ≡ put
+  pub no_page : (p : Page) → reply.ending ≡ ending.Page p → put ≡ []
+
+-- the end of the flow says what the reply is: the bytes put out, or a page, and then nothing was put out
+abbrev pub EndsAs : Flow → Bool → List ℕ → Reply → Type 0
+EndsAs (flow.Done e) keeps put reply = reply ≡ record { ending = e; bytes = put; keep = keeps }
+EndsAs (flow.Refused p) keeps put reply = (put ≡ []) × (reply ≡ page_reply p [])
+EndsAs flow.More keeps put reply = ⊥
+
+-- what is returned of that answer is what the end of the flow says
+pub record Ends (keep : Bool) (f : Flow) (keeps : Bool) (bytes : List ℕ) (failed : Bool) (put : List ℕ) : Type 0 where
+  pub reply : Reply
+  pub answered : Answered keep bytes failed reply
+  pub ends_as : EndsAs f keeps put reply
+
+-- something is returned of that answer, and it begins with the bytes put out
+pub record Returns (keep : Bool) (bytes : List ℕ) (failed : Bool) (put : List ℕ) : Type 0 where
+  pub reply : Reply
+  pub answered : Answered keep bytes failed reply
+  pub front : take (length put) reply.bytes ≡ put
+
+-- nothing was put out, or the head stands whole: then each whole answer that begins with the fed bytes has a reply that begins so
+abbrev pub SoFar : Bool → List ℕ → List ℕ → Type 0
+SoFar keep fed put = (put ≡ []) ⊎ ((rest : List ℕ) (failed : Bool) → Returns keep (fed ++ rest) failed put)
+
+-- what a pump says that was fed these bytes, has put out those, and shows that flow
+pub record Pumped (keep : Bool) (fed put : List ℕ) (f : Flow) (keeps : Bool) : Type 0 where
+  -- what is returned of each whole answer that begins with the fed bytes begins with what was put out
+  pub output : (rest : List ℕ) (failed : Bool) (reply : Reply) → Answered keep (fed ++ rest) failed reply → Begins put reply
+  pub so_far : SoFar keep fed put
+  -- the flow is what the bytes show
+  pub seen : Seen
+  pub shows : ShowsOnly fed seen
+  pub flow_is : f ≡ flow_of seen
+  -- at its end it says what is returned, whatever follows
+  pub settles : f ≢ flow.More → (rest : List ℕ) (failed : Bool) → Ends keep f keeps (fed ++ rest) failed put
+  -- of what may be returned at most so many bytes aren't put out
+  pub lag : length (passed_of keep seen) ≤ length put + 16384
+
+-- what came of a talk whose flow is at its end
+abbrev pub ending_talk : Flow → Bool → Talked
+ending_talk flow.More keep = talked.NoMemory
+ending_talk (flow.Done e) keep = talked.Returned keep e
+ending_talk (flow.Refused p) keep = talked.Page p
+
+-- nothing is changed and nothing put out
+abbrev pub Stays : Stage → Stage → List ℕ → List ℕ → Type 0
+Stays old new out out' = (new ≡ old) × (out' ≡ out)
+
+-- a call after the end of the flow changes nothing
+abbrev pub StaysAtEnd : Stage → Stage → List ℕ → List ℕ → Type 0
+StaysAtEnd (stage.Heading keeps held) new out out' = Unit {0}
+StaysAtEnd (stage.Passing keeps left) new out out' = Unit {0}
+StaysAtEnd (stage.Done keeps e) new out out' = Stays (stage.Done keeps e) new out out'
+StaysAtEnd (stage.Refused p) new out out' = Stays (stage.Refused p) new out out'
+StaysAtEnd stage.Wanting new out out' = ⊥
+
+-- more pieces than this aren't needed
+abbrev pub pieces_left : Stage → ℕ
+pieces_left (stage.Heading keeps held) = 2 ^ 64 + (65536 - length held)
+pieces_left (stage.Passing keeps left) = most_of left
+pieces_left (stage.Done keeps e) = 0
+pieces_left (stage.Refused p) = 0
+pieces_left stage.Wanting = 0
