@@ -32,4 +32,6 @@ pub use pumps::{Asked, Flow, Pump};
 pub use snapshots::{Config, Configs, FixedConfig, Snapshot};
 
 #[cfg(test)]
+mod pump_tests;
+#[cfg(test)]
 mod tests;

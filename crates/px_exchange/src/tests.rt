@@ -23,15 +23,17 @@ fn link(rt: &impl Abort, alloc: Global, bytes: &[u8]) -> Answer {
     }
 }
 
-/// An answer of which the first call of an end fails.
-fn failing_link(rt: &impl Abort, alloc: Global, reads: bool) -> Answer {
+/// An answer of which a call of an end fails, and each read before gives 40 bytes.
+fn failing_link(rt: &impl Abort, alloc: Global, reads: bool, call: u64) -> Answer {
     let mut fails = List::new(alloc);
-    assert!(rt; fails.push(0).is_ok());
+    let mut cuts = List::new(alloc);
+    assert!(rt; fails.push(call).is_ok());
+    assert!(rt; cuts.push(40).is_ok());
     let none = List::new(alloc);
     let (read_fails, write_fails) = if reads { (fails, none) } else { (none, fails) };
     Answer::Link {
         bytes: Text::from_bytes(alloc, ANSWER).expect(rt, "memory"),
-        cuts: List::new(alloc),
+        cuts,
         read_fails,
         write_fails,
     }
@@ -168,11 +170,9 @@ fn a_request_of_another_form_is_refused_and_nothing_is_dialled(rt: HostRuntime) 
 
 #[test]
 fn an_answer_of_another_form_gives_the_page_no_server_data(rt: HostRuntime) {
-    let rows: [&'static [u8]; 10] = [
+    let rows: [&'static [u8]; 8] = [
         b"",
         b"HTTP/1.1 200 OK\r\nContent-Length: 2\r\n",
-        b"HTTP/1.1 200 OK\r\nContent-Length: 2\r\n\r\nh",
-        b"HTTP/1.1 200 OK\r\n\r\nhi",
         b"HTTP/1.1 200 OK\r\nContent-Length: +2\r\n\r\nhi",
         b"HTTP/1.1 200 OK\r\nContent-Length: 2\r\ncontent-length: 2\r\n\r\nhi",
         b"HTTP/1.1 200 OK\r\nContent-Length: 9223372036854775808\r\n\r\nhi",
@@ -196,9 +196,70 @@ fn an_answer_of_another_form_gives_the_page_no_server_data(rt: HostRuntime) {
         &rt,
         rt.alloc(),
         block(&rt, rt.alloc(), GET),
-        failing_link(&rt, rt.alloc(), true),
+        failing_link(&rt, rt.alloc(), true, 0),
     );
     assert_eq!(rt; outcome.returned.as_bytes(), NO_DATA);
+}
+
+/// An answer whose body ends by the close, or too early, what is returned of it, and its ending.
+const FRONTS: [(&[u8], &[u8], Ending); 5] = [
+    (
+        b"HTTP/1.1 200 OK\r\n\r\nhi",
+        b"HTTP/1.1 200 OK\r\nConnection: close\r\n\r\nhi",
+        Ending::Passed,
+    ),
+    (
+        b"HTTP/1.1 200 OK\r\n\r\n",
+        b"HTTP/1.1 200 OK\r\nConnection: close\r\n\r\n",
+        Ending::Passed,
+    ),
+    (
+        b"HTTP/1.0 500 No\r\nConnection: a, keep-alive\r\nA: 1\r\nB: 2\r\n\r\n\r\n",
+        b"HTTP/1.1 500 No\r\nB: 2\r\nConnection: close\r\n\r\n\r\n",
+        Ending::Passed,
+    ),
+    (
+        b"HTTP/1.1 200 OK\r\nContent-Length: 20\r\n\r\n0123456789",
+        b"HTTP/1.1 200 OK\r\nContent-Length: 20\r\nConnection: keep-alive\r\n\r\n0123456789",
+        Ending::CutFront,
+    ),
+    (
+        b"HTTP/1.1 200 OK\r\nContent-Length: 2\r\n\r\n",
+        b"HTTP/1.1 200 OK\r\nContent-Length: 2\r\nConnection: keep-alive\r\n\r\n",
+        Ending::CutFront,
+    ),
+];
+
+#[test]
+fn a_body_to_the_close_is_returned_and_one_that_ends_early_is_cut(rt: HostRuntime) {
+    for (bytes, returned, ending) in FRONTS {
+        let outcome = answer(
+            &rt,
+            rt.alloc(),
+            block(&rt, rt.alloc(), GET),
+            link(&rt, rt.alloc(), bytes),
+        );
+        assert_eq!(rt; outcome.returned.as_bytes(), returned);
+        assert_eq!(rt; outcome.ending, ending);
+        assert_eq!(rt; outcome.after, After::Close);
+    }
+}
+
+#[test]
+fn a_read_fault_in_a_body_gives_a_cut_front(rt: HostRuntime) {
+    let bytes: &[u8] = b"HTTP/1.1 200 OK\r\nContent-Length: 20\r\n\r\n0123456789abcdefghij";
+    let mut given = failing_link(&rt, rt.alloc(), true, 1);
+    if let Answer::Link { bytes: text, .. } = &mut given {
+        text.clear();
+        text.push_all(bytes).expect(&rt, "memory");
+    }
+    let outcome = answer(&rt, rt.alloc(), block(&rt, rt.alloc(), GET), given);
+    assert_eq!(rt;
+        outcome.returned.as_bytes(),
+        b"HTTP/1.1 200 OK\r\nContent-Length: 20\r\nConnection: keep-alive\r\n\r\n0" as &[u8]
+    );
+    assert_eq!(rt; outcome.ending, Ending::CutFront);
+    assert_eq!(rt; outcome.after, After::Close);
 }
 
 #[test]
@@ -206,7 +267,7 @@ fn an_origin_that_is_not_reached_gives_the_page_connect_failed(rt: HostRuntime) 
     let rows = [
         (Answer::NoName, 0),
         (Answer::NotReached, 0),
-        (failing_link(&rt, rt.alloc(), false), 1),
+        (failing_link(&rt, rt.alloc(), false, 0), 1),
     ];
     for (given, links) in rows {
         let outcome = answer(&rt, rt.alloc(), block(&rt, rt.alloc(), GET), given);
