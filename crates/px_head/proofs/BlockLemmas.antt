@@ -1,14 +1,13 @@
 -- Blocks: the walk by lines finds what the definition says, and what it says of the bytes.
-use Rattle.std.proofs.Common.{◌≡◌, ◌≢◌, ℕ, zero, suc, ◌+◌, ◌-◌, ◌<◌, ◌≤◌, Bool, true, false, ◌==◌, cond, List, [], ◌∷◌, ◌++◌, length, take, drop, Option, Some, None, option_map, refl, sym, ap, ◌∙◌, subst, arith, ltb, ltb-false, ltb-true, le-ltb, take-append-drop, min, length-take, length-drop, zero-add, append_assoc, append-nil, length-append, IsTrue, All, not}
+use Rattle.std.proofs.Common.{◌≡◌, ℕ, ◌+◌, ◌-◌, ◌<◌, ◌≤◌, Bool, true, false, cond, List, [], ◌∷◌, ◌++◌, length, take, drop, Option, Some, None, option_map, refl, sym, ap, ◌∙◌, subst, arith, ltb, ltb-false, ltb-true, le-ltb, take-append-drop, length-take, append_assoc, append-nil, length-append, All, not}
 use Rattle.std.specs.List.{sum_by, concat}
 use Rattle.std.proofs.lemmas.Bool.{not-true}
 use Rattle.std.proofs.lemmas.List.{take-append-le}
-use Rattle.std.proofs.lemmas.Grind.{common_steps}
 use Rattle.std.proofs.lemmas.List.Elements.{All-head, All-tail, All-cons, All-nil}
 use Rattle.std.proofs.lemmas.List.Folds.{concat-append}
-use Rattle.std.proofs.lemmas.List.Sums.{sum_by-cons, sum_by-append}
+use Rattle.std.proofs.lemmas.List.Sums.{sum_by-cons}
 use Rattle.std.proofs.Math.Seq.{take-append_seam, take-append-add}
-use Rattle.px_head.specs.Blocks.{lines_of, is_empty_line, up_to_empty, block_of, block_len, end_of, head_end, EndsWithin, IsLine, IsEmptyLine, IsFullLine, IsHeadBlock}
+use Rattle.px_head.specs.Blocks.{lines_of, is_empty_line, up_to_empty, block_of, block_len, end_of, head_end, EndsWithin, IsLine, IsHeadBlock}
 use Rattle.px_head.specs.declared.blocks.HeadEnd.{HeadEnd}
 use Rattle.px_head.specs.declared.blocks.HeadEnd.TheVariants.{At, NotYet, Over}
 use Rattle.px_head.proofs.LineLemmas.{AreLines, are-lines, lines-line, lines-concat}

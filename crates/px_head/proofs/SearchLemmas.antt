@@ -1,5 +1,5 @@
 -- Searches: what they have passed, and what they find.
-use Rattle.std.proofs.Common.{◌≡◌, ℕ, zero, suc, ◌+◌, ◌-◌, ◌<◌, ◌≤◌, Bool, true, false, List, [], ◌∷◌, ◌++◌, length, take, drop, Option, Some, None, option_map, refl, sym, ap, ◌∙◌, subst, arith, ltb, ltb-true, ltb-false, take-append-drop, length-take, append_assoc, append-nil, length-append, All, not, IfSome, IfNone}
+use Rattle.std.proofs.Common.{◌≡◌, ℕ, zero, suc, ◌+◌, ◌-◌, ◌≤◌, Bool, true, false, List, [], ◌∷◌, ◌++◌, length, take, drop, Option, Some, None, option_map, refl, sym, ap, ◌∙◌, subst, arith, ltb-true, ltb-false, take-append-drop, length-take, append_assoc, append-nil, length-append, All, not, IfSome, IfNone}
 use Rattle.std.specs.List.{concat}
 use Rattle.std.proofs.lemmas.Bool.{not-true, lt-ltb, le-ltb}
 use Rattle.std.proofs.lemmas.List.{nil_from_length}
@@ -12,12 +12,32 @@ use Rattle.px_head.specs.declared.searches.HeadSearch.{HeadSearch}
 use Rattle.px_head.proofs.LineLemmas.{lines-none, lines-concat, feed-join, line-behind}
 use Rattle.px_head.proofs.BlockLemmas.{block-len-found}
 
+-- a search that has looked at nothing
+pub searched-none : (limit : ℕ) → Searched limit [] (record { at = 0; begun = false; looked = 0 })
+searched-none limit =
+    record {
+      passed = record {
+        front = [];
+        lines = [];
+        text = [];
+        more = [];
+        bytes_are = take-nil limit;
+        front_empty = All-nil IsEmptyLine;
+        lines_full = All-nil IsFullLine;
+        no_feed = refl;
+        at = refl;
+        begun = sym (le-ltb 0 0 (omega arith));
+        looked = omega arith;
+      };
+      looked = sym (ap length (take-nil limit));
+    }
+
 take-append : (n : ℕ) (xs ys : List ℕ) → take n (xs ++ ys) ≡ take n xs ++ take (n - length xs) ys
 take-append n [] ys = let same : n - 0 ≡ n = omega arith in rw (take-nil, same) refl
 take-append zero (x ∷ xs) ys = let none : 0 - suc (length xs) ≡ 0 = omega arith in rw none refl
 take-append (suc n) (x ∷ xs) ys = let same : suc n - suc (length xs) ≡ n - length xs = omega arith in rw same (ap (λ (zs : List ℕ). x ∷ zs) (take-append n xs ys))
 
--- more bytes leave what was passed
+-- what was passed in bytes is passed in bytes that begin with them
 pub begins-passed : (limit : ℕ) (bytes : List ℕ) (s : HeadSearch) → BeginsSearched limit bytes s → HasPassed (take limit bytes) s
 begins-passed limit bytes s b =
     let p = b.searched.passed in
@@ -175,26 +195,6 @@ passes-empty bytes s len n begun is =
       at = omega (arith, n.end, p.at, ap length seen, length-append (concat p.front ++ concat p.lines) n.line, ap length (append-nil (concat (p.front ++ n.line ∷ []))));
       begun = begun;
       looked = omega arith;
-    }
-
--- a search that has looked at nothing
-pub searched-none : (limit : ℕ) → Searched limit [] (record { at = 0; begun = false; looked = 0 })
-searched-none limit =
-    record {
-      passed = record {
-        front = [];
-        lines = [];
-        text = [];
-        more = [];
-        bytes_are = take-nil limit;
-        front_empty = All-nil IsEmptyLine;
-        lines_full = All-nil IsFullLine;
-        no_feed = refl;
-        at = refl;
-        begun = sym (le-ltb 0 0 (omega arith));
-        looked = omega arith;
-      };
-      looked = sym (ap length (take-nil limit));
     }
 
 -- where a search stands behind an answer

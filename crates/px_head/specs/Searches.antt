@@ -6,8 +6,8 @@ use Rattle.px_head.specs.declared.blocks.HeadEnd.{HeadEnd}
 use Rattle.px_head.specs.declared.blocks.HeadEnd.TheVariants.{At, NotYet, Over}
 use Rattle.px_head.specs.declared.searches.HeadSearch.{HeadSearch}
 
--- The search has passed lines of the bytes, none of which ends a block: empty ones, and then ones that aren't empty.
--- Behind them it has looked at the front of one more, which isn't whole in what it has looked at.
+-- The search has passed whole lines of the bytes, none of which ends a block: empty ones, and then ones that aren't.
+-- Of the next line it has looked at some bytes, and none of them is LF.
 pub record HasPassed (bytes : List ℕ) (search : HeadSearch) : Type 0 where
   pub front : List (List ℕ)
   pub lines : List (List ℕ)
@@ -21,12 +21,12 @@ pub record HasPassed (bytes : List ℕ) (search : HeadSearch) : Type 0 where
   pub begun : search.begun ≡ nat_lt 0 (length lines)
   pub looked : search.looked ≡ search.at + length text
 
--- it has looked at all the bytes up to the limit
+-- it has looked at all of the bytes up to the limit
 pub record Searched (limit : ℕ) (bytes : List ℕ) (search : HeadSearch) : Type 0 where
   pub passed : HasPassed (take limit bytes) search
   pub looked : search.looked ≡ length (take limit bytes)
 
--- the bytes begin with ones that it has looked at so
+-- the bytes begin with ones that it has looked at
 pub record BeginsSearched (limit : ℕ) (bytes : List ℕ) (search : HeadSearch) : Type 0 where
   pub front : List ℕ
   pub more : List ℕ

@@ -29,8 +29,8 @@ impl HeadSearch {
         }
     }
 
-    /// Looks on in bytes that begin with those that were searched before, and at what is new in them alone, up to `limit`.
-    /// It finds what `find_head` finds. Behind a block the search begins anew.
+    /// Looks on in bytes that begin with those of the call before, and only at those that are new, up to `limit`. The
+    /// answer is that of `find_head`. Behind a block the search begins anew.
     pub fn go_on(&mut self, bytes: &[u8], limit: usize) -> HeadEnd
         requires { BeginsSearched limit bytes.now self.old }
         ensures value { result ≡ head_end limit bytes.now }
@@ -45,13 +45,10 @@ impl HeadSearch {
         ensures stable { (more : List ℕ) → result ≢ HeadEnd.NotYet → head_end limit (bytes.now ++ more) ≡ result }
         ensures searched { SearchedOrAnew limit bytes.now result self.new }
     {
-        end_of(
-            self.pass_lines(front(bytes, limit)),
-            bytes.len() < limit,
-        )
+        end_of(self.pass_lines(front(bytes, limit)), bytes.len() < limit)
     }
 
-    /// Passes lines up to the end of the block, which it answers, or to the last whole line.
+    /// Passes whole lines, and answers where the block ends if one of them ends it.
     fn pass_lines(&mut self, window: &[u8]) -> Option<usize>
         requires { HasPassed window.now self.old }
         ensures value { result ≡ block_len window.now }

@@ -1,6 +1,3 @@
-use Rattle.std.proofs.Common.{◌≡◌, ap, ◌∙◌}
-use Rattle.px_head.specs.Blocks.{head_end}
-use Rattle.px_head.proofs.BlockLemmas.{head-end-found}
 use Rattle.px_head.proofs.GrammarBlocks.{request-block, response-block}
 use Rattle.px_head.proofs.blocks.find_head.Goals as goal
 
