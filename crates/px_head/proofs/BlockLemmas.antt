@@ -1,57 +1,19 @@
 -- Blocks: the walk by lines finds what the definition says, and what it says of the bytes.
-use Rattle.std.proofs.Common.{◌≡◌, ◌≢◌, ℕ, zero, suc, ◌+◌, ◌-◌, ◌<◌, ◌≤◌, Bool, true, false, ◌==◌, cond, List, [], ◌∷◌, ◌++◌, length, take, drop, Option, Some, None, option_map, refl, sym, ap, ◌∙◌, subst, arith, ltb, ltb-false, ltb-true, le-ltb, take-append-drop, min, length-take, length-drop, zero-add, append_assoc, append-nil, length-append, IsTrue, All, not}
+use Rattle.std.proofs.Common.{◌≡◌, ℕ, ◌+◌, ◌-◌, ◌<◌, ◌≤◌, Bool, true, false, cond, List, [], ◌∷◌, ◌++◌, length, take, drop, Option, Some, None, option_map, refl, sym, ap, ◌∙◌, subst, arith, ltb, ltb-false, ltb-true, le-ltb, take-append-drop, length-take, append_assoc, append-nil, length-append, All, not}
 use Rattle.std.specs.List.{sum_by, concat}
+use Rattle.std.proofs.lemmas.Bool.{not-true}
 use Rattle.std.proofs.lemmas.List.{take-append-le}
-use Rattle.std.proofs.lemmas.Grind.{common_steps}
 use Rattle.std.proofs.lemmas.List.Elements.{All-head, All-tail, All-cons, All-nil}
 use Rattle.std.proofs.lemmas.List.Folds.{concat-append}
-use Rattle.std.proofs.lemmas.List.Sums.{sum_by-cons, sum_by-append}
+use Rattle.std.proofs.lemmas.List.Sums.{sum_by-cons}
 use Rattle.std.proofs.Math.Seq.{take-append_seam, take-append-add}
-use Rattle.px_head.specs.Blocks.{lines_of, is_empty_line, up_to_empty, block_of, block_len, end_of, head_end, EndsWithin, IsLine, IsEmptyLine, IsFullLine, IsHeadBlock, IsFirstLine}
+use Rattle.px_head.specs.Blocks.{lines_of, is_empty_line, up_to_empty, block_of, block_len, end_of, head_end, EndsWithin, IsLine, IsHeadBlock}
 use Rattle.px_head.specs.declared.blocks.HeadEnd.{HeadEnd}
 use Rattle.px_head.specs.declared.blocks.HeadEnd.TheVariants.{At, NotYet, Over}
 use Rattle.px_head.proofs.LineLemmas.{AreLines, are-lines, lines-line, lines-concat}
 
--- so many bytes on
-abbrev pub shifted : ℕ → Option ℕ → Option ℕ
-shifted i o = option_map (λ n. i + n) o
-
 abbrev pub len_of : Option (List (List ℕ)) → Option ℕ
 len_of o = option_map (λ block. sum_by length block) o
-
--- the length of what is left of the block before these lines, where a line that isn't empty came already, or not
-unfoldable pub left_len : Bool → List (List ℕ) → Option ℕ
-left_len true ls = len_of (up_to_empty ls)
-left_len false ls = len_of (block_of ls)
-
-len-cons : (l : List ℕ) (o : Option (List (List ℕ))) → len_of (option_map (λ block. l ∷ block) o) ≡ shifted (length l) (len_of o)
-len-cons l None = refl
-len-cons l (Some block) = ap Some (sum_by-cons length l block)
-
-up-full : (l : List ℕ) (ls : List (List ℕ)) → is_empty_line l ≡ false → len_of (up_to_empty (l ∷ ls)) ≡ shifted (length l) (len_of (up_to_empty ls))
-unfolding up_to_empty
-up-full l ls e = rw e (len-cons l (up_to_empty ls))
-
--- a full line is passed
-pub left-full : (begun : Bool) (l : List ℕ) (ls : List (List ℕ)) → is_empty_line l ≡ false → left_len begun (l ∷ ls) ≡ shifted (length l) (left_len true ls)
-unfolding left_len block_of
-left-full true l ls e = up-full l ls e
-left-full false l ls e = rw e (up-full l ls e)
-
--- an empty line at the front is passed
-pub left-blank : (l : List ℕ) (ls : List (List ℕ)) → is_empty_line l ≡ true → left_len false (l ∷ ls) ≡ shifted (length l) (left_len false ls)
-unfolding left_len block_of
-left-blank l ls e = rw e (len-cons l (block_of ls))
-
--- the next empty line ends the block
-pub left-last : (l : List ℕ) (ls : List (List ℕ)) → is_empty_line l ≡ true → left_len true (l ∷ ls) ≡ Some (length l)
-unfolding left_len up_to_empty
-left-last l ls e = rw e (ap Some (omega arith))
-
-pub left-none : (begun : Bool) → left_len begun [] ≡ None
-unfolding left_len up_to_empty block_of
-left-none true = refl
-left-none false = refl
 
 -- the lines up to the first empty one
 record UpTo (ls block : List (List ℕ)) : Type 0 where
@@ -176,10 +138,6 @@ all-front P (x ∷ xs) ys all = All-cons P x xs (All-head P x (xs ++ ys) all) (a
 all-back : {X : Type 0} (P : X → Type 0) (xs ys : List X) → All P (xs ++ ys) → All P ys
 all-back P [] ys all = all
 all-back P (x ∷ xs) ys all = all-back P xs ys (All-tail P x (xs ++ ys) all)
-
-not-true : (b : Bool) → IsTrue (not b) → b ≡ false
-not-true true t = absurd (cc)
-not-true false t = refl
 
 -- the bytes of a block
 block-bytes : (front lines : List (List ℕ)) (last : List ℕ) (more : List (List ℕ)) (rest : List ℕ)
@@ -326,62 +284,6 @@ stable-at limit bytes more Over is not_yet =
 
 pub head-end-stable : (limit : ℕ) (bytes more : List ℕ) → (head_end limit bytes ≡ NotYet → ⊥) → head_end limit (bytes ++ more) ≡ head_end limit bytes
 head-end-stable limit bytes more not_yet = stable-at limit bytes more (head_end limit bytes) refl not_yet
-
--- the walk by lines
-
-drop-drop : (i k : ℕ) (xs : List ℕ) → drop k (drop i xs) ≡ drop (i + k) xs
-drop-drop zero k xs = rw zero-add refl
-drop-drop (suc i) k [] = grind (arith, common_steps)
-drop-drop (suc i) k (x ∷ xs) = let e : suc i + k ≡ suc (i + k) = omega arith in rw e (drop-drop i k xs)
-
-shifted-zero : (o : Option ℕ) → shifted 0 o ≡ o
-shifted-zero None = refl
-shifted-zero (Some n) = ap Some (omega arith)
-
-shifted-more : (i k : ℕ) (o : Option ℕ) → shifted i (shifted k o) ≡ shifted (i + k) o
-shifted-more i k None = refl
-shifted-more i k (Some n) = ap Some (omega arith)
-
--- what is left of the block behind so many bytes
-pub record Left (bytes : List ℕ) (at : ℕ) (begun : Bool) : Type 0 where
-  pub within : at ≤ length bytes
-  pub left : block_len bytes ≡ shifted at (left_len begun (lines_of (drop at bytes)))
-
-pub left-start : (bytes : List ℕ) → Left bytes 0 false
-unfolding block_len left_len
-left-start bytes = record { within = omega arith; left = sym (shifted-zero (len_of (block_of (lines_of bytes)))) }
-
-pub left-end : (bytes : List ℕ) (at : ℕ) (begun : Bool) → Left bytes at begun → lines_of (drop at bytes) ≡ [] → block_len bytes ≡ None
-left-end bytes at begun h e = h.left ∙ ap (λ (ls : List (List ℕ)). shifted at (left_len begun ls)) e ∙ ap (shifted at) (left-none begun)
-
--- behind the first line
-behind : (bytes : List ℕ) (at len : ℕ) (begun now : Bool) → Left bytes at begun → IsFirstLine (drop at bytes) (Some len)
-    → left_len begun (take len (drop at bytes) ∷ lines_of (drop len (drop at bytes))) ≡ shifted (length (take len (drop at bytes))) (left_len now (lines_of (drop len (drop at bytes))))
-    → Left bytes (at + len) now
-behind bytes at len begun now h first step =
-    let size : length (take len (drop at bytes)) ≡ len = omega (arith, first.1, length-take len (drop at bytes)) in
-    record {
-      within = omega (arith, h.within, first.1, length-drop at bytes);
-      left = h.left ∙ ap (λ (ls : List (List ℕ)). shifted at (left_len begun ls)) first.2 ∙ ap (shifted at) step
-          ∙ ap (λ n. shifted at (shifted n (left_len now (lines_of (drop len (drop at bytes)))))) size
-          ∙ shifted-more at len (left_len now (lines_of (drop len (drop at bytes))))
-          ∙ ap (λ (xs : List ℕ). shifted (at + len) (left_len now (lines_of xs))) (drop-drop at len bytes);
-    }
-
-pub behind-full : (bytes : List ℕ) (at len : ℕ) (begun : Bool) → Left bytes at begun → IsFirstLine (drop at bytes) (Some len) → is_empty_line (take len (drop at bytes)) ≡ false → Left bytes (at + len) true
-behind-full bytes at len begun h first is = behind bytes at len begun true h first (left-full begun (take len (drop at bytes)) (lines_of (drop len (drop at bytes))) is)
-
-pub behind-blank : (bytes : List ℕ) (at len : ℕ) (begun : Bool) → Left bytes at begun → IsFirstLine (drop at bytes) (Some len) → is_empty_line (take len (drop at bytes)) ≡ true → begun ≡ false → Left bytes (at + len) begun
-behind-blank bytes at len true h first is front = absurd (cc)
-behind-blank bytes at len false h first is front = behind bytes at len false false h first (left-blank (take len (drop at bytes)) (lines_of (drop len (drop at bytes))) is)
-
-pub left-found : (bytes : List ℕ) (at len : ℕ) (begun : Bool) → Left bytes at begun → begun ≡ true → IsFirstLine (drop at bytes) (Some len) → is_empty_line (take len (drop at bytes)) ≡ true → block_len bytes ≡ Some (at + len)
-left-found bytes at len false h now first is = absurd (cc)
-left-found bytes at len true h now first is =
-    let size : length (take len (drop at bytes)) ≡ len = omega (arith, first.1, length-take len (drop at bytes)) in
-    h.left ∙ ap (λ (ls : List (List ℕ)). shifted at (left_len true ls)) first.2
-    ∙ ap (shifted at) (left-last (take len (drop at bytes)) (lines_of (drop len (drop at bytes))) is)
-    ∙ ap (λ n. Some (at + n)) size
 
 -- what `find_head` computes
 pub head-end-is : (limit : ℕ) (bytes : List ℕ) (below : Bool) → below ≡ ltb (length bytes) limit → end_of (block_len (take limit bytes)) below ≡ head_end limit bytes

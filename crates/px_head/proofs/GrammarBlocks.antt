@@ -1,17 +1,12 @@
 -- A head of the grammar is a block.
-use Rattle.std.proofs.Common.{◌≡◌, ℕ, zero, suc, ◌+◌, ◌<◌, ◌≤◌, Bool, true, false, ◌==◌, not, ◌&&◌, List, [], ◌∷◌, ◌++◌, length, map, refl, sym, ap, ◌∙◌, subst, arith, append_assoc, eqb-true, IsTrue, All, Option, Some, None, flat_map}
-use Rattle.std.specs.Prelude.{codes}
-use Rattle.std.specs.List.{concat, list_all}
-use Rattle.std.proofs.lemmas.List.Elements.{All-head, All-tail, All-cons, All-nil, All-map}
-use Rattle.std.proofs.lemmas.List.Folds.{list_all-append}
+use Rattle.std.proofs.Common.{◌≡◌, ℕ, zero, suc, ◌≤◌, Bool, true, false, ◌==◌, not, List, [], ◌∷◌, ◌++◌, map, refl, sym, ap, ◌∙◌, arith, append_assoc, eqb-true, IsTrue, All, Option, Some, None, flat_map}
+use Rattle.std.specs.List.{concat}
+use Rattle.std.proofs.lemmas.List.Elements.{All-head, All-tail, All-cons, All-map}
 use Rattle.std.specs.Char.{is_ascii_digit}
-use Rattle.httparse.specs.Grammar.{is_token_byte, is_uri_byte, is_value_byte, AllPass, IsToken, LineEnd, crlf, lf, print_end, print_blank, print_version, Field, IsField, print_field, print_section, RequestHead, IsRequestHead, print_request, ReadsRequest, ResponseHead, IsResponseHead, print_response, print_reason, reason_phrase, ReadsResponse}
+use Rattle.httparse.specs.Grammar.{is_token_byte, is_uri_byte, is_value_byte, AllPass, IsToken, LineEnd, crlf, lf, print_end, print_version, Field, IsField, print_field, RequestHead, IsRequestHead, print_request, ResponseHead, IsResponseHead, print_response, print_reason, reason_phrase}
 use Rattle.httparse.proofs.GrammarLemmas.{cons-append}
-use Rattle.px_head.specs.Blocks.{is_empty_line, IsLine, IsEmptyLine, IsFullLine, IsHeadBlock}
-
--- no byte of the text is LF
-abbrev no_feed : List ℕ → Bool
-no_feed text = list_all (λ b. not (b == 10)) text
+use Rattle.px_head.specs.Blocks.{is_empty_line, NoFeed, IsLine, IsEmptyLine, IsFullLine, IsHeadBlock}
+use Rattle.px_head.proofs.LineLemmas.{feed-join}
 
 -- a byte that passes the test isn't one that doesn't
 differs : (test : ℕ → Bool) (a b : ℕ) → test a ≡ false → test b ≡ true → (b == a) ≡ false
@@ -23,10 +18,7 @@ differs test a b miss hit = at (b == a) refl
         absurd (cc)
     at false is = is
 
-feed-join : (xs ys : List ℕ) → IsTrue (no_feed xs) → IsTrue (no_feed ys) → IsTrue (no_feed (xs ++ ys))
-feed-join xs ys x y = list_all-append (λ b. not (b == 10)) xs ys ∙ ap (λ (t : Bool). t && no_feed ys) x ∙ y
-
-feed-none : (test : ℕ → Bool) → test 10 ≡ false → (xs : List ℕ) → AllPass test xs → IsTrue (no_feed xs)
+feed-none : (test : ℕ → Bool) → test 10 ≡ false → (xs : List ℕ) → AllPass test xs → NoFeed xs
 feed-none test miss [] all = refl
 feed-none test miss (b ∷ xs) all =
     let here : (b == 10) ≡ false = differs test 10 b miss (All-head (λ x. IsTrue (test x)) b xs all) in
@@ -41,7 +33,7 @@ unfolding is_token_byte
 token-return = refl
 
 -- a text without LF and a line end are a line
-ends-line : (text : List ℕ) (e : LineEnd) → IsTrue (no_feed text) → IsLine (text ++ print_end e)
+ends-line : (text : List ℕ) (e : LineEnd) → NoFeed text → IsLine (text ++ print_end e)
 ends-line text crlf t = record { text = text ++ 13 ∷ []; is = sym (append_assoc text (13 ∷ []) (10 ∷ [])); no_feed = feed-join text (13 ∷ []) t refl }
 ends-line text lf t = record { text = text; is = refl; no_feed = t }
 
@@ -66,11 +58,11 @@ is-full l line e = (line, ap not e)
 field-line : (f : Field) → IsField f → IsFullLine (print_field f)
 field-line f is =
     let text = f.name ++ 58 ∷ f.raw in
-    let t : IsTrue (no_feed text) = feed-join f.name (58 ∷ f.raw) (feed-none is_token_byte token-feed f.name is.name.1) (feed-none is_value_byte refl f.raw is.raw) in
+    let t : NoFeed text = feed-join f.name (58 ∷ f.raw) (feed-none is_token_byte token-feed f.name is.name.1) (feed-none is_value_byte refl f.raw is.raw) in
     let first : is_empty_line (text ++ print_end f.end) ≡ false = rw append_assoc (token-first f.name (58 ∷ f.raw ++ print_end f.end) is.name) in
     is-full (text ++ print_end f.end) (ends-line text f.end t) first
 
-version-feed : (minor : ℕ) → minor ≤ 1 → IsTrue (no_feed (print_version minor))
+version-feed : (minor : ℕ) → minor ≤ 1 → NoFeed (print_version minor)
 version-feed zero m = refl
 version-feed (suc zero) m = refl
 version-feed (suc (suc minor)) m = absurd (omega arith)
@@ -80,13 +72,13 @@ request-line : (h : RequestHead) → IsRequestHead h → IsFullLine (h.method ++
 request-line h is =
     let text = h.method ++ 32 ∷ h.target ++ 32 ∷ print_version h.minor in
     let start = feed-join h.method (32 ∷ h.target) (feed-none is_token_byte token-feed h.method is.method.1) (feed-none is_uri_byte refl h.target is.target.1) in
-    let t : IsTrue (no_feed text) = feed-join (h.method ++ 32 ∷ h.target) (32 ∷ print_version h.minor) start (version-feed h.minor is.minor) in
+    let t : NoFeed text = feed-join (h.method ++ 32 ∷ h.target) (32 ∷ print_version h.minor) start (version-feed h.minor is.minor) in
     let first : is_empty_line (text ++ print_end h.line_end) ≡ false =
     rw (append_assoc (h.method ++ 32 ∷ h.target) (32 ∷ print_version h.minor) (print_end h.line_end), append_assoc h.method (32 ∷ h.target) (32 ∷ print_version h.minor ++ print_end h.line_end))
     (token-first h.method (32 ∷ h.target ++ (32 ∷ print_version h.minor ++ print_end h.line_end)) is.method) in
     is-full (text ++ print_end h.line_end) (ends-line text h.line_end t) first
 
-reason-feed : (reason : Option (List ℕ)) → AllPass is_value_byte (reason_phrase reason) → IsTrue (no_feed (print_reason reason))
+reason-feed : (reason : Option (List ℕ)) → AllPass is_value_byte (reason_phrase reason) → NoFeed (print_reason reason)
 reason-feed None all = refl
 reason-feed (Some phrase) all = feed-none is_value_byte refl phrase all
 
@@ -94,7 +86,7 @@ status-line : (h : ResponseHead) → IsResponseHead h → IsFullLine (print_vers
 status-line h is =
     let text = print_version h.minor ++ 32 ∷ h.digits ++ print_reason h.reason in
     let start = feed-join (print_version h.minor) (32 ∷ h.digits) (version-feed h.minor is.minor) (feed-none is_ascii_digit refl h.digits is.digits.1) in
-    let t : IsTrue (no_feed text) = feed-join (print_version h.minor ++ 32 ∷ h.digits) (print_reason h.reason) start (reason-feed h.reason is.reason) in
+    let t : NoFeed text = feed-join (print_version h.minor ++ 32 ∷ h.digits) (print_reason h.reason) start (reason-feed h.reason is.reason) in
     is-full (text ++ print_end h.line_end) (ends-line text h.line_end t) refl
 
 flat-concat : {X : Type 0} (f : X → List ℕ) (xs : List X) → flat_map f xs ≡ concat (map f xs)

@@ -1,5 +1,5 @@
 -- What a parser found in a block is the head that the block is.
-use Rattle.std.proofs.Common.{◌≡◌, ℕ, ◌<◌, ◌≤◌, List, [], ◌∷◌, ◌++◌, length, map, take, drop, refl, sym, ap, ◌∙◌, subst, arith}
+use Rattle.std.proofs.Common.{◌≡◌, ℕ, ◌≤◌, List, [], ◌∷◌, length, map, take, drop, refl, sym, ap, ◌∙◌, subst, arith}
 use Rattle.std.proofs.lemmas.List.{drop_all, length-map, length-take}
 use Rattle.httparse.specs.Grammar as grammar
 use Rattle.httparse.specs.Spans.{header_bytes, name_and_value, span_bytes, IsRequestOf, IsResponseOf, AreFieldsAt}

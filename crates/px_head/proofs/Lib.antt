@@ -1,5 +1,6 @@
 pub mod LineLemmas
 pub mod BlockLemmas
+pub mod SearchLemmas
 pub mod GrammarBlocks
 pub mod Fits
 pub mod HeadLemmas

@@ -1,43 +1,54 @@
 -- The lines of bytes: the first one, and the lines of bytes that are lines one after another.
-use Rattle.std.proofs.Common.{◌≡◌, ℕ, zero, suc, ◌+◌, ◌<◌, ◌≤◌, Bool, true, false, ◌==◌, cond, List, [], ◌∷◌, ◌++◌, length, take, drop, get_or, refl, sym, ap, ◌∙◌, subst, arith, append_assoc, length-append, eqb-true, IsTrue, All, not, ◌&&◌}
+use Rattle.std.proofs.Common.{◌≡◌, ℕ, zero, suc, ◌<◌, Bool, true, false, ◌==◌, cond, List, [], ◌∷◌, ◌++◌, length, take, get_or, refl, sym, ap, ◌∙◌, arith, append_assoc, eqb-true, IsTrue, All, not, ◌&&◌}
 use Rattle.std.specs.List.{concat, list_all}
-use Rattle.std.proofs.lemmas.Grind.{common_steps}
+use Rattle.std.proofs.lemmas.List.Folds.{list_all-append}
 use Rattle.std.proofs.lemmas.List.Elements.{All-head, All-tail, All-cons, All-nil}
-use Rattle.px_head.specs.Blocks.{lines_of, put, IsLine}
+use Rattle.px_head.specs.Blocks.{lines_of, put, NoFeed, IsLine}
 
-none-at : (c : Bool) (b : ℕ) (ls : List (List ℕ)) → (c ≡ true → ⊥) → ls ≡ [] → cond c ((10 ∷ []) ∷ ls) (put b ls) ≡ []
-none-at true b ls h e = absurd (h refl)
-none-at false b ls h e = ap (put b) e
+none-at : (c d : Bool) (b : ℕ) (ls : List (List ℕ)) → IsTrue (not c && d) → (IsTrue d → ls ≡ []) → cond c ((10 ∷ []) ∷ ls) (put b ls) ≡ []
+none-at true d b ls n e = absurd (cc)
+none-at false d b ls n e = ap (put b) (e n)
 
 -- bytes without LF have no whole line
-pub lines-none : (bs : List ℕ) → ((k : ℕ) → k < length bs → (get_or bs k 0 == 10) ≡ true → ⊥) → lines_of bs ≡ []
+pub lines-none : (bs : List ℕ) → NoFeed bs → lines_of bs ≡ []
 unfolding lines_of
-lines-none [] h = refl
-lines-none (b ∷ bs) h =
-    none-at (b == 10) b (lines_of bs) (h 0 (omega arith)) (lines-none bs (λ k l p. h (suc k) (omega arith) p))
+lines-none [] n = refl
+lines-none (b ∷ bs) n = none-at (b == 10) (list_all (λ b. not (b == 10)) bs) b (lines_of bs) n (λ m. lines-none bs m)
 
-some-at : (c : Bool) (b : ℕ) (l : List ℕ) (ls more : List (List ℕ)) → (c ≡ true → ⊥) → ls ≡ l ∷ more → cond c ((10 ∷ []) ∷ ls) (put b ls) ≡ (b ∷ l) ∷ more
-some-at true b l ls more h e = absurd (h refl)
-some-at false b l ls more h e = ap (put b) e
+-- what has LF nowhere
+feed-cons : (c d : Bool) → (c ≡ true → ⊥) → IsTrue d → IsTrue (not c && d)
+feed-cons true d h n = absurd (h refl)
+feed-cons false d h n = n
 
-here-at : (c : Bool) (b : ℕ) (ls : List (List ℕ)) → c ≡ true → b ≡ 10 → cond c ((10 ∷ []) ∷ ls) (put b ls) ≡ (b ∷ []) ∷ ls
-here-at true b ls h e = ap (λ (n : ℕ). (n ∷ []) ∷ ls) (sym e)
-here-at false b ls h e = absurd (cc)
+pub no-feed : (bs : List ℕ) → ((k : ℕ) → k < length bs → (get_or bs k 0 == 10) ≡ true → ⊥) → NoFeed bs
+no-feed [] h = refl
+no-feed (b ∷ bs) h =
+    feed-cons (b == 10) (list_all (λ b. not (b == 10)) bs) (h 0 (omega arith)) (no-feed bs (λ k l p. h (suc k) (omega arith) p))
 
--- the bytes up to and with the first LF are the first line
-pub lines-some : (bs : List ℕ) (k : ℕ) → k < length bs → ((j : ℕ) → j < k → (get_or bs j 0 == 10) ≡ true → ⊥) → (get_or bs k 0 == 10) ≡ true
-    → lines_of bs ≡ take (suc k) bs ∷ lines_of (drop (suc k) bs)
-unfolding lines_of
-lines-some [] k l h p = absurd (omega arith)
-lines-some (b ∷ bs) zero l h p = here-at (b == 10) b (lines_of bs) p (eqb-true b 10 p)
-lines-some (b ∷ bs) (suc k) l h p =
-    some-at (b == 10) b (take (suc k) bs) (lines_of bs) (lines_of (drop (suc k) bs)) (h 0 (omega arith)) (lines-some bs k (omega arith) (λ j i q. h (suc j) (omega arith) q) p)
+pub feed-join : (xs ys : List ℕ) → NoFeed xs → NoFeed ys → NoFeed (xs ++ ys)
+feed-join xs ys x y = list_all-append (λ b. not (b == 10)) xs ys ∙ ap (λ (t : Bool). t && list_all (λ b. not (b == 10)) ys) x ∙ y
+
+-- a line with more in front of it
+pub line-behind : (text l : List ℕ) → NoFeed text → IsLine l → IsLine (text ++ l)
+line-behind text l n is =
+    record { text = text ++ is.text; is = ap (λ (xs : List ℕ). text ++ xs) is.is ∙ sym (append_assoc text is.text (10 ∷ [])); no_feed = feed-join text is.text n is.no_feed }
+
+line-cons : (b : ℕ) (l : List ℕ) → ((b == 10) ≡ true → ⊥) → IsLine l → IsLine (b ∷ l)
+line-cons b l h is =
+    record { text = b ∷ is.text; is = ap (λ (xs : List ℕ). b ∷ xs) is.is; no_feed = feed-cons (b == 10) (list_all (λ b. not (b == 10)) is.text) h is.no_feed }
+
+-- the bytes up to and with the first LF are a line
+pub first-line : (bs : List ℕ) (k : ℕ) → k < length bs → ((j : ℕ) → j < k → (get_or bs j 0 == 10) ≡ true → ⊥) → (get_or bs k 0 == 10) ≡ true → IsLine (take (suc k) bs)
+first-line [] k l h p = absurd (omega arith)
+first-line (b ∷ bs) zero l h p = record { text = []; is = ap (λ (n : ℕ). n ∷ []) (eqb-true b 10 p); no_feed = refl }
+first-line (b ∷ bs) (suc k) l h p =
+    line-cons b (take (suc k) bs) (h 0 (omega arith)) (first-line bs k (omega arith) (λ j i q. h (suc j) (omega arith) q) p)
 
 text-at : (c d : Bool) (b : ℕ) (l : List ℕ) (ls more : List (List ℕ)) → IsTrue (not c && d) → (IsTrue d → ls ≡ l ∷ more) → cond c ((10 ∷ []) ∷ ls) (put b ls) ≡ (b ∷ l) ∷ more
 text-at true d b l ls more t e = absurd (cc)
 text-at false d b l ls more t e = ap (put b) (e t)
 
-lines-text : (text rest : List ℕ) → IsTrue (list_all (λ b. not (b == 10)) text) → lines_of (text ++ 10 ∷ rest) ≡ (text ++ 10 ∷ []) ∷ lines_of rest
+lines-text : (text rest : List ℕ) → NoFeed text → lines_of (text ++ 10 ∷ rest) ≡ (text ++ 10 ∷ []) ∷ lines_of rest
 unfolding lines_of
 lines-text [] rest t = refl
 lines-text (b ∷ text) rest t =
@@ -60,19 +71,14 @@ pub record AreLines (bytes : List ℕ) (ls : List (List ℕ)) : Type 0 where
   pub rest : List ℕ
   pub is : bytes ≡ concat ls ++ rest
 
-are-put : (b : ℕ) (bs : List ℕ) (ls : List (List ℕ)) → IsTrue (not (b == 10)) → AreLines bs ls → AreLines (b ∷ bs) (put b ls)
+are-put : (b : ℕ) (bs : List ℕ) (ls : List (List ℕ)) → ((b == 10) ≡ true → ⊥) → AreLines bs ls → AreLines (b ∷ bs) (put b ls)
 are-put b bs [] n are = record { all = are.all; rest = b ∷ bs; is = refl }
 are-put b bs (l ∷ ls) n are =
-    let first = All-head IsLine l ls are.all in
     record {
-      all = All-cons IsLine (b ∷ l) ls (record { text = b ∷ first.text; is = ap (λ (xs : List ℕ). b ∷ xs) first.is; no_feed = both (b == 10) (list_all (λ b. not (b == 10)) first.text) n first.no_feed }) (All-tail IsLine l ls are.all);
+      all = All-cons IsLine (b ∷ l) ls (line-cons b l n (All-head IsLine l ls are.all)) (All-tail IsLine l ls are.all);
       rest = are.rest;
       is = ap (λ (xs : List ℕ). b ∷ xs) are.is;
     }
-  where
-    both : (c d : Bool) → IsTrue (not c) → IsTrue d → IsTrue (not c && d)
-    both true d n t = absurd (cc)
-    both false d n t = t
 
 are-at : (c : Bool) (b : ℕ) (bs : List ℕ) (ls : List (List ℕ)) → (b == 10) ≡ c → AreLines bs ls → AreLines (b ∷ bs) (cond c ((10 ∷ []) ∷ ls) (put b ls))
 are-at true b bs ls e are =
@@ -81,7 +87,7 @@ are-at true b bs ls e are =
       rest = are.rest;
       is = ap (λ (n : ℕ). n ∷ bs) (eqb-true b 10 e) ∙ ap (λ (xs : List ℕ). 10 ∷ xs) are.is;
     }
-are-at false b bs ls e are = are-put b bs ls (subst (λ (t : Bool). IsTrue (not t)) (sym e) refl) are
+are-at false b bs ls e are = are-put b bs ls (λ hit. absurd (cc)) are
 
 pub are-lines : (bs : List ℕ) → AreLines bs (lines_of bs)
 unfolding lines_of

@@ -1,6 +1,6 @@
 -- A head block: the empty lines at the front, then the lines up to and with the next empty line.
 -- A line ends with LF. An empty line is LF or CR LF.
-use Rattle.std.specs.Prelude.{◌≡◌, ℕ, ◌+◌, ◌<◌, ◌≤◌, Bool, true, false, not, if◌then◌else◌, ◌==◌, nat_lt, List, [], ◌∷◌, ◌++◌, length, take, drop, Option, None, Some, option_map, All, IsTrue}
+use Rattle.std.specs.Prelude.{◌≡◌, ℕ, ◌<◌, ◌≤◌, Bool, true, false, not, if◌then◌else◌, ◌==◌, nat_lt, List, [], ◌∷◌, ◌++◌, length, take, Option, None, Some, option_map, All, IsTrue}
 use Rattle.std.specs.List.{sum_by, concat, list_all}
 use Rattle.px_head.specs.declared.blocks.HeadEnd.{HeadEnd}
 use Rattle.px_head.specs.declared.blocks.HeadEnd.TheVariants.{At, NotYet, Over}
@@ -52,16 +52,20 @@ EndsWithin len limit (At n) = (0 < n) × (n ≤ len) × (n ≤ limit)
 EndsWithin len limit NotYet = len < limit
 EndsWithin len limit Over = limit ≤ len
 
+-- no byte is LF
+abbrev pub NoFeed : List ℕ → Type 0
+NoFeed bytes = IsTrue (list_all (λ b. not (b == 10)) bytes)
+
 -- a line: some bytes that aren't LF, and LF
 pub record IsLine (line : List ℕ) : Type 0 where
   pub text : List ℕ
   pub is : line ≡ text ++ 10 ∷ []
-  pub no_feed : IsTrue (list_all (λ b. not (b == 10)) text)
+  pub no_feed : NoFeed text
 
--- the first whole line of the bytes has that length, or there is none
+-- so many bytes at the front are a line, or there is no whole line
 abbrev pub IsFirstLine : List ℕ → Option ℕ → Type 0
-IsFirstLine bytes None = lines_of bytes ≡ []
-IsFirstLine bytes (Some len) = (0 < len) × (len ≤ length bytes) × (lines_of bytes ≡ take len bytes ∷ lines_of (drop len bytes))
+IsFirstLine bytes None = NoFeed bytes
+IsFirstLine bytes (Some len) = (len ≤ length bytes) × IsLine (take len bytes)
 
 -- an empty line, and a line that isn't empty
 abbrev pub IsEmptyLine : List ℕ → Type 0

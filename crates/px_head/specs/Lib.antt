@@ -3,3 +3,4 @@ pub mod Faults
 pub mod Fields
 pub mod Heads
 pub mod Prints
+pub mod Searches

@@ -1,5 +1,5 @@
 -- The printed form of a head (RFC 9112, sections 3, 4 and 5). Printed lines have no line end; a head ends each with CR LF.
-use Rattle.std.specs.Prelude.{◌≡◌, ℕ, ◌-◌, if◌then◌else◌, ◌==◌, List, [], ◌∷◌, ◌++◌, length, take, codes, flat_map}
+use Rattle.std.specs.Prelude.{◌≡◌, ℕ, ◌-◌, List, [], ◌∷◌, ◌++◌, length, take, codes, flat_map}
 use Rattle.std.specs.Fmt.{decimal}
 use Rattle.px_head.specs.declared.fields.Field.{Field}
 use Rattle.px_head.specs.declared.requests.RequestHead.{RequestHead}

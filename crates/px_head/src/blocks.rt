@@ -1,9 +1,9 @@
 // Where a head block ends.
-ghost use Rattle.std.specs.Prelude.{◌≡◌, ◌≢◌, ◌<◌, ◌≤◌, ◌++◌, ◌↔◌, ℕ, List, length, take};
+ghost use Rattle.std.specs.Prelude.{◌≡◌, ◌≢◌, ◌<◌, ◌≤◌, ◌++◌, ℕ, List, length, take};
 ghost use Rattle.httparse.specs.Grammar as grammar;
-ghost use Rattle.px_head.specs.Blocks.{head_end, block_len as block_len_spec, end_of as end_of_spec, EndsWithin, IsHeadBlock, IsFirstLine, is_empty_line as is_empty_line_spec};
+ghost use Rattle.px_head.specs.Blocks.{head_end, EndsWithin, IsHeadBlock};
 
-use memchr::memchr;
+use crate::searches::HeadSearch;
 
 /// Where a head block ends among the bytes so far.
 #[derive(Clone, Copy, Debug, PartialEq, Eq)]
@@ -36,72 +36,6 @@ pub fn find_head(bytes: &[u8], limit: usize) -> HeadEnd
     ensures response { (h : grammar.ResponseHead) (rest : List ℕ) → grammar.ReadsResponse bytes.now h rest
         → length (grammar.print_response h) ≤ limit → result ≡ HeadEnd.At (length (grammar.print_response h)) }
 {
-    end_of(block_len(front(bytes, limit)), bytes.len() < limit)
-}
-
-/// Where the block ends, if there is one, and whether there are fewer bytes than the limit.
-fn end_of(len: Option<usize>, below: bool) -> HeadEnd
-    ensures { result ≡ end_of_spec len below }
-{
-    match len {
-        Some(at) => HeadEnd::At(at),
-        None => {
-            if below {
-                HeadEnd::NotYet
-            } else {
-                HeadEnd::Over
-            }
-        }
-    }
-}
-
-/// The first bytes, at most so many.
-fn front(bytes: &[u8], limit: usize) -> &[u8]
-    ensures { result.now ≡ take limit bytes.now }
-{
-    if limit < bytes.len() {
-        &bytes[..limit]
-    } else {
-        bytes
-    }
-}
-
-/// The length of the block at the front, line by line.
-fn block_len(bytes: &[u8]) -> Option<usize>
-    ensures { result ≡ block_len_spec bytes.now }
-{
-    let mut at = 0;
-    let mut begun = false;
-    'lines: loop {
-        let rest = &bytes[at..];
-        match first_line_len(rest) {
-            None => return None,
-            Some(len) => {
-                let is_empty = is_empty_line(&rest[..len]);
-                at += len;
-                if !is_empty {
-                    begun = true;
-                } else if begun {
-                    return Some(at);
-                }
-            }
-        }
-    }
-}
-
-/// The length of the first whole line, with its end.
-fn first_line_len(bytes: &[u8]) -> Option<usize>
-    ensures { IsFirstLine bytes.now result }
-{
-    match memchr(b'\n', bytes) {
-        Some(at) => Some(at + 1),
-        None => None,
-    }
-}
-
-/// Whether the line is LF or CR LF.
-fn is_empty_line(line: &[u8]) -> bool
-    ensures { result ≡ is_empty_line_spec line.now }
-{
-    matches!(line, [b'\n'] | [b'\r', b'\n'])
+    let mut search = HeadSearch::new();
+    search.go_on(bytes, limit)
 }

@@ -7,6 +7,7 @@ mod fields;
 mod prints;
 mod requests;
 mod responses;
+mod searches;
 #[cfg(test)]
 mod tests;
 
@@ -16,6 +17,7 @@ pub use fields::Field;
 pub use prints::print_head;
 pub use requests::RequestHead;
 pub use responses::ResponseHead;
+pub use searches::HeadSearch;
 
 /// The most bytes of a head.
 pub const HEAD_LIMIT: usize = 65_536;

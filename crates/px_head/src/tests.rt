@@ -1,7 +1,7 @@
 //! Heads found, read and printed.
 use crate::{
-    FIELD_LIMIT, Field, HEAD_LIMIT, HeadEnd, HeadFault, RequestHead, ResponseHead, find_head,
-    print_head,
+    FIELD_LIMIT, Field, HEAD_LIMIT, HeadEnd, HeadFault, HeadSearch, RequestHead, ResponseHead,
+    find_head, print_head,
 };
 use px_base::Text;
 use std::alloc::Global;
@@ -28,6 +28,74 @@ fn a_block_ends_with_the_first_empty_line_behind_a_line(rt: HostRuntime) {
     assert_eq!(rt; find_head(b"A\r\n\r\n", 5), HeadEnd::At(5));
     assert_eq!(rt; find_head(b"A\r\n\r\n", 4), HeadEnd::Over);
     assert_eq!(rt; find_head(b"A\r\n", 4), HeadEnd::NotYet);
+}
+
+/// Searches in bytes that grow one by one, and answers with how many of them it found its answer.
+fn search_as_they_grow(bytes: &[u8], limit: usize) -> (usize, HeadEnd) {
+    let mut search = HeadSearch::new();
+    let mut len = 0;
+    'more: loop {
+        match search.go_on(&bytes[..len], limit) {
+            HeadEnd::NotYet => {
+                if len == bytes.len() {
+                    return (len, HeadEnd::NotYet);
+                }
+                len += 1;
+            }
+            end => return (len, end),
+        }
+    }
+}
+
+#[test]
+fn a_search_in_growing_bytes_answers_with_the_byte_that_decides(rt: HostRuntime) {
+    let rows: [(&[u8], usize, HeadEnd); 11] = [
+        (b"", 0, HeadEnd::NotYet),
+        (b"\r\n\n", 3, HeadEnd::NotYet),
+        (b"GET http://a.test/ HTTP/1.1\r\nHos", 32, HeadEnd::NotYet),
+        (b"A\r\n\r", 4, HeadEnd::NotYet),
+        (b"A\r\n\r\n", 5, HeadEnd::At(5)),
+        (b"A\n\n", 3, HeadEnd::At(3)),
+        (b"A\n\r\n", 4, HeadEnd::At(4)),
+        (b"\r\n\nA\r\nB\r\n\r\nC", 11, HeadEnd::At(11)),
+        (b"\rA\n\r\r\n\n", 7, HeadEnd::At(7)),
+        (b"A\r\n\r\nB\r\n\r\n", 5, HeadEnd::At(5)),
+        (
+            b"0123456789012345678901234567890123456789",
+            40,
+            HeadEnd::Over,
+        ),
+    ];
+    for (bytes, len, end) in rows {
+        assert_eq!(rt; search_as_they_grow(bytes, 40), (len, end));
+    }
+    assert_eq!(rt; search_as_they_grow(b"A\r\n\r\n", 5), (5, HeadEnd::At(5)));
+    assert_eq!(rt; search_as_they_grow(b"A\r\n\r\n", 4), (4, HeadEnd::Over));
+    assert_eq!(rt; search_as_they_grow(b"A\r\n", 4), (3, HeadEnd::NotYet));
+}
+
+/// Searches for blocks that stand one behind another, and answers where the last one ends and what is said behind it.
+fn pass_heads(bytes: &[u8], limit: usize) -> (usize, HeadEnd) {
+    let mut search = HeadSearch::new();
+    let mut at = 0;
+    'heads: loop {
+        match search.go_on(&bytes[at..], limit) {
+            HeadEnd::At(len) => at += len,
+            end => return (at, end),
+        }
+    }
+}
+
+#[test]
+fn a_search_begins_anew_behind_a_block(rt: HostRuntime) {
+    let rows: [(&[u8], usize, HeadEnd); 3] = [
+        (b"A\n\nB\n\n", 6, HeadEnd::NotYet),
+        (b"A\n\n\nB\n\r\nC\n", 8, HeadEnd::NotYet),
+        (b"A\r\n\r\nBCDEF", 5, HeadEnd::Over),
+    ];
+    for (bytes, at, end) in rows {
+        assert_eq!(rt; pass_heads(bytes, 5), (at, end));
+    }
 }
 
 /// A request line, a field of many bytes and an empty line, `len` bytes in all.

@@ -1,4 +1,4 @@
-use Rattle.std.proofs.Common.{◌≤◌, [], length, arith, ap, sym, length-append}
+use Rattle.std.proofs.Common.{◌≤◌, [], length, arith, ap, length-append}
 use Rattle.httparse.specs.Grammar.{print_request}
 use Rattle.httparse.specs.Spans.{IsRequestAt}
 use Rattle.px_head.proofs.Fits.{request-fits}

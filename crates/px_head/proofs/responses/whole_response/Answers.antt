@@ -1,4 +1,4 @@
-use Rattle.std.proofs.Common.{◌≤◌, [], length, arith, ap, sym, length-append}
+use Rattle.std.proofs.Common.{◌≤◌, [], length, arith, ap, length-append}
 use Rattle.httparse.specs.Grammar.{print_response}
 use Rattle.httparse.specs.Spans.{IsResponseAt}
 use Rattle.px_head.proofs.Fits.{response-fits}

@@ -1,4 +1,4 @@
-use Rattle.std.proofs.Common.{◌≤◌, ◌∙◌, sym, ap, inl, length, arith, Ok}
+use Rattle.std.proofs.Common.{◌∙◌, sym, ap, inl, arith, Ok}
 use Rattle.px_head.proofs.HeadLemmas.{finds-request, one-request, one-request-count}
 use Rattle.px_head.proofs.requests.RequestHead.read.Goals as goal
 

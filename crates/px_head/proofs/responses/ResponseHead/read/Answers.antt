@@ -1,4 +1,4 @@
-use Rattle.std.proofs.Common.{◌≤◌, ◌∙◌, sym, ap, inl, length, arith, Ok}
+use Rattle.std.proofs.Common.{◌∙◌, sym, ap, inl, arith, Ok}
 use Rattle.px_head.proofs.HeadLemmas.{finds-response, one-response, one-response-count}
 use Rattle.px_head.proofs.responses.ResponseHead.read.Goals as goal
 
