@@ -213,11 +213,11 @@ refuses_ends keep fed put p r rest failed = record {
 
 -- what a pump says at a stage
 pub pumped : (f : Flow) (keep : Bool) (fed put : List ℕ) (s : Stage) → After keep fed put s → IsSettled s → f ≡ flow_at s → Pumped keep fed put f (keeps_at s)
-pumped f keep fed put (stage.Heading keeps held) h i e = rw e (record {
+pumped f keep fed put (stage.Heading keeps held search) h i e = rw e (record {
   output = λ rest failed reply a. quiet_output put reply h.quiet;
   so_far = inl h.quiet;
   seen = Waiting;
-  shows = rw (← h.held_is) (shows_waiting held i.0);
+  shows = rw (← h.held_is) (shows_waiting held i.0.0);
   flow_is = refl;
   settles = λ n. absurd (n refl);
   lag = omega arith;
@@ -256,7 +256,7 @@ pumped f keep fed put (stage.Refused p) h i e = rw e (record {
 pumped f keep fed put stage.Wanting h i e = absurd h
 
 pub so_far : (keep : Bool) (fed put : List ℕ) (s : Stage) → After keep fed put s → SoFar keep fed put
-so_far keep fed put (stage.Heading keeps held) h = inl h.quiet
+so_far keep fed put (stage.Heading keeps held search) h = inl h.quiet
 so_far keep fed put (stage.Passing keeps left) h = behind_so_far keep fed put h.behind
 so_far keep fed put (stage.Done keeps e) h = behind_so_far keep fed put h.behind
 so_far keep fed put (stage.Refused p) h = inl h.quiet
@@ -274,9 +274,9 @@ short_ends keep fed put keeps (body.ToClose m) n failed h e open_ =
 
 -- what a pump says at the end
 ended_at : (keep : Bool) (fed put : List ℕ) (s : Stage) (failed : Bool) → After keep fed put s → IsSettled s → Ends keep (flow_at (end_at s failed)) (keeps_at (end_at s failed)) fed failed put
-ended_at keep fed put (stage.Heading keeps held) failed h i = record {
+ended_at keep fed put (stage.Heading keeps held search) failed h i = record {
   reply = no_data;
-  answered = record { seen = Waiting; shows = rw (← h.held_is) (shows_waiting held i.0).shows; reply_is = refl };
+  answered = record { seen = Waiting; shows = rw (← h.held_is) (shows_waiting held i.0.0).shows; reply_is = refl };
   ends_as = (h.quiet, refl);
 }
 ended_at keep fed put (stage.Passing keeps left) failed h i = rw h.left_is (short_ends keep fed put keeps h.behind.body (length h.behind.rest) failed h.behind refl h.open_)
@@ -323,7 +323,7 @@ waits_stage keep fed put bytes held held' out out' keeps next h e a = rw (h.quie
 
 -- the end of the bytes changes nothing behind the end of the flow
 pub end_stays : (s next : Stage) (failed : Bool) (out : List ℕ) → next ≡ end_at s failed → s ≢ stage.Wanting → StaysAtEnd s next out out
-end_stays (stage.Heading keeps held) next failed out e n = tt
+end_stays (stage.Heading keeps held search) next failed out e n = tt
 end_stays (stage.Passing keeps left) next failed out e n = tt
 end_stays (stage.Done keeps x) next failed out e n = (e, refl)
 end_stays (stage.Refused p) next failed out e n = (e, refl)

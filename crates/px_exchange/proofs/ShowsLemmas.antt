@@ -3,6 +3,8 @@ use Rattle.std.proofs.Common.{◌≡◌, ℕ, ◌<◌, ◌≤◌, List, [], ◌+
 use Rattle.std.proofs.lemmas.List.{take-append-le, drop-append-le, append-nil}
 use Rattle.px_head.specs.Blocks.{head_end, block_len, block_of, lines_of}
 use Rattle.px_head.specs.Heads.{IsResponse}
+use Rattle.px_head.specs.Searches.{Searched}
+use Rattle.px_head.specs.declared.searches.HeadSearch.{HeadSearch}
 use Rattle.px_head.specs.Faults.{IsReadAs}
 use Rattle.px_head.specs.declared.blocks.HeadEnd.TheVariants as end
 use Rattle.px_head.specs.declared.faults.HeadFault.{HeadFault}
@@ -10,7 +12,7 @@ use Rattle.px_head.specs.declared.faults.HeadFault.TheVariants as fault
 use Rattle.px_head.specs.declared.responses.ResponseHead.{ResponseHead}
 use Rattle.px_exchange.specs.declared.bodies.Body.{Body}
 use Rattle.px_exchange.specs.Answering.{Seen, Waiting, Bad, Good, Reads, ShowsBlock, Shows, seen_behind, seen_head, body_of}
-use Rattle.px_exchange.specs.Pumps.{ShowsOnly, BlockShows}
+use Rattle.px_exchange.specs.Pumps.{ShowsOnly, BlockShows, IsWaiting}
 
 -- one reading of a block is its only one
 pub only_reading : (block : List ℕ) (one : Option ResponseHead) → Reads block one → ((other : ResponseHead) → IsResponse block other → Some other ≡ one) → (o : Option ResponseHead) → Reads block o → o ≡ one
@@ -70,6 +72,10 @@ pub shows_now : (fed : List ℕ) (seen : List ℕ → Seen) → ((more : List �
 shows_now fed seen h = subst (λ (xs : List ℕ). ShowsOnly xs (seen [])) (append-nil fed) (h [])
 
 -- no bytes
-pub nothing_waits : (held : List ℕ) → held ≡ [] → (head_end 65536 held ≡ end.NotYet) × (length held < 65536)
+nothing_waits : (held : List ℕ) → held ≡ [] → IsWaiting held
 unfolding head_end block_len block_of lines_of
 nothing_waits held e = rw e (refl, omega arith)
+
+-- a search that has looked at none
+pub nothing_searched : (held : List ℕ) (search : HeadSearch) → held ≡ [] → ((limit : ℕ) → Searched limit [] search) → IsWaiting held × Searched 65536 held search
+nothing_searched held search e s = (nothing_waits held e, rw e (s 65536))

@@ -3,6 +3,7 @@ use Rattle.std.specs.Prelude.{◌≡◌, ◌≢◌, ℕ, ◌+◌, ◌-◌, ◌<�
 use Rattle.px_head.specs.declared.responses.ResponseHead.{ResponseHead}
 use Rattle.px_head.specs.declared.blocks.HeadEnd.TheVariants as end
 use Rattle.px_head.specs.Blocks.{head_end}
+use Rattle.px_head.specs.Searches.{Searched}
 use Rattle.px_exchange.specs.declared.pages.Page.{Page}
 use Rattle.px_exchange.specs.declared.pages.Page.TheVariants as page
 use Rattle.px_exchange.specs.declared.notes.Ending.{Ending}
@@ -36,9 +37,13 @@ ReadsBlock read.NotYet block = ⊥
 ReadsBlock read.Refused block = BlockShows block (λ rest. Bad)
 ReadsBlock (read.Good head b n) block = (n ≡ length block) × BlockShows block (λ rest. Good head b rest)
 
+-- no block is whole in the bytes, and one may still be
+abbrev pub IsWaiting : List ℕ → Type 0
+IsWaiting held = (head_end 65536 held ≡ end.NotYet) × (length held < 65536)
+
 -- what was read of a head is what the bytes show, whatever follows
 abbrev pub ReadsHead : HeadRead → List ℕ → Type 0
-ReadsHead read.NotYet held = (head_end 65536 held ≡ end.NotYet) × (length held < 65536)
+ReadsHead read.NotYet held = IsWaiting held
 ReadsHead read.Refused held = (more : List ℕ) → ShowsOnly (held ++ more) Bad
 ReadsHead (read.Good head b n) held = (n ≤ length held) × ((more : List ℕ) → ShowsOnly (held ++ more) (Good head b (drop n held ++ more)))
 
@@ -89,7 +94,7 @@ pub record Holds (keep : Bool) (fed put : List ℕ) (keeps : Bool) (held : List 
 
 -- what a stage says of all the bytes that were fed and put out; keep is whether the connection may be kept
 abbrev pub After : Bool → List ℕ → List ℕ → Stage → Type 0
-After keep fed put (stage.Heading keeps held) = Holds keep fed put keeps held
+After keep fed put (stage.Heading keeps held search) = Holds keep fed put keeps held
 After keep fed put (stage.Passing keeps left) = PassesOn keep fed put keeps left
 After keep fed put (stage.Done keeps e) = Finished keep fed put keeps e
 After keep fed put (stage.Refused p) = Refuses fed put p
@@ -101,10 +106,10 @@ IsOfAnswer flow.More = Unit {0}
 IsOfAnswer (flow.Done e) = (p : Page) → e ≢ ending.Page p
 IsOfAnswer (flow.Refused p) = p ≡ page.NoServerData
 
--- what is true of a stage by itself: a head that is held isn't whole, a body that is passed has bytes to come, and the ending is
+-- what is true of a stage by itself: a head that is held isn't whole and was searched, a body that is passed has bytes to come, and the ending is
 -- one of answers
 abbrev pub IsSettled : Stage → Type 0
-IsSettled (stage.Heading keeps held) = (head_end 65536 held ≡ end.NotYet) × (length held < 65536)
+IsSettled (stage.Heading keeps held search) = IsWaiting held × Searched 65536 held search
 IsSettled (stage.Passing keeps left) = 0 < most_of left
 IsSettled (stage.Done keeps e) = IsOfAnswer (flow.Done e)
 IsSettled (stage.Refused p) = IsOfAnswer (flow.Refused p)
@@ -112,7 +117,7 @@ IsSettled stage.Wanting = Unit {0}
 
 -- what a stage shows
 abbrev pub flow_at : Stage → Flow
-flow_at (stage.Heading keeps held) = flow.More
+flow_at (stage.Heading keeps held search) = flow.More
 flow_at (stage.Passing keeps left) = flow.More
 flow_at (stage.Done keeps e) = flow.Done e
 flow_at (stage.Refused p) = flow.Refused p
@@ -120,7 +125,7 @@ flow_at stage.Wanting = flow.More
 
 -- whether the connection is kept behind a stage
 abbrev pub keeps_at : Stage → Bool
-keeps_at (stage.Heading keeps held) = false
+keeps_at (stage.Heading keeps held search) = false
 keeps_at (stage.Passing keeps left) = false
 keeps_at (stage.Done keeps e) = keeps
 keeps_at (stage.Refused p) = false
@@ -133,7 +138,7 @@ short_ending (body.ToClose n) failed = ending_of (not failed)
 
 -- the stage at the end of the bytes; failed is whether their reading failed
 abbrev pub end_at : Stage → Bool → Stage
-end_at (stage.Heading keeps held) failed = stage.Refused page.NoServerData
+end_at (stage.Heading keeps held search) failed = stage.Refused page.NoServerData
 end_at (stage.Passing keeps left) failed = stage.Done false (short_ending left failed)
 end_at (stage.Done keeps e) failed = stage.Done keeps e
 end_at (stage.Refused p) failed = stage.Refused p
@@ -208,15 +213,19 @@ Stays old new out out' = (new ≡ old) × (out' ≡ out)
 
 -- a call after the end of the flow changes nothing
 abbrev pub StaysAtEnd : Stage → Stage → List ℕ → List ℕ → Type 0
-StaysAtEnd (stage.Heading keeps held) new out out' = Unit {0}
+StaysAtEnd (stage.Heading keeps held search) new out out' = Unit {0}
 StaysAtEnd (stage.Passing keeps left) new out out' = Unit {0}
 StaysAtEnd (stage.Done keeps e) new out out' = Stays (stage.Done keeps e) new out out'
 StaysAtEnd (stage.Refused p) new out out' = Stays (stage.Refused p) new out out'
 StaysAtEnd stage.Wanting new out out' = ⊥
 
+-- behind so many bytes of a head more pieces than this aren't needed: it has a limit, and so has a body
+abbrev pub pieces_behind : ℕ → ℕ
+pieces_behind n = 2 ^ 64 + (65536 - n)
+
 -- more pieces than this aren't needed
 abbrev pub pieces_left : Stage → ℕ
-pieces_left (stage.Heading keeps held) = 2 ^ 64 + (65536 - length held)
+pieces_left (stage.Heading keeps held search) = pieces_behind (length held)
 pieces_left (stage.Passing keeps left) = most_of left
 pieces_left (stage.Done keeps e) = 0
 pieces_left (stage.Refused p) = 0

@@ -1,6 +1,7 @@
 // Bytes that were read ahead of a source.
 ghost use Rattle.std.specs.Prelude.{◌≡◌, ◌≢◌, ◌<◌, ◌≤◌, ◌++◌, [], length, drop, IsTrue, IfOk, OnOk, OnErr, Err, true, false};
 ghost use Rattle.px_base.specs.Sources.{SourceGoesOn};
+ghost use Rattle.px_head.specs.Prints.{IsFrontOf};
 ghost use Rattle.px_exchange.specs.Reading.{KeepsBytes, ReadCause};
 
 use px_base::{Failed, Mem, Source};
@@ -109,6 +110,7 @@ pub fn fill<S: Source>(source: &mut S, ahead: &mut Ahead) -> Result<bool, ReadFa
     ensures bytes { result ≢ Err ReadFault.Mem → KeepsBytes (S.state source.old) (S.state source.new) ahead.old ahead.new }
     ensures end { IsTrue (S.state source.old).tells → IfOk result (λ more. more ≡ false → ((S.state source.old).left ≡ []) × ((S.state source.new).left ≡ [])) }
     ensures more { IfOk result (λ more. more ≡ true → length ahead.old < length ahead.new) }
+    ensures longer { IfOk result (λ _. IsFrontOf ahead.old ahead.new) }
     ensures failed { result ≡ Err ReadFault.Failed → ahead.new ≡ ahead.old }
     ensures cause { ReadCause (S.state source.old) (S.state source.new) result }
     ensures goes_on { SourceGoesOn (S.state source.old) (S.state source.new) }

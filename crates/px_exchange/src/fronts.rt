@@ -6,7 +6,7 @@ ghost use Rattle.px_exchange.specs.Reading.{KeepsBytes, ReadCause, Stands};
 
 use crate::ahead::{Ahead, ReadFault, fill};
 use px_base::{Source, Text};
-use px_head::{HeadEnd, find_head};
+use px_head::{HeadEnd, HeadSearch};
 use std::alloc::Global;
 
 /// What stands at the front of a stream.
@@ -37,8 +37,9 @@ pub fn read_front<S: Source>(
     ensures cause { ReadCause (S.state source.old) (S.state source.new) result }
     ensures goes_on { SourceGoesOn (S.state source.old) (S.state source.new) }
 {
+    let mut search = HeadSearch::new();
     'more: loop {
-        match find_head(ahead.as_bytes(), limit) {
+        match search.go_on(ahead.as_bytes(), limit) {
             HeadEnd::At(count) => {
                 let block = Text::from_bytes(alloc, &ahead.as_bytes()[..count])?;
                 ahead.skip(count);

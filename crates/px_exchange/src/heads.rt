@@ -1,10 +1,11 @@
 // Reads the head of an answer.
 ghost use Rattle.std.specs.Prelude.{◌≡◌, ◌++◌, IfOk, length};
+ghost use Rattle.px_head.specs.Searches.{BeginsSearched, Searched};
 ghost use Rattle.px_exchange.specs.Pumps.{ReadsHead, ReadsBlock};
 
 use crate::bodies::{Body, body_of};
 use px_base::Mem;
-use px_head::{HEAD_LIMIT, HeadEnd, HeadFault, ResponseHead, find_head};
+use px_head::{HEAD_LIMIT, HeadEnd, HeadFault, HeadSearch, ResponseHead};
 use std::alloc::Global;
 
 /// What the bytes of an answer so far show of its head.
@@ -22,11 +23,13 @@ pub enum HeadRead {
     },
 }
 
-/// Reads the head at the front of an answer's bytes.
-pub fn read_head(alloc: Global, held: &[u8]) -> Result<HeadRead, Mem>
-    ensures { IfOk result (λ read. ReadsHead read held.now) }
+/// Reads the head at the front of an answer's bytes, which begin with those that were searched.
+pub fn read_head(alloc: Global, held: &[u8], search: &mut HeadSearch) -> Result<HeadRead, Mem>
+    requires { BeginsSearched 65536 held.now search.old }
+    ensures read { IfOk result (λ read. ReadsHead read held.now) }
+    ensures searched { IfOk result (λ read. read ≡ HeadRead.NotYet → Searched 65536 held.now search.new) }
 {
-    match find_head(held, HEAD_LIMIT) {
+    match search.go_on(held, HEAD_LIMIT) {
         HeadEnd::NotYet => Ok(HeadRead::NotYet),
         HeadEnd::Over => Ok(HeadRead::Refused),
         HeadEnd::At(count) => read_block(alloc, &held[..count]),

@@ -1,7 +1,8 @@
 // The pump: what is returned of an answer that comes in pieces.
 ghost use Rattle.std.specs.Prelude.{◌≡◌, ◌≢◌, ◌<◌, ◌≤◌, ◌&&◌, ℕ, List, [], ◌++◌, length, take, IfOk, OnErr, Bool};
+ghost use Rattle.px_head.specs.Searches.{BeginsSearched};
 ghost use Rattle.px_exchange.specs.Answering.{most_of};
-ghost use Rattle.px_exchange.specs.Pumps.{stage_behind, After, Pumped, Ends, SoFar, StaysAtEnd, added, flow_at, keeps_at, end_at, short_ending, IsOfAnswer, IsSettled, pieces_left};
+ghost use Rattle.px_exchange.specs.Pumps.{stage_behind, After, Pumped, Ends, SoFar, StaysAtEnd, added, flow_at, keeps_at, end_at, short_ending, IsOfAnswer, IsSettled, pieces_left, pieces_behind};
 
 use crate::bodies::Body;
 use crate::heads::{HeadRead, read_head};
@@ -9,6 +10,7 @@ use crate::notes::Ending;
 use crate::pages::Page;
 use crate::replies::returned_head;
 use px_base::{Mem, Text};
+use px_head::HeadSearch;
 use std::alloc::Global;
 use std::marker::Model;
 use std::mem::replace;
@@ -33,8 +35,12 @@ pub enum Flow {
 /// How far an answer has come. `keep` is whether the connection is kept behind it.
 #[derive(Drop)]
 pub enum Stage {
-    /// Its head isn't whole. Here `keep` is what was asked.
-    Heading { keep: bool, held: Text },
+    /// Its head isn't whole, and was searched so far. Here `keep` is what was asked.
+    Heading {
+        keep: bool,
+        held: Text,
+        search: HeadSearch,
+    },
     /// Its head was put out, and so much of its body is to come.
     Passing { keep: bool, left: Body },
     Done { keep: bool, ending: Ending },
@@ -106,14 +112,22 @@ fn pass_body(keep: bool, body: Body, bytes: &[u8], out: &mut Text) -> Result<Sta
 }
 
 /// Goes on from bytes that are held, the last of them new.
-fn pass_head(alloc: Global, keep: bool, held: Text, out: &mut Text) -> Result<Stage, Mem>
+fn pass_head(
+    alloc: Global,
+    keep: bool,
+    held: Text,
+    search: HeadSearch,
+    out: &mut Text,
+) -> Result<Stage, Mem>
+    requires { BeginsSearched 65536 held search }
     ensures after { IfOk result (λ next. After keep held (added out.old out.new) next) }
     ensures grows { IfOk result (λ _. out.new ≡ out.old ++ added out.old out.new) }
     ensures settled { IfOk result IsSettled }
-    ensures pieces { IfOk result (λ next. (old piece : List ℕ) → held ≡ old ++ piece → length old < 65536 → 0 < length piece → flow_at next ≡ Flow.More → pieces_left next < pieces_left (Stage.Heading keep old)) }
+    ensures pieces { IfOk result (λ next. (n : ℕ) → n < length held → n < 65536 → flow_at next ≡ Flow.More → pieces_left next < pieces_behind n) }
 {
-    match read_head(alloc, held.as_bytes())? {
-        HeadRead::NotYet => Ok(Stage::Heading { keep, held }),
+    let mut search = search;
+    match read_head(alloc, held.as_bytes(), &mut search)? {
+        HeadRead::NotYet => Ok(Stage::Heading { keep, held, search }),
         HeadRead::Refused => Ok(Stage::Refused(Page::NoServerData)),
         HeadRead::Good { head, body, count } => {
             let first = returned_head(alloc, keep, body, head)?;
@@ -126,17 +140,19 @@ fn pass_head(alloc: Global, keep: bool, held: Text, out: &mut Text) -> Result<St
 
 /// Feeds a piece to a stage.
 fn advance(alloc: Global, stage: Stage, piece: &[u8], out: &mut Text) -> Result<Stage, Mem>
-    ensures after { IfOk result (λ next. IsSettled stage → (keep : Bool) (fed put : List ℕ) → After keep fed put stage → After keep (fed ++ piece.now) (put ++ added out.old out.new) next) }
+    requires { IsSettled stage }
+    ensures after { IfOk result (λ next. (keep : Bool) (fed put : List ℕ) → After keep fed put stage → After keep (fed ++ piece.now) (put ++ added out.old out.new) next) }
     ensures grows { IfOk result (λ _. out.new ≡ out.old ++ added out.old out.new) }
-    ensures settled { IfOk result (λ next. IsSettled stage → IsSettled next) }
+    ensures settled { IfOk result IsSettled }
     ensures repeats { IfOk result (λ next. StaysAtEnd stage next out.old out.new) }
-    ensures pieces { IfOk result (λ next. IsSettled stage → flow_at next ≡ Flow.More → 0 < length piece.now → pieces_left next < pieces_left stage) }
+    ensures pieces { IfOk result (λ next. flow_at next ≡ Flow.More → 0 < length piece.now → pieces_left next < pieces_left stage) }
 {
     match stage {
-        Stage::Heading { keep, held } => {
+        Stage::Heading { keep, held, search } => {
             let mut held = held;
             held.push_all(piece)?;
-            pass_head(alloc, keep, held, out)
+            let next = pass_head(alloc, keep, held, search, out)?;
+            Ok(next)
         }
         Stage::Passing { keep, left } => {
             let next = pass_body(keep, left, piece, out)?;
@@ -203,7 +219,6 @@ impl Model for Pump {
 
 impl Pump {
     /// A pump that was fed nothing.
-    #[tactic(auto, using(crate::proofs::ShowsLemmas::nothing_waits))]
     pub fn new(alloc: Global, asked: Asked) -> Pump
         ensures { After asked.keep [] [] result }
     {
@@ -212,6 +227,7 @@ impl Pump {
             stage: Stage::Heading {
                 keep: asked.keep,
                 held: Text::new(alloc),
+                search: HeadSearch::new(),
             },
         }
     }

@@ -8,6 +8,9 @@ const ANSWER: &str = "40\nHTTP/1.1 200 OK\r\nContent-Length: 2\r\n\r\nhi";
 
 const GET: &str = "GET http://a.test/x HTTP/1.1\r\nHost: a.test\r\n\r\n";
 
+/// The first reads give so many bytes each, and the first writes take so many.
+const SEVENS: [usize; 8] = [7, 7, 7, 7, 7, 7, 7, 7];
+
 /// What a run of the tool gave.
 #[derive(Drop)]
 struct Run {
@@ -17,14 +20,36 @@ struct Run {
     sent: Option<Text>,
 }
 
+/// How the objects of a run behave: the most bytes of their first reads and writes, and the calls that fail.
+#[derive(Clone, Copy)]
+struct Outside<'a> {
+    input_cuts: &'a [usize],
+    out_cuts: &'a [usize],
+    files_fails: &'a [u64],
+    input_fails: &'a [u64],
+    out_fails: &'a [u64],
+    err_fails: &'a [u64],
+}
+
+/// Objects that are cut so, and of which no call fails.
+fn cut_so<'a>(input_cuts: &'a [usize], out_cuts: &'a [usize]) -> Outside<'a> {
+    Outside {
+        input_cuts,
+        out_cuts,
+        files_fails: &[],
+        input_fails: &[],
+        out_fails: &[],
+        err_fails: &[],
+    }
+}
+
 /// Runs the tool over files in memory, where each file is a name and its content.
 fn run_over(
     alloc: Global,
     words: &[&str],
     named: &[(&str, &str)],
     input: &str,
-    cut: usize,
-    fails: &[u64],
+    outside: Outside<'_>,
 ) -> Result<Run, Mem> {
     let mut state = Vec::new(alloc);
     for (name, content) in named {
@@ -35,15 +60,19 @@ fn run_over(
     }
     let mut states = Vec::new(alloc);
     states.push(List::from_vec(state))?;
-    let mut files = MemFiles::new(alloc, List::from_vec(states), fails)?;
+    let mut files = MemFiles::new(alloc, List::from_vec(states), outside.files_fails)?;
     let mut given = Vec::new(alloc);
     for word in words {
         given.push(String::from_str(alloc, word)?)?;
     }
-    let cuts = [cut, cut, cut, cut, cut, cut];
-    let mut input = TapeIn::new(alloc, input.as_bytes(), &cuts, &[])?;
-    let mut out = TapeOut::new(alloc, &cuts, &[])?;
-    let mut err = TapeOut::new(alloc, &cuts, &[])?;
+    let mut input = TapeIn::new(
+        alloc,
+        input.as_bytes(),
+        outside.input_cuts,
+        outside.input_fails,
+    )?;
+    let mut out = TapeOut::new(alloc, outside.out_cuts, outside.out_fails)?;
+    let mut err = TapeOut::new(alloc, &[7], outside.err_fails)?;
     let mut clock = FixedClock::new(List::new(alloc));
     let status = run_tool(
         alloc, &given, &mut files, &mut input, &mut out, &mut err, &mut clock,
@@ -70,34 +99,93 @@ fn put(run: &Run, text: &str) -> bool {
     }
 }
 
-/// Input, what is returned, and SENT, over an empty CONFIG and answer A.
-const SESSIONS: &[(&str, &str, &str)] = &[
+/// What is sent on for the request.
+const SENT: &str = "a.test:80 52\nGET /x HTTP/1.1\r\nHost: a.test\r\nConnection: close\r\n\r\n";
+
+/// ORIGIN, the input, what is returned, and SENT, over an empty CONFIG.
+const SESSIONS: &[(&str, &str, &str, &str)] = &[
     (
+        ANSWER,
         GET,
         "HTTP/1.1 200 OK\r\nContent-Length: 2\r\nConnection: keep-alive\r\n\r\nhi",
-        "a.test:80 52\nGET /x HTTP/1.1\r\nHost: a.test\r\nConnection: close\r\n\r\n",
+        SENT,
     ),
-    ("", "", ""),
-    ("\r\n\n", "", ""),
-    ("GET http://a.test/ HTTP/1.1\r\nHos", "", ""),
+    (ANSWER, "", "", ""),
+    (ANSWER, "\r\n\n", "", ""),
+    (ANSWER, "GET http://a.test/ HTTP/1.1\r\nHos", "", ""),
+    (
+        "21\nHTTP/1.1 200 OK\r\n\r\nhi",
+        GET,
+        "HTTP/1.1 200 OK\r\nConnection: close\r\n\r\nhi",
+        SENT,
+    ),
+    (
+        "48\nHTTP/1.1 200 OK\r\nContent-Length: 20\r\n\r\n012345678",
+        GET,
+        "HTTP/1.1 200 OK\r\nContent-Length: 20\r\nConnection: keep-alive\r\n\r\n012345678",
+        SENT,
+    ),
 ];
+
+/// Runs `pass` over an empty CONFIG.
+fn pass(
+    alloc: Global,
+    origin: &str,
+    input: &str,
+    outside: Outside<'_>,
+) -> Result<Run, Mem> {
+    run_over(
+        alloc,
+        &["pass", "c", "o", "s"],
+        &[("c", ""), ("o", origin)],
+        input,
+        outside,
+    )
+}
 
 #[test]
 fn pass_serves_its_input_however_it_is_cut(rt: HostRuntime) -> Result<(), Fail> {
-    for (input, out, sent) in SESSIONS {
+    for (origin, input, out, sent) in SESSIONS {
         for cut in [1, 7, 100] {
-            let run = run_over(
-                rt.alloc(),
-                &["pass", "c", "o", "s"],
-                &[("c", ""), ("o", ANSWER)],
-                input,
-                cut,
-                &[],
-            )?;
+            let cuts = [cut, cut, cut, cut, cut, cut];
+            let run = pass(rt.alloc(), origin, input, cut_so(&cuts, &cuts))?;
             assert_eq!(rt; run.status, 0, "at {input}");
             assert_eq!(rt; run.out.as_bytes(), out.as_bytes(), "at {input}");
             assert!(rt; run.err.is_empty(), "at {input}");
             assert!(rt; put(&run, sent), "SENT at {input}");
+        }
+    }
+    Ok(())
+}
+
+/// Runs `pass` with the streams cut so, and checks what is returned.
+fn check_cut(
+    rt: &HostRuntime,
+    row: (&str, &str, &str, &str),
+    input_cut: usize,
+    out_cut: usize,
+) -> Result<(), Fail> {
+    let (origin, input, out, sent) = row;
+    let run = pass(
+        rt.alloc(),
+        origin,
+        input,
+        cut_so(&[input_cut], &[out_cut]),
+    )?;
+    assert_eq!(rt; run.status, 0, "cut at {input_cut} and {out_cut}");
+    assert_eq!(rt; run.out.as_bytes(), out.as_bytes(), "cut at {input_cut} and {out_cut}");
+    assert!(rt; put(&run, sent), "SENT cut at {input_cut} and {out_cut}");
+    Ok(())
+}
+
+#[test]
+fn both_streams_are_cut_after_each_byte(rt: HostRuntime) -> Result<(), Fail> {
+    for row in SESSIONS {
+        for cut in 0..row.1.len() {
+            check_cut(&rt, *row, cut, 100)?;
+        }
+        for cut in 0..row.2.len() {
+            check_cut(&rt, *row, 100, cut)?;
         }
     }
     Ok(())
@@ -169,7 +257,7 @@ fn pass_refuses_other_words_and_files(rt: HostRuntime) -> Result<(), Fail> {
         if let Some(origin) = origin {
             named.push(("o", *origin))?;
         }
-        let run = run_over(rt.alloc(), words, &named, GET, 7, &[])?;
+        let run = run_over(rt.alloc(), words, &named, GET, cut_so(&SEVENS, &SEVENS))?;
         assert_eq!(rt; run.status, *status, "{err}");
         assert_eq!(rt; run.err.as_bytes(), err.as_bytes());
         assert!(rt; run.out.is_empty());
@@ -181,17 +269,85 @@ fn pass_refuses_other_words_and_files(rt: HostRuntime) -> Result<(), Fail> {
 #[test]
 fn a_failing_call_of_the_files_gives_its_status(rt: HostRuntime) -> Result<(), Fail> {
     for (call, status, err) in [(0, 3, "c:0: 33 ReadFault\n"), (1, 3, ""), (2, 4, "")] {
-        let run = run_over(
-            rt.alloc(),
-            &["pass", "c", "o", "s"],
-            &[("c", ""), ("o", ANSWER)],
-            GET,
-            7,
-            &[call],
-        )?;
+        let fails = [call];
+        let mut outside = cut_so(&SEVENS, &SEVENS);
+        outside.files_fails = &fails;
+        let run = pass(rt.alloc(), ANSWER, GET, outside)?;
         assert_eq!(rt; run.status, status);
         assert_eq!(rt; run.err.as_bytes(), err.as_bytes());
         assert!(rt; run.sent.is_none());
     }
+    Ok(())
+}
+
+/// The input's 46 bytes are read in seven reads, and an eighth finds the end: behind a failed one nothing more is read. The
+/// first request's reply stands where its head was whole.
+const READ_FAULTS: [(u64, u8, &str, &str); 4] = [
+    (0, 3, "", ""),
+    (6, 3, "", ""),
+    (
+        7,
+        3,
+        "HTTP/1.1 200 OK\r\nContent-Length: 2\r\nConnection: keep-alive\r\n\r\nhi",
+        SENT,
+    ),
+    (
+        8,
+        0,
+        "HTTP/1.1 200 OK\r\nContent-Length: 2\r\nConnection: keep-alive\r\n\r\nhi",
+        SENT,
+    ),
+];
+
+#[test]
+fn a_failing_read_of_the_input_gives_its_status(rt: HostRuntime) -> Result<(), Fail> {
+    for (call, status, out, sent) in READ_FAULTS {
+        let fails = [call];
+        let mut outside = cut_so(&SEVENS, &[]);
+        outside.input_fails = &fails;
+        let run = pass(rt.alloc(), ANSWER, GET, outside)?;
+        assert_eq!(rt; run.status, status, "at call {call}");
+        assert_eq!(rt; run.out.as_bytes(), out.as_bytes(), "at call {call}");
+        assert!(rt; put(&run, sent), "SENT at call {call}");
+    }
+    Ok(())
+}
+
+/// Of the reply's 64 bytes each write takes seven: the failing call, the status, and what was taken.
+const WRITE_FAULTS: [(u64, u8, &str); 4] = [
+    (0, 4, ""),
+    (1, 4, "HTTP/1."),
+    (2, 4, "HTTP/1.1 200 O"),
+    (
+        9,
+        0,
+        "HTTP/1.1 200 OK\r\nContent-Length: 2\r\nConnection: keep-alive\r\n\r\nhi",
+    ),
+];
+
+#[test]
+fn a_failing_write_of_the_output_gives_its_status(rt: HostRuntime) -> Result<(), Fail> {
+    for (call, status, out) in WRITE_FAULTS {
+        let fails = [call];
+        let mut outside = cut_so(&[], &SEVENS);
+        outside.out_fails = &fails;
+        let run = pass(rt.alloc(), ANSWER, GET, outside)?;
+        assert_eq!(rt; run.status, status, "at call {call}");
+        assert_eq!(rt; run.out.as_bytes(), out.as_bytes(), "at call {call}");
+        assert!(rt; put(&run, SENT), "SENT at call {call}");
+    }
+    Ok(())
+}
+
+#[test]
+fn a_failing_write_of_the_error_output_takes_the_place_of_the_status(
+    rt: HostRuntime,
+) -> Result<(), Fail> {
+    let mut outside = cut_so(&[], &[]);
+    outside.err_fails = &[0];
+    let run = run_over(rt.alloc(), &["pass", "c", "o", "s"], &[], GET, outside)?;
+    assert_eq!(rt; run.status, 4);
+    assert!(rt; run.err.is_empty());
+    assert!(rt; run.sent.is_none());
     Ok(())
 }

@@ -1,5 +1,5 @@
 use Rattle.std.proofs.Common.{◌++◌}
-use Rattle.px_exchange.specs.Pumps.{IsSettled, added}
+use Rattle.px_exchange.specs.Pumps.{added}
 use Rattle.px_exchange.proofs.PumpLemmas.{pumped, so_far}
 use Rattle.px_exchange.proofs.pumps.Pump.feed.Goals as goal
 
@@ -11,10 +11,9 @@ returns-clause-so_far c keep fed put h = so_far keep fed put c.args.self.now h
 
 pub returns-clause-after : goal.returns-clause-after
 returns-clause-after c keep fed put h =
-    c.in_ok-next.ensures.after (rw c.replace-stage.ensures.value c.self.invariant) keep fed put (rw (c.replace-stage.ensures.value, c.self.view_is) h)
+    c.in_ok-next.ensures.after keep fed put (rw (c.replace-stage.ensures.value, c.self.view_is) h)
 
 pub returns-clause-pumped : goal.returns-clause-pumped
 returns-clause-pumped c keep fed put h =
-    let settled : IsSettled c.replace-stage.result = rw c.replace-stage.ensures.value c.self.invariant in
     pumped c.flow-flow.result keep (fed ++ c.args.piece.now) (put ++ added c.args.out.now c.advance.new.out) c.in_ok-next.next
-    (c.in_ok-next.ensures.after settled keep fed put (rw (c.replace-stage.ensures.value, c.self.view_is) h)) (c.in_ok-next.ensures.settled settled) c.flow-flow.ensures
+    (c.in_ok-next.ensures.after keep fed put (rw (c.replace-stage.ensures.value, c.self.view_is) h)) c.in_ok-next.ensures.settled c.flow-flow.ensures
