@@ -1,6 +1,7 @@
 use crate::commands::run_tool;
 use px_base::{Content, Files, FixedClock, List, Mem, MemFiles, TapeIn, TapeOut, Text};
 use std::alloc::Global;
+use std::process::Abort;
 use std::test::Fail;
 
 /// Answer A: 40 bytes, with a body of two.
@@ -104,12 +105,7 @@ const SENT: &str = "a.test:80 52\nGET /x HTTP/1.1\r\nHost: a.test\r\nConnection:
 
 /// ORIGIN, the input, what is returned, and SENT, over an empty CONFIG.
 const SESSIONS: &[(&str, &str, &str, &str)] = &[
-    (
-        ANSWER,
-        GET,
-        "HTTP/1.1 200 OK\r\nContent-Length: 2\r\nConnection: keep-alive\r\n\r\nhi",
-        SENT,
-    ),
+    (ANSWER, GET, REPLY, SENT),
     (ANSWER, "", "", ""),
     (ANSWER, "\r\n\n", "", ""),
     (ANSWER, "GET http://a.test/ HTTP/1.1\r\nHos", "", ""),
@@ -128,12 +124,7 @@ const SESSIONS: &[(&str, &str, &str, &str)] = &[
 ];
 
 /// Runs `pass` over an empty CONFIG.
-fn pass(
-    alloc: Global,
-    origin: &str,
-    input: &str,
-    outside: Outside<'_>,
-) -> Result<Run, Mem> {
+fn pass(alloc: Global, origin: &str, input: &str, outside: Outside<'_>) -> Result<Run, Mem> {
     run_over(
         alloc,
         &["pass", "c", "o", "s"],
@@ -160,20 +151,20 @@ fn pass_serves_its_input_however_it_is_cut(rt: HostRuntime) -> Result<(), Fail> 
 
 /// Runs `pass` with the streams cut so, and checks what is returned.
 fn check_cut(
-    rt: &HostRuntime,
+    rt: &impl Abort,
+    alloc: Global,
     row: (&str, &str, &str, &str),
     input_cut: usize,
     out_cut: usize,
 ) -> Result<(), Fail> {
     let (origin, input, out, sent) = row;
-    let run = pass(
-        rt.alloc(),
-        origin,
-        input,
-        cut_so(&[input_cut], &[out_cut]),
-    )?;
+    let run = pass(alloc, origin, input, cut_so(&[input_cut], &[out_cut]))?;
     assert_eq!(rt; run.status, 0, "cut at {input_cut} and {out_cut}");
-    assert_eq!(rt; run.out.as_bytes(), out.as_bytes(), "cut at {input_cut} and {out_cut}");
+    assert_eq!(rt;
+        run.out.as_bytes(),
+        out.as_bytes(),
+        "cut at {input_cut} and {out_cut}"
+    );
     assert!(rt; put(&run, sent), "SENT cut at {input_cut} and {out_cut}");
     Ok(())
 }
@@ -182,10 +173,10 @@ fn check_cut(
 fn both_streams_are_cut_after_each_byte(rt: HostRuntime) -> Result<(), Fail> {
     for row in SESSIONS {
         for cut in 0..row.1.len() {
-            check_cut(&rt, *row, cut, 100)?;
+            check_cut(&rt, rt.alloc(), *row, cut, 100)?;
         }
         for cut in 0..row.2.len() {
-            check_cut(&rt, *row, 100, cut)?;
+            check_cut(&rt, rt.alloc(), *row, 100, cut)?;
         }
     }
     Ok(())
@@ -280,23 +271,21 @@ fn a_failing_call_of_the_files_gives_its_status(rt: HostRuntime) -> Result<(), F
     Ok(())
 }
 
-/// The input's 46 bytes are read in seven reads, and an eighth finds the end: behind a failed one nothing more is read. The
-/// first request's reply stands where its head was whole.
-const READ_FAULTS: [(u64, u8, &str, &str); 4] = [
+/// What is returned for the request over answer A.
+const REPLY: &str = "HTTP/1.1 200 OK\r\nContent-Length: 2\r\nConnection: keep-alive\r\n\r\nhi";
+
+/// The input's 46 bytes are read in seven reads, and an eighth finds the end: the failing call, the status, what is returned,
+/// and SENT.
+const READ_FAULTS: [(u64, u8, &str, &str); 9] = [
     (0, 3, "", ""),
+    (1, 3, "", ""),
+    (2, 3, "", ""),
+    (3, 3, "", ""),
+    (4, 3, "", ""),
+    (5, 3, "", ""),
     (6, 3, "", ""),
-    (
-        7,
-        3,
-        "HTTP/1.1 200 OK\r\nContent-Length: 2\r\nConnection: keep-alive\r\n\r\nhi",
-        SENT,
-    ),
-    (
-        8,
-        0,
-        "HTTP/1.1 200 OK\r\nContent-Length: 2\r\nConnection: keep-alive\r\n\r\nhi",
-        SENT,
-    ),
+    (7, 3, REPLY, SENT),
+    (8, 0, REPLY, SENT),
 ];
 
 #[test]
@@ -313,16 +302,26 @@ fn a_failing_read_of_the_input_gives_its_status(rt: HostRuntime) -> Result<(), F
     Ok(())
 }
 
-/// Of the reply's 64 bytes each write takes seven: the failing call, the status, and what was taken.
-const WRITE_FAULTS: [(u64, u8, &str); 4] = [
+/// Of the reply's 64 bytes eight writes take seven each, and a ninth the rest: the failing call, the status, and what was taken.
+const WRITE_FAULTS: [(u64, u8, &str); 10] = [
     (0, 4, ""),
     (1, 4, "HTTP/1."),
     (2, 4, "HTTP/1.1 200 O"),
+    (3, 4, "HTTP/1.1 200 OK\r\nCont"),
+    (4, 4, "HTTP/1.1 200 OK\r\nContent-Len"),
+    (5, 4, "HTTP/1.1 200 OK\r\nContent-Length: 2\r"),
+    (6, 4, "HTTP/1.1 200 OK\r\nContent-Length: 2\r\nConnec"),
     (
-        9,
-        0,
-        "HTTP/1.1 200 OK\r\nContent-Length: 2\r\nConnection: keep-alive\r\n\r\nhi",
+        7,
+        4,
+        "HTTP/1.1 200 OK\r\nContent-Length: 2\r\nConnection: k",
     ),
+    (
+        8,
+        4,
+        "HTTP/1.1 200 OK\r\nContent-Length: 2\r\nConnection: keep-ali",
+    ),
+    (9, 0, REPLY),
 ];
 
 #[test]
