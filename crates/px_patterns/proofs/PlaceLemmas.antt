@@ -51,7 +51,7 @@ none-from_position test (b ∷ bytes) whole =
           (none-from_position test bytes (let later : 1 + position_or_len test bytes ≡ suc (length bytes) = rw fails at whole in omega (arith, later)))
     ]
 
-position-within : (test : ℕ → Bool) (bytes : List ℕ) → position_or_len test bytes ≤ length bytes
+pub position-within : (test : ℕ → Bool) (bytes : List ℕ) → position_or_len test bytes ≤ length bytes
 position-within test [] = omega arith
 position-within test (b ∷ bytes) =
     elim (cases_Bool (test b)) [ inl does ↦ rw does (omega arith) | inr fails ↦ rw fails (omega (arith, position-within test bytes)) ]

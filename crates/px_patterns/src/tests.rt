@@ -223,3 +223,22 @@ fn buckets_are_the_last_plain_label_or_the_address(rt: HostRuntime) {
         }
     }
 }
+
+fn shared<T: Send + Sync>(_value: &T) {}
+
+#[test]
+fn threads_may_share_patterns(rt: HostRuntime) -> Result<(), Fail> {
+    let alloc = rt.alloc();
+    let Ok(url) = UrlPattern::read(alloc, "a.test/x") else {
+        panic!(rt; "no URL pattern");
+    };
+    shared(&url);
+    shared(url.host());
+    let Ok(tag) = TagPattern::read(alloc, "x") else {
+        panic!(rt; "no tag pattern");
+    };
+    shared(&tag);
+    shared(&tag.expression);
+    shared(&url_of(alloc, "http://a.test/x")?);
+    Ok(())
+}
