@@ -9,3 +9,4 @@ pub mod PlaceLemmas
 pub mod UrlLemmas
 pub mod Crossing
 pub mod UrlLaws
+pub mod EndLabelLemmas

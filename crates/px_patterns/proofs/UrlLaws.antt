@@ -1,26 +1,26 @@
 -- What a URL that was read is like, and that such a URL, printed and read, is the same again.
-use Rattle.std.proofs.Common.{map, true≢false, ◌≡◌, ◌≢◌, ℕ, zero, suc, ◌+◌, ◌-◌, ◌*◌, ◌<◌, ◌≤◌, ◌^◌, ◌⊎◌, Bool, true, false, not, ◌||◌, ◌&&◌, IsTrue, List, [], ◌∷◌, ◌++◌, length, take, drop, refl, ap, sym, ◌∙◌, subst, arith, inl, inr, Option, None, Some, Result, Ok, Err, append_assoc, append-nil, length-append}
-use Rattle.std.specs.Prelude.{◌==◌, codes, decimal, nat_le, slice_index, slice_index_or, if◌then◌else◌, option_and_then, IfOk}
+use Rattle.std.proofs.Common.{map, true≢false, ◌≡◌, ◌≢◌, ℕ, zero, suc, ◌+◌, ◌<◌, ◌≤◌, ◌⊎◌, Bool, true, false, not, ◌||◌, ◌&&◌, List, [], ◌∷◌, ◌++◌, length, take, drop, refl, ap, sym, ◌∙◌, subst, arith, inl, inr, Option, None, Some, Result, Ok, Err, append_assoc}
+use Rattle.std.specs.Prelude.{◌==◌, codes, decimal, nat_le, slice_index, if◌then◌else◌, option_and_then}
 use Rattle.std.specs.Char.{to_ascii_lowercase}
 use Rattle.std.specs.Int.{is_in_range}
 use Rattle.std.specs.List.{after_first, before_first, list_all, list_any, position_or_len}
 use Rattle.std.specs.Str.{IsAscii, IsCharBoundary, is_utf8}
-use Rattle.std.proofs.lemmas.Bool.{and_from, and_parts, cases_Bool, cases_lt, eq-eqb, eqb-false, eqb-true, le-leb, le-ltb, leb-true, lt-ltb, ltb-true, ne_eqb, not-true, or_cases, or_from, or_parts, or_right}
+use Rattle.std.proofs.lemmas.Bool.{and_from, and_parts, cases_Bool, cases_lt, eqb-false, eqb-true, le-leb, le-ltb, leb-true, ne_eqb, not-true, or_cases, or_from, or_parts, or_right}
 use Rattle.std.proofs.lemmas.Fmt.{decimal_nonempty, digits_decimal, digits_value-decimal, length-decimal-le}
 use Rattle.std.proofs.lemmas.List.{get_or-take, get_or_append_left, length-map, length-take, take-append-drop}
 use Rattle.std.proofs.Math.Seq.{drop-append-add, drop-append_seam, take-append_seam}
 use Rattle.std.proofs.lemmas.List.Folds.{list_any-append, list_any_none}
 use Rattle.std.proofs.lemmas.List.Sums.{fails_before_first, passes_at_first}
-use Rattle.std.proofs.lemmas.Str.{IsAscii-append, IsCharBoundary-before_ascii, IsCharBoundary-end, IsCharBoundary-from_take, IsUtf8-append, IsUtf8-drop, IsUtf8-from_ascii, IsUtf8-from_is_utf8, IsUtf8-take, is_utf8-from_IsUtf8}
+use Rattle.std.proofs.lemmas.Str.{IsCharBoundary-before_ascii, IsCharBoundary-end, IsCharBoundary-from_take, IsUtf8-append, IsUtf8-drop, IsUtf8-from_ascii, IsUtf8-from_is_utf8, IsUtf8-take, is_utf8-from_IsUtf8}
 use Rattle.std.proofs.lemmas.Slice.Eq.{bytes_eq-Decides}
 use Rattle.std.proofs.lemmas.Str.Ascii.{IsAscii-cons, IsAscii-nil, lowercase_is}
-use Rattle.std.proofs.lemmas.Str.Parse.{IsNumeralModel, IsDigitsTest, FoldsDigits, numerals_by_fold}
+use Rattle.std.proofs.lemmas.Str.Parse.{IsNumeralModel, IsDigitsTest, numerals_by_fold}
 use Rattle.px_base.specs.Numbers.{all_digits, is_digit, with_digits}
 use Rattle.px_base.specs.Numbers.{decimal as decimal_of}
 use Rattle.px_base.specs.Ports.{port}
 use Rattle.px_patterns.specs.declared.TheConstants.{AT, BRACKET_BEGIN, BRACKET_END, COLON, DEFAULT_PORT, DOT, HASH, QUESTION_MARK, SLASH}
 use Rattle.px_patterns.specs.declared.faults.UrlFault.{UrlFault}
-use Rattle.px_patterns.specs.declared.faults.UrlFault.TheVariants.{BadByte, BadPort, HasUser, NoHost, NotHttp}
+use Rattle.px_patterns.specs.declared.faults.UrlFault.TheVariants.{BadByte, BadPort, HasUser, NotHttp}
 use Rattle.px_patterns.specs.declared.urls.Url.{Url}
 use Rattle.px_patterns.specs.Urls.{IsHost, IsName, IsUrl, authority_of, begins_with, behind_host_part, bracketed_host, ends_host, has_bad_byte, host_of, host_part, is_address, is_address_byte, is_bad, lacks_port, named_host, path_of, port_of, shown_host, shown_port, shown_url, url_of, url_of_part, with_host, with_nothing_behind, with_port}
 use Rattle.px_patterns.proofs.PlaceLemmas.{length-before_first, position-within}
@@ -125,15 +125,15 @@ in_range_address low high b above below which =
 address_byte : (b : ℕ) → is_address_byte b ≡ true → InAddress b
 address_byte b is = elim (or_cases _ (b == DOT) is) [
   | inl first ↦ elim (or_cases _ (b == COLON) first) [
-      | inl hex ↦ elim (or_cases _ (is_in_range 97 102 b) hex) [
-          | inl upper ↦ elim (or_cases (is_in_range 48 57 b) (is_in_range 65 70 b) upper) [
-              | inl digit ↦ let r = range_parts 48 57 b digit in in_range_address 48 57 b r.0 r.1 (inl (omega arith, omega arith))
-              | inr letter ↦ let r = range_parts 65 70 b letter in in_range_address 65 70 b r.0 r.1 (inr (inl (omega arith, omega arith)))
-            ]
-          | inr lower ↦ let r = range_parts 97 102 b lower in in_range_address 97 102 b r.0 r.1 (inr (inr (inl (omega arith, omega arith))))
-        ]
-      | inr colon ↦ let e = eqb-true b COLON colon in in_range_address 58 58 b (omega (arith, e)) (omega (arith, e)) (inl (omega arith, omega arith))
+    | inl hex ↦ elim (or_cases _ (is_in_range 97 102 b) hex) [
+      | inl upper ↦ elim (or_cases (is_in_range 48 57 b) (is_in_range 65 70 b) upper) [
+        | inl digit ↦ let r = range_parts 48 57 b digit in in_range_address 48 57 b r.0 r.1 (inl (omega arith, omega arith))
+        | inr letter ↦ let r = range_parts 65 70 b letter in in_range_address 65 70 b r.0 r.1 (inr (inl (omega arith, omega arith)))
+      ]
+      | inr lower ↦ let r = range_parts 97 102 b lower in in_range_address 97 102 b r.0 r.1 (inr (inr (inl (omega arith, omega arith))))
     ]
+    | inr colon ↦ let e = eqb-true b COLON colon in in_range_address 58 58 b (omega (arith, e)) (omega (arith, e)) (inl (omega arith, omega arith))
+  ]
   | inr dot ↦ let e = eqb-true b DOT dot in in_range_address 46 46 b (omega (arith, e)) (omega (arith, e)) (inr (inr (inr (omega arith, omega arith))))
 ]
 
@@ -230,6 +230,7 @@ port_within bs n is = by (not (length bs == 0) && (all_digits bs && nat_le (with
         let e : with_digits 0 bs ≡ n = cc is in
         let most = leb-true (with_digits 0 bs) 65535 fits in
         (omega (arith, e, eqb-false (with_digits 0 bs) 0 some), omega (arith, e, most))
+
     by : (b : Bool) → (not (length bs == 0) && (all_digits bs && nat_le (with_digits 0 bs) 65535)) ≡ b →
         option_and_then (λ m. if m == 0 then None else Some m) (if b then Some (with_digits 0 bs) else None) ≡ Some n → (0 < n) × (n ≤ 65535)
     by false read is = absurd (cc is)
@@ -452,9 +453,11 @@ url_of_part-is needed part path url clean no_end clean_path rooted is = by_user 
     by_port host is_host None within is = absurd (cc is)
     by_port host is_host (Some n) within is =
         subst IsUrl (ok_same _ url is) record { host = is_host; port_some = (within n refl).0; port_within = (within n refl).1; rooted = rooted; clean = clean_path }
+
     by_host : (o : Option (List ℕ × List ℕ)) → ((host behind : List ℕ) → o ≡ Some (host, behind) → IsHost host) → with_host needed o path ≡ Ok url → IsUrl url
     by_host None hosts is = absurd (cc is)
     by_host (Some (host, behind)) hosts is = by_port host (hosts host behind refl) (port_of needed behind) (port_of-within needed behind) is
+
     by_user : (b : Bool) → list_any (λ b. b == AT) part ≡ b → (if b then Err HasUser else with_host needed (host_of part) path) ≡ Ok url → IsUrl url
     by_user true user is = absurd (cc is)
     by_user false no_user is = by_host (host_of part) (λ host behind. host_is part host behind clean no_user no_end) is
@@ -494,6 +497,7 @@ url_of-is text url is = by_bad (has_bad_byte text) refl is
         let rest = behind_http text clean begins in
         url_of_part-is false (host_part (drop 7 text)) (path_of (behind_host_part (drop 7 text))) url (clean_before ends_host (drop 7 text) ends_host_ascii rest) (none_before ends_host (drop 7 text))
         (path_clean (behind_host_part (drop 7 text)) (clean_behind ends_host (drop 7 text) ends_host_ascii rest)) (path_rooted (behind_host_part (drop 7 text))) is
+
     by_bad : (b : Bool) → has_bad_byte text ≡ b →
         (if b then Err BadByte else if not (begins_with text (codes "http://")) then Err NotHttp else url_of_part false (host_part (drop 7 text)) (path_of (behind_host_part (drop 7 text)))) ≡ Ok url → IsUrl url
     by_bad true bad is = absurd (cc is)

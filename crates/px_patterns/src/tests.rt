@@ -20,6 +20,17 @@ const PATTERNS: &[(&str, &[&str], &[&str])] = &[
     ),
     ("www.", &["http://www.a.test/"], &["http://wwwx.a.test/"]),
     (
+        "a.test",
+        &["http://a.test/", "http://A.TEST./"],
+        &[
+            "http://xa.test/",
+            "http://a.testx/",
+            "http://b.a.test/",
+            "http://a.test.b/",
+            "http://test/",
+        ],
+    ),
+    (
         ".example.",
         &["http://a.example.org/"],
         &["http://examples.org/"],

@@ -2,7 +2,7 @@ use Rattle.std.proofs.Common.{◌∙◌, sym}
 use Rattle.std.proofs.lemmas.List.{take_rest}
 use Rattle.std.specs.Prelude.{◌≡◌, Ok}
 use Rattle.std.proofs.lemmas.Result.{IfOk-weaker}
-use Rattle.px_patterns.specs.Urls.{IsUrl, path_of, url_of, url_of_part}
+use Rattle.px_patterns.specs.Urls.{IsUrl, url_of}
 use Rattle.px_patterns.proofs.FaultLemmas.{handed_ok, handed_url_refusal}
 use Rattle.px_patterns.proofs.UrlLemmas.{url_bad, url_not_http, url_whole}
 use Rattle.px_patterns.proofs.UrlLaws.{url_of-is}
