@@ -1,6 +1,6 @@
 -- What a built regex says of the expression of its text, and what a refusal says.
-use Rattle.std.proofs.Common.{◌≡◌, ◌<◌, ◌≤◌, ℕ, Bool, true, false, List, Option, None, Some, chars, inl, inr, refl, ap, sym, arith, length, ◌∙◌}
-use Rattle.std.specs.Prelude.{◌⊎◌, ◌≢◌, IsSomeAnd, IfSome, nat_le, if◌then◌else◌, is_some, option_and_then, Err, Ok, slice_index}
+use Rattle.std.proofs.Common.{◌≡◌, ◌<◌, ◌≤◌, ℕ, true, false, List, Option, None, Some, chars, inl, inr, refl, ap, sym, length, ◌∙◌}
+use Rattle.std.specs.Prelude.{◌≢◌, IsSomeAnd, IfSome, nat_le, if◌then◌else◌, is_some, option_and_then, Err, Ok, slice_index}
 use Rattle.std.proofs.lemmas.Bool.{le-leb, lt-leb}
 use Rattle.regex_hir.specs.declared.hir.Hir.{Hir}
 use Rattle.regex_hir.specs.Find.{find}
@@ -16,7 +16,7 @@ use Rattle.regex_syntax.specs.declared.error.ErrorKind.TheVariants.{OutOfMemory}
 use Rattle.regex.proofs.ForCallers.{is_match_alike}
 use Rattle.regex.specs.declared.builder.RegexBuilder.{RegexBuilder}
 use Rattle.px_patterns.specs.declared.faults.PatternFault.TheVariants.{BadRegex}
-use Rattle.px_patterns.specs.Expressions.{expression, expression_of, finds, is_expression, options}
+use Rattle.px_patterns.specs.Expressions.{expression, expression_of, finds, options}
 
 -- an expression that nests within the limit
 abbrev within_limit : Option (Nested Re × Names) → Option Re

@@ -1,10 +1,9 @@
 -- A glob matches a label exactly where the label can be cut into pieces, and where a scan from `*` to `*` finds it.
-use Rattle.std.proofs.Common.{◌≡◌, ◌≢◌, ℕ, zero, suc, ◌+◌, ◌-◌, ◌<◌, ◌≤◌, ◌⊎◌, ◌↔◌, Bool, true, false, not, ◌&&◌, ◌||◌, IsTrue, List, [], ◌∷◌, ◌++◌, length, take, drop, map, refl, ap, sym, ◌∙◌, subst, arith, cond, inl, inr, Option, None, Some, append-nil, append_assoc, length-append, length-drop}
-use Rattle.std.specs.Prelude.{◌==◌, nat_le, nat_lt, if◌then◌else◌, slice_index, slice_index_or}
+use Rattle.std.proofs.Common.{◌≡◌, ℕ, ◌+◌, ◌-◌, ◌<◌, ◌≤◌, ◌↔◌, Bool, true, false, ◌&&◌, ◌||◌, IsTrue, List, [], ◌∷◌, ◌++◌, length, take, drop, map, refl, ap, sym, ◌∙◌, subst, arith, inl, inr, Option, None, Some, append-nil, append_assoc, length-append, length-drop}
+use Rattle.std.specs.Prelude.{◌==◌, slice_index, slice_index_or}
 use Rattle.std.specs.Char.{eq_ignore_ascii_case, to_ascii_lowercase}
-use Rattle.std.specs.List.{list_any}
 use Rattle.std.specs.Str.{str_eq_ignore_ascii_case}
-use Rattle.std.proofs.lemmas.Bool.{both_ways, false≢true, cases_Bool, and_parts, or_cases, and_from, eqb-true, eq-eqb, ne_eqb, le-leb, lt-leb, and_right}
+use Rattle.std.proofs.lemmas.Bool.{both_ways, false≢true, cases_Bool, and_parts, or_cases, and_from, eqb-true, eq-eqb, ne_eqb}
 use Rattle.std.proofs.lemmas.List.{drop-drop, drop_all, drop_at, drop_more, take-append-drop, take_rest}
 use Rattle.std.proofs.lemmas.Bool.Decides.{same_from_decides}
 use Rattle.std.specs.Cmp.Lexicographic.{bytes_decides}

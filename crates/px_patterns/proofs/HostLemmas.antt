@@ -1,9 +1,9 @@
 -- Labels of hosts: from the front, from the end, and between.
-use Rattle.std.proofs.Common.{◌≡◌, ◌≢◌, ℕ, zero, suc, ◌+◌, ◌-◌, ◌<◌, ◌≤◌, ◌⊎◌, ◌↔◌, Bool, true, false, not, ◌&&◌, ◌||◌, IsTrue, List, [], ◌∷◌, ◌++◌, length, take, drop, refl, ap, sym, ◌∙◌, subst, arith, cond, inl, inr, Option, None, Some, is_none, append-nil, append_assoc, All}
-use Rattle.std.specs.Prelude.{◌==◌, slice_index, slice_index_or, if◌then◌else◌}
-use Rattle.std.specs.List.{list_any, onto_first, slice_split}
+use Rattle.std.proofs.Common.{◌≡◌, ℕ, ◌+◌, ◌-◌, ◌<◌, ◌≤◌, ◌⊎◌, ◌↔◌, Bool, true, false, ◌&&◌, ◌||◌, IsTrue, List, [], ◌∷◌, ◌++◌, length, take, drop, refl, ap, sym, ◌∙◌, subst, arith, inl, inr, Option, None, Some, append-nil, append_assoc, All}
+use Rattle.std.specs.Prelude.{◌==◌, slice_index, slice_index_or}
+use Rattle.std.specs.List.{list_any, onto_first}
 use Rattle.std.specs.Str.{str_eq_ignore_ascii_case}
-use Rattle.std.proofs.lemmas.Bool.{and_from, both_ways, and_parts, cases_Bool, eq-eqb, eqb-true, false≢true, ne_eqb, or_cases}
+use Rattle.std.proofs.lemmas.Bool.{and_from, both_ways, and_parts, cases_Bool, eqb-true, false≢true}
 use Rattle.std.proofs.lemmas.List.{drop_all, drop_more, get_or_default, get_or-drop, length-drop, take-append-drop, take_rest}
 use Rattle.std.proofs.lemmas.List.Splits.{length-slice_split, slice_split_none}
 use Rattle.px_base.specs.Cuts.{parts_of}
@@ -14,7 +14,7 @@ use Rattle.px_patterns.specs.declared.hosts.HostPattern.TheVariants.{Address, Al
 use Rattle.px_patterns.specs.declared.labels.Item.{Item}
 use Rattle.px_patterns.specs.declared.labels.LabelPattern.{LabelPattern}
 use Rattle.px_patterns.specs.declared.labels.LabelPattern.TheVariants.{Glob, Plain}
-use Rattle.px_patterns.specs.Globs.{CanBeCut, items_in, label_matches, some_tail}
+use Rattle.px_patterns.specs.Globs.{label_matches, some_tail}
 use Rattle.px_patterns.specs.Hosts.{EachFits, HostFits, LabelsFit, fitting_labels, host_labels, host_matches, labels_in, labels_match, last_plain, later_or, without_last_dot}
 use Rattle.px_patterns.proofs.GlobLemmas.{label-cut, some_tail-at, tail_of-some}
 

@@ -7,3 +7,6 @@ pub mod ReadingLemmas
 pub mod OptionLemmas
 pub mod PlaceLemmas
 pub mod UrlLemmas
+pub mod Crossing
+pub mod UrlLaws
+pub mod EndLabelLemmas

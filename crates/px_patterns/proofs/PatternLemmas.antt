@@ -1,22 +1,19 @@
 -- What patterns stand for, by their parts.
-use Rattle.std.proofs.Common.{◌≡◌, ℕ, ◌==◌, ◌&&◌, ◌||◌, Bool, true, false, List, [], ◌∷◌, length, drop, Option, None, Some, Result, Ok, Err, refl, ap, sym, ◌∙◌}
+use Rattle.std.proofs.Common.{◌≡◌, ℕ, ◌==◌, ◌&&◌, ◌||◌, true, false, List, [], ◌∷◌, length, Option, None, Some, Ok, Err, refl, ap, sym, ◌∙◌}
 use Rattle.px_patterns.specs.Results.{result_map}
-use Rattle.std.specs.Prelude.{slice_index, codes}
+use Rattle.std.specs.Prelude.{slice_index}
 use Rattle.std.specs.List.{after_first, before_first, list_any}
 use Rattle.std.proofs.lemmas.Bool.{and_from, and_right, eqb-true}
 use Rattle.std.proofs.lemmas.List.{nil_from_length}
-use Rattle.px_base.specs.declared.ports.PortRange.{PortRange}
 use Rattle.px_patterns.specs.declared.TheConstants.{ADDRESS_BEGIN, COLON, SLASH}
 use Rattle.px_patterns.specs.declared.faults.PatternFault.{PatternFault}
 use Rattle.px_patterns.specs.declared.faults.PatternFault.TheVariants.{BadAddress, HasProtocol}
-use Rattle.px_patterns.specs.declared.hosts.HostPattern.{HostPattern}
 use Rattle.px_patterns.specs.declared.hosts.HostPattern.TheVariants.{Address}
-use Rattle.px_patterns.specs.declared.patterns.UrlPattern.{UrlPattern}
 use Rattle.px_patterns.specs.declared.patterns.TagPattern.{TagPattern}
 use Rattle.px_patterns.specs.Expressions.{expression_of}
 use Rattle.px_patterns.specs.Faults.{IsPatternRefusal}
 use Rattle.px_patterns.specs.Hosts.{host_pattern}
-use Rattle.px_patterns.specs.Patterns.{address_end, addressed_pattern, behind_slash, has_protocol, is_addressed, is_colon, is_slash, named_pattern, path_of, path_pattern, pattern_host_part, pattern_of_parts, port_text, ports_of, tag_pattern, url_pattern, with_host, with_parts, with_path}
+use Rattle.px_patterns.specs.Patterns.{address_end, addressed_pattern, behind_slash, has_protocol, is_addressed, is_colon, is_slash, pattern_of_parts, port_text, ports_of, tag_pattern, url_pattern, with_parts}
 use Rattle.px_patterns.specs.Places.{BeginsWith, IsCut, LacksPlace}
 use Rattle.px_patterns.specs.Urls.{is_address}
 use Rattle.px_patterns.proofs.FaultLemmas.{refusal_on}

@@ -1,5 +1,5 @@
 -- The first byte of a list that passes a test.
-use Rattle.std.proofs.Common.{◌≡◌, ◌≢◌, ℕ, zero, suc, ◌+◌, ◌-◌, ◌<◌, ◌≤◌, ◌↔◌, Bool, true, false, not, IsTrue, List, [], ◌∷◌, ◌++◌, length, take, drop, map, min, refl, ap, sym, ◌∙◌, subst, arith, inl, inr, Option, None, Some}
+use Rattle.std.proofs.Common.{◌≡◌, ◌≢◌, ℕ, zero, suc, ◌+◌, ◌-◌, ◌<◌, ◌≤◌, ◌↔◌, Bool, true, false, IsTrue, List, [], ◌∷◌, length, take, drop, map, min, refl, ap, sym, ◌∙◌, arith, inl, inr, Option, None, Some}
 use Rattle.std.specs.Prelude.{◌==◌, MatchOption, Result, Ok, Err, is_ok, MatchResult, slice_index}
 use Rattle.std.specs.Char.{to_ascii_lowercase}
 use Rattle.std.specs.List.{after_first, before_first, list_any, position_or_len}
@@ -51,7 +51,7 @@ none-from_position test (b ∷ bytes) whole =
           (none-from_position test bytes (let later : 1 + position_or_len test bytes ≡ suc (length bytes) = rw fails at whole in omega (arith, later)))
     ]
 
-position-within : (test : ℕ → Bool) (bytes : List ℕ) → position_or_len test bytes ≤ length bytes
+pub position-within : (test : ℕ → Bool) (bytes : List ℕ) → position_or_len test bytes ≤ length bytes
 position-within test [] = omega arith
 position-within test (b ∷ bytes) =
     elim (cases_Bool (test b)) [ inl does ↦ rw does (omega arith) | inr fails ↦ rw fails (omega (arith, position-within test bytes)) ]

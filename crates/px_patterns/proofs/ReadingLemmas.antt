@@ -1,6 +1,6 @@
 -- Labels of host patterns: what their texts stand for, from the front.
-use Rattle.std.proofs.Common.{◌≡◌, ◌≢◌, ℕ, zero, suc, ◌+◌, ◌-◌, ◌<◌, ◌≤◌, Bool, true, false, List, [], ◌∷◌, ◌++◌, length, take, drop, add-one, refl, ap, sym, ◌∙◌, subst, arith, inl, inr, Option, None, Some, option_map, append-nil, append_assoc}
-use Rattle.std.specs.Prelude.{◌==◌, ◌||◌, nat_le, slice_index, if◌then◌else◌, option_and_then, Ok, Err}
+use Rattle.std.proofs.Common.{◌≡◌, ◌≢◌, ℕ, zero, suc, ◌+◌, ◌-◌, ◌<◌, ◌≤◌, Bool, true, false, List, [], ◌∷◌, ◌++◌, length, take, drop, add-one, refl, ap, sym, ◌∙◌, arith, inl, inr, Option, None, Some, option_map, append-nil, append_assoc}
+use Rattle.std.specs.Prelude.{◌==◌, ◌||◌, slice_index, option_and_then, Ok, Err}
 use Rattle.std.proofs.lemmas.Bool.{cases_Bool, eq-eqb, eqb-false, eqb-true, le-leb, lt-leb, ne_eqb}
 use Rattle.std.proofs.lemmas.List.{drop-drop, take_rest}
 use Rattle.std.specs.List.{list_any}
@@ -12,7 +12,6 @@ use Rattle.px_patterns.specs.declared.hosts.HostPattern.TheVariants.{Always, Lab
 use Rattle.px_patterns.specs.Hosts.{begins_with_dot, ends_with_dot, host_pattern, is_every_host, labels_in, labels_of, labels_pattern, with_label, without_first_dot, without_last_dot}
 use Rattle.px_patterns.specs.declared.labels.ClassRange.{ClassRange}
 use Rattle.px_patterns.specs.declared.labels.Item.{Item}
-use Rattle.px_patterns.specs.declared.labels.Item.TheVariants.{Class}
 use Rattle.px_patterns.specs.Globs.{class_of, item_of, items_from, label_of, ranges_of, with_item, with_range}
 
 -- what is read so far, and what the rest stands for

@@ -1,7 +1,7 @@
 -- What URLs stand for, by their parts.
-use Rattle.std.proofs.Common.{◌≡◌, ◌≢◌, ℕ, ◌+◌, ◌-◌, ◌<◌, Bool, true, false, not, ◌||◌, ◌&&◌, List, [], ◌∷◌, ◌++◌, length, take, drop, refl, ap, sym, ◌∙◌, subst, arith, Option, None, Some, Result, Ok, Err}
-use Rattle.std.specs.Prelude.{◌==◌, codes, slice_index, if◌then◌else◌}
-use Rattle.std.specs.List.{after_first, before_first, list_any}
+use Rattle.std.proofs.Common.{◌≡◌, ℕ, ◌-◌, Bool, true, false, List, [], ◌∷◌, length, take, drop, refl, ap, sym, ◌∙◌, arith, None, Some, Result, Ok, Err}
+use Rattle.std.specs.Prelude.{◌==◌, codes, slice_index}
+use Rattle.std.specs.List.{after_first, before_first}
 use Rattle.std.proofs.lemmas.Bool.{eq-eqb, eqb-false, eqb-true, ne_eqb}
 use Rattle.px_patterns.specs.declared.TheConstants.{AT, BRACKET_BEGIN, BRACKET_END, COLON}
 use Rattle.px_patterns.specs.declared.faults.UrlFault.{UrlFault}

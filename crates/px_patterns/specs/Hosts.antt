@@ -1,7 +1,9 @@
 -- Host patterns: what their texts stand for, and which hosts they match.
-use Rattle.std.specs.Prelude.{◌≡◌, ℕ, ◌-◌, ◌==◌, ◌&&◌, ◌||◌, Bool, true, false, if◌then◌else◌, IsTrue, List, [], ◌∷◌, ◌++◌, length, take, drop, slice_index, Option, None, Some, Result, Ok, Err, option_map}
+use Rattle.std.specs.Prelude.{◌≡◌, ℕ, ◌-◌, ◌==◌, ◌&&◌, ◌||◌, not, Bool, true, false, if◌then◌else◌, IsTrue, List, [], ◌∷◌, ◌++◌, length, take, drop, slice_index, Option, None, Some, Result, Ok, Err, option_map}
+use Rattle.std.specs.Char.{eq_ignore_ascii_case}
 use Rattle.std.specs.List.{list_any, slice_split}
 use Rattle.std.specs.Str.{str_eq_ignore_ascii_case}
+use Rattle.px_base.specs.Cuts.{parts_of}
 use Rattle.px_patterns.specs.declared.TheConstants.{DOT}
 use Rattle.px_patterns.specs.declared.faults.PatternFault.{PatternFault}
 use Rattle.px_patterns.specs.declared.faults.PatternFault.TheVariants.{BadClass, EmptyLabel}
@@ -108,6 +110,45 @@ unfoldable pub host_matches : HostPattern → List ℕ → Bool
 host_matches Always host = true
 host_matches (Address text) host = str_eq_ignore_ascii_case text host
 host_matches (Labels pattern) host = fitting_labels pattern (host_labels host)
+
+-- ---- the first and the last label of a host
+
+-- the pattern matches the first label, and this stands behind its dot
+pub record HasFirst (pattern : LabelPattern) (bytes : List ℕ) (behind : Option (List ℕ)) : Type 0 where
+  pub label : List ℕ
+  pub cut : labels_in bytes ≡ label ∷ parts_of DOT behind
+  pub fits : label_matches pattern label ≡ true
+
+-- it doesn't match the first label
+pub record LacksFirst (pattern : LabelPattern) (bytes : List ℕ) : Type 0 where
+  pub label : List ℕ
+  pub behind : Option (List ℕ)
+  pub cut : labels_in bytes ≡ label ∷ parts_of DOT behind
+  pub fails : label_matches pattern label ≡ false
+
+-- the pattern matches the last label, and this stands before its dot
+pub record HasLast (pattern : LabelPattern) (bytes : List ℕ) (front : Option (List ℕ)) : Type 0 where
+  pub label : List ℕ
+  pub cut : labels_in bytes ≡ parts_of DOT front ++ label ∷ []
+  pub fits : label_matches pattern label ≡ true
+
+-- it doesn't match the last label
+pub record LacksLast (pattern : LabelPattern) (bytes : List ℕ) : Type 0 where
+  pub front : Option (List ℕ)
+  pub label : List ℕ
+  pub cut : labels_in bytes ≡ parts_of DOT front ++ label ∷ []
+  pub fails : label_matches pattern label ≡ false
+
+-- whether a byte is another, without case, and no dot
+abbrev pub is_in_label : ℕ → ℕ → Bool
+is_in_label own byte = not (byte == DOT) && eq_ignore_ascii_case own byte
+
+-- whether bytes are a text, without case, and hold no dot
+unfoldable pub is_label : List ℕ → List ℕ → Bool
+is_label [] [] = true
+is_label [] (b ∷ bytes) = false
+is_label (a ∷ text) [] = false
+is_label (a ∷ text) (b ∷ bytes) = is_in_label a b && is_label text bytes
 
 -- ---- under what an index keeps a pattern
 

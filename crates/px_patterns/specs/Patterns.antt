@@ -1,5 +1,5 @@
 -- URL patterns and tag patterns: what their texts stand for, and what they match.
-use Rattle.std.specs.Prelude.{◌≡◌, ℕ, ◌==◌, ◌&&◌, ◌||◌, not, Bool, true, false, if◌then◌else◌, List, [], ◌∷◌, length, take, drop, slice_index, Option, None, Some, Result, Ok, Err, codes}
+use Rattle.std.specs.Prelude.{ℕ, ◌==◌, ◌&&◌, ◌||◌, Bool, true, if◌then◌else◌, List, ◌∷◌, length, drop, slice_index, Option, None, Some, Result, Ok, Err, codes}
 use Rattle.std.specs.List.{after_first, before_first, list_any}
 use Rattle.px_patterns.specs.Results.{result_map}
 use Rattle.px_base.specs.Ports.{allows, port_list}

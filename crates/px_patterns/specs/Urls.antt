@@ -1,5 +1,5 @@
 -- URLs of HTTP: what a text stands for, and how a URL is printed.
-use Rattle.std.specs.Prelude.{◌≡◌, ℕ, ◌+◌, ◌-◌, ◌==◌, ◌&&◌, ◌||◌, not, Bool, true, false, nat_le, nat_lt, if◌then◌else◌, List, [], ◌∷◌, ◌++◌, length, take, drop, slice_index, Option, None, Some, Result, Ok, Err, codes, decimal}
+use Rattle.std.specs.Prelude.{◌≡◌, ℕ, ◌==◌, ◌&&◌, ◌||◌, ◌⊎◌, ◌<◌, ◌≤◌, not, Bool, true, false, IsTrue, nat_le, nat_lt, if◌then◌else◌, List, [], ◌∷◌, ◌++◌, length, take, drop, slice_index, Option, None, Some, Result, Ok, Err, codes, decimal}
 use Rattle.std.specs.List.{before_first, after_first, list_all, list_any}
 use Rattle.std.specs.Char.{is_ascii_hexdigit}
 use Rattle.std.specs.Str.{is_utf8, str_eq_ignore_ascii_case}
@@ -118,3 +118,27 @@ shown_host_port url = shown_host url.host ++ shown_port url.port
 
 unfoldable pub shown_url : Url → List ℕ
 shown_url url = codes "http://" ++ shown_host url.host ++ shown_port url.port ++ url.path
+
+-- ---- which URLs texts stand for
+
+-- a host that stands without brackets: no byte of it ends a host, a port or user information begins nowhere in it, and the
+-- first byte is no bracket
+pub record IsName (host : List ℕ) : Type 0 where
+  pub some : 0 < length host
+  pub plain : (slice_index host 0 == BRACKET_BEGIN) ≡ false
+  pub no_colon : list_any (λ b. b == COLON) host ≡ false
+  pub no_user : list_any (λ b. b == AT) host ≡ false
+  pub no_end : list_any ends_host host ≡ false
+  pub clean : has_bad_byte host ≡ false
+
+-- a host is a name, or what stands in brackets
+abbrev pub IsHost : List ℕ → Type 0
+IsHost host = IsName host ⊎ IsTrue (is_address host)
+
+-- a URL for which a text stands: a host, a port that isn't 0, and a path that begins with a slash, each of bytes that a URL holds
+pub record IsUrl (url : Url) : Type 0 where
+  pub host : IsHost url.host
+  pub port_some : 0 < url.port
+  pub port_within : url.port ≤ 65535
+  pub rooted : (slice_index url.path 0 == SLASH) ≡ true
+  pub clean : has_bad_byte url.path ≡ false

@@ -62,6 +62,11 @@ impl PatternFault {
 }
 
 impl fmt::Display for PatternFault {
+    ghost use Rattle.std.specs.Prelude.{Some};
+    ghost use Rattle.px_patterns.specs.Faults.{pattern_fault_name};
+
+    ghost output = { λ fault. Some (pattern_fault_name fault) };
+
     fn fmt<W: fmt::Write>(&self, f: &mut fmt::Formatter<W>) -> fmt::Result {
         let name = self.name();
         write!(f, "{name}")
@@ -151,6 +156,11 @@ impl UrlFault {
 }
 
 impl fmt::Display for UrlFault {
+    ghost use Rattle.std.specs.Prelude.{Some};
+    ghost use Rattle.px_patterns.specs.Faults.{url_fault_name};
+
+    ghost output = { λ fault. Some (url_fault_name fault) };
+
     fn fmt<W: fmt::Write>(&self, f: &mut fmt::Formatter<W>) -> fmt::Result {
         let name = self.name();
         write!(f, "{name}")

@@ -1,8 +1,9 @@
 // Host patterns.
-ghost use Rattle.std.specs.Prelude.{◌≡◌, ◌↔◌, ◌++◌, ◌∷◌, [], true, false, IsTrue, option_copied};
+ghost use Rattle.std.specs.Prelude.{◌≡◌, ◌↔◌, ◌++◌, ◌∷◌, [], true, false, IsTrue, MatchOption, length, option_copied};
 ghost use Rattle.px_base.specs.Cuts.{parts_of};
 ghost use Rattle.px_patterns.specs.Globs.{some_tail};
-ghost use Rattle.px_patterns.specs.Hosts.{labels_in, labels_match, last_plain, without_last_dot};
+ghost use Rattle.px_patterns.specs.Hosts.{HasFirst, HasLast, LacksFirst, LacksLast, is_in_label, is_label, labels_in, labels_match, last_plain, without_last_dot};
+ghost use Rattle.px_patterns.specs.declared.labels.LabelPattern.TheVariants.{Plain};
 
 use crate::{DOT, LabelPattern};
 use memchr::memrchr;
@@ -97,13 +98,10 @@ fn begin(patterns: &[LabelPattern], more: bool, labels: Option<&[u8]>) -> bool
     let mut rest = labels;
     for pattern in patterns {
         match rest {
-            Some(bytes) => {
-                let (label, behind) = cut(bytes, DOT);
-                if !pattern.matches(label) {
-                    return false;
-                }
-                rest = behind;
-            }
+            Some(bytes) => match without_first(pattern, bytes) {
+                Some(behind) => rest = behind,
+                None => return false,
+            },
             None => return false,
         }
     }
@@ -137,18 +135,111 @@ fn end(patterns: &[LabelPattern], host: &[u8]) -> bool
     let mut rest = Some(host);
     'labels: while let Some((last, before)) = left.split_last() {
         match rest {
-            Some(bytes) => {
-                let (front, label) = cut_last(bytes);
-                if !last.matches(label) {
-                    return false;
-                }
-                rest = front;
-            }
+            Some(bytes) => match without_last(last, bytes) {
+                Some(front) => rest = front,
+                None => return false,
+            },
             None => return false,
         }
         left = before;
     }
     true
+}
+
+/// What stands behind the first label and its dot, if one follows, where the pattern matches that label.
+fn without_first<'a>(pattern: &LabelPattern, bytes: &'a [u8]) -> Option<Option<&'a [u8]>>
+    ensures { MatchOption result (LacksFirst pattern.now bytes.now) (λ behind. HasFirst pattern.now bytes.now (option_copied behind)) }
+{
+    match pattern {
+        LabelPattern::Plain(text) => without_first_text(text.as_bytes(), bytes),
+        LabelPattern::Glob(_) => {
+            let (label, behind) = cut(bytes, DOT);
+            if pattern.matches(label) {
+                Some(behind)
+            } else {
+                None
+            }
+        }
+    }
+}
+
+/// What stands behind the first label and its dot, if one follows, where that label is a text, without case.
+fn without_first_text<'a>(text: &[u8], bytes: &'a [u8]) -> Option<Option<&'a [u8]>>
+    ensures { MatchOption result (LacksFirst (Plain text.now) bytes.now) (λ behind. HasFirst (Plain text.now) bytes.now (option_copied behind)) }
+{
+    let end = text.len();
+    if bytes.len() < end {
+        return None;
+    }
+    if !is_label(text, &bytes[..end]) {
+        return None;
+    }
+    if bytes.len() == end {
+        return Some(None);
+    }
+    let behind = bytes[end];
+    if behind != DOT {
+        return None;
+    }
+    Some(Some(&bytes[end + 1..]))
+}
+
+/// What stands before the last label and its dot, if one does, where the pattern matches that label.
+fn without_last<'a>(pattern: &LabelPattern, bytes: &'a [u8]) -> Option<Option<&'a [u8]>>
+    ensures { MatchOption result (LacksLast pattern.now bytes.now) (λ front. HasLast pattern.now bytes.now (option_copied front)) }
+{
+    match pattern {
+        LabelPattern::Plain(text) => without_last_text(text.as_bytes(), bytes),
+        LabelPattern::Glob(_) => {
+            let (front, label) = cut_last(bytes);
+            if pattern.matches(label) {
+                Some(front)
+            } else {
+                None
+            }
+        }
+    }
+}
+
+/// What stands before the last label and its dot, if one does, where that label is a text, without case.
+fn without_last_text<'a>(text: &[u8], bytes: &'a [u8]) -> Option<Option<&'a [u8]>>
+    ensures { MatchOption result (LacksLast (Plain text.now) bytes.now) (λ front. HasLast (Plain text.now) bytes.now (option_copied front)) }
+{
+    if bytes.len() < text.len() {
+        return None;
+    }
+    let start = bytes.len() - text.len();
+    if !is_label(text, &bytes[start..]) {
+        return None;
+    }
+    if start == 0 {
+        return Some(None);
+    }
+    let before = bytes[start - 1];
+    if before != DOT {
+        return None;
+    }
+    Some(Some(&bytes[..start - 1]))
+}
+
+/// Whether bytes are a text, without case, and a label: no dot stands in them.
+fn is_label(text: &[u8], bytes: &[u8]) -> bool
+    requires { length text.now ≡ length bytes.now }
+    ensures { result ≡ is_label text.now bytes.now }
+{
+    for (at, byte) in bytes.iter().enumerate() {
+        if !is_in_label(text[at], *byte) {
+            return false;
+        }
+    }
+    true
+}
+
+/// Whether a byte is another, without case, and no dot.
+fn is_in_label(own: u8, byte: u8) -> bool
+    ensures { result ≡ is_in_label own byte }
+{
+    byte != DOT && (own == byte || own.eq_ignore_ascii_case(&byte))
 }
 
 /// The bytes before the last dot, if there is one, and the last label.

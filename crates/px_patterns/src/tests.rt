@@ -20,6 +20,17 @@ const PATTERNS: &[(&str, &[&str], &[&str])] = &[
     ),
     ("www.", &["http://www.a.test/"], &["http://wwwx.a.test/"]),
     (
+        "a.test",
+        &["http://a.test/", "http://A.TEST./"],
+        &[
+            "http://xa.test/",
+            "http://a.testx/",
+            "http://b.a.test/",
+            "http://a.test.b/",
+            "http://test/",
+        ],
+    ),
+    (
         ".example.",
         &["http://a.example.org/"],
         &["http://examples.org/"],
@@ -222,4 +233,23 @@ fn buckets_are_the_last_plain_label_or_the_address(rt: HostRuntime) {
             Err(_) => panic!(rt; "{text} isn't read"),
         }
     }
+}
+
+fn shared<T: Send + Sync>(_value: &T) {}
+
+#[test]
+fn threads_may_share_patterns(rt: HostRuntime) -> Result<(), Fail> {
+    let alloc = rt.alloc();
+    let Ok(url) = UrlPattern::read(alloc, "a.test/x") else {
+        panic!(rt; "no URL pattern");
+    };
+    shared(&url);
+    shared(url.host());
+    let Ok(tag) = TagPattern::read(alloc, "x") else {
+        panic!(rt; "no tag pattern");
+    };
+    shared(&tag);
+    shared(&tag.expression);
+    shared(&url_of(alloc, "http://a.test/x")?);
+    Ok(())
 }

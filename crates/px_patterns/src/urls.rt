@@ -21,12 +21,13 @@ pub struct Url {
 
 impl Url {
     ghost use Rattle.px_patterns.specs.Faults.{IsUrlRefusal};
-    ghost use Rattle.px_patterns.specs.Urls.{authority_of, shown_host_port, shown_url, url_of};
+    ghost use Rattle.px_patterns.specs.Urls.{IsUrl, authority_of, shown_host_port, shown_url, url_of};
 
     /// Reads a URL: `http://` without case, the host, a port that may be absent or empty, and the rest. The first
     /// refusal is answered, in the order `BadByte`, `NotHttp`, `HasUser`, `NoHost`, `BadPort`.
     pub fn read(alloc: Global, text: &[u8]) -> Result<Url, UrlFault>
         ensures url { IfOk result (λ url. url_of text.now ≡ Ok url) }
+        ensures is_url { IfOk result IsUrl }
         ensures refused { IfErr result (IsUrlRefusal (url_of text.now)) }
     {
         if has_bad_byte(text) {
@@ -44,6 +45,7 @@ impl Url {
     /// those of `read` but `NotHttp`; a port that is absent or empty, and `/`, `?` and `#`, are `BadPort`.
     pub fn authority(alloc: Global, text: &[u8]) -> Result<Url, UrlFault>
         ensures url { IfOk result (λ url. authority_of text.now ≡ Ok url) }
+        ensures is_url { IfOk result IsUrl }
         ensures refused { IfErr result (IsUrlRefusal (authority_of text.now)) }
     {
         if has_bad_byte(text) {
@@ -57,10 +59,12 @@ impl Url {
         Ok(url)
     }
 
-    /// `http://`, then host and port as `host_port` gives them, then the path.
+    /// `http://`, then host and port as `host_port` gives them, then the path. Reading it gives the URL, where this is one
+    /// that `read` or `authority` gives.
     #[tactic(auto, unfolding(crate::specs::Urls::shown_url))]
     pub fn print(&self, alloc: Global) -> Result<Text, Mem>
-        ensures { IfOk result (λ text. text ≡ shown_url self.now) }
+        ensures text { IfOk result (λ text. text ≡ shown_url self.now) }
+        ensures reads { IfOk result (λ text. IsUrl self.now → url_of text ≡ Ok self.now) }
     {
         let mut text = Text::from_bytes(alloc, b"http://")?;
         push_host(&mut text, self.host.as_bytes())?;

@@ -1,4 +1,4 @@
-use Rattle.std.proofs.Common.{◌+◌, ◌&&◌, ◌||◌, ◌∙◌, sym, ap, drop}
+use Rattle.std.proofs.Common.{◌+◌, ◌&&◌, ◌∙◌, sym, ap, drop}
 use Rattle.std.specs.Prelude.{option_copied}
 use Rattle.px_base.specs.Cuts.{parts_of}
 use Rattle.px_patterns.specs.declared.TheConstants.{DOT}
@@ -6,14 +6,13 @@ use Rattle.px_patterns.specs.Hosts.{labels_match}
 use Rattle.px_patterns.proofs.HostLemmas.{begin_done, begin_open, begin_short, begin_step}
 use Rattle.px_patterns.proofs.hosts.begin.Goals as goal
 
-pub returns-then-not-matches : goal.returns-then-not-matches
-returns-then-not-matches c =
+pub returns-in-None-without_first : goal.returns-in-None-without_first
+returns-in-None-without_first c =
+    let lacks = c.in-None-without_first.ensures in
     sym
     ((rw c.in-Some.is at c.loop-pattern.invariant)
-    ∙ begin_step c.args.more c.args.patterns.now c.loop-pattern.pattern-index c.pattern-item.result c.in-Some.bytes.now c.cut.result.0.now (option_copied c.cut.result.1) c.loop-pattern-test.true
-    c.pattern-item.is c.cut.ensures.parts
-    ∙ ap (λ t. t && labels_match c.args.more (drop (c.loop-pattern.pattern-index + 1) c.args.patterns.now) (parts_of DOT (option_copied c.cut.result.1)))
-    (sym c.matches.ensures.value ∙ c.if-not-matches.true))
+    ∙ begin_step c.args.more c.args.patterns.now c.loop-pattern.pattern-index c.pattern-item.result c.in-Some.bytes.now lacks.label lacks.behind c.loop-pattern-test.true c.pattern-item.is lacks.cut
+    ∙ ap (λ t. t && labels_match c.args.more (drop (c.loop-pattern.pattern-index + 1) c.args.patterns.now) (parts_of DOT lacks.behind)) lacks.fails)
 
 pub returns-in-None : goal.returns-in-None
 returns-in-None c =
@@ -21,11 +20,11 @@ returns-in-None c =
 
 pub loop-pattern-preserved : goal.loop-pattern-preserved
 loop-pattern-preserved c =
+    let has = c.in-Some-without_first.ensures in
     (rw c.in-Some.is at c.loop-pattern.invariant)
-    ∙ begin_step c.args.more c.args.patterns.now c.loop-pattern.pattern-index c.pattern-item.result c.in-Some.bytes.now c.cut.result.0.now (option_copied c.cut.result.1) c.loop-pattern-test.true
-    c.pattern-item.is c.cut.ensures.parts
-    ∙ ap (λ t. t && labels_match c.args.more (drop (c.loop-pattern.pattern-index + 1) c.args.patterns.now) (parts_of DOT (option_copied c.cut.result.1)))
-    (sym c.matches.ensures.value ∙ c.if-not-matches.false)
+    ∙ begin_step c.args.more c.args.patterns.now c.loop-pattern.pattern-index c.pattern-item.result c.in-Some.bytes.now has.label (option_copied c.in-Some-without_first.behind) c.loop-pattern-test.true
+    c.pattern-item.is has.cut
+    ∙ ap (λ t. t && labels_match c.args.more (drop (c.loop-pattern.pattern-index + 1) c.args.patterns.now) (parts_of DOT (option_copied c.in-Some-without_first.behind))) has.fits
 
 pub returns-in-Some-rest : goal.returns-in-Some-rest
 returns-in-Some-rest c =

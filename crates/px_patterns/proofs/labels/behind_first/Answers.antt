@@ -1,4 +1,4 @@
-use Rattle.std.proofs.Common.{◌≡◌, ◌∙◌, ◌-◌, sym, ap, arith, length, Some, take, drop}
+use Rattle.std.proofs.Common.{◌∙◌, sym, ap, length, Some}
 use Rattle.std.proofs.lemmas.Bool.{eqb-true, eqb-false}
 use Rattle.std.proofs.lemmas.List.{take_rest}
 use Rattle.px_patterns.proofs.GlobLemmas.{behind_end, behind_here, behind_later}

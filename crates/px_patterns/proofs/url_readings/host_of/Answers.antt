@@ -1,5 +1,5 @@
 use Rattle.std.proofs.Common.{◌∙◌, ap, sym}
-use Rattle.std.proofs.lemmas.Bool.{eq-eqb, ne_eqb}
+use Rattle.std.proofs.lemmas.Bool.{ne_eqb}
 use Rattle.std.proofs.lemmas.List.{take_rest}
 use Rattle.px_patterns.proofs.OptionLemmas.{MatchOption-weaker}
 use Rattle.px_patterns.specs.declared.TheConstants.{BRACKET_BEGIN}

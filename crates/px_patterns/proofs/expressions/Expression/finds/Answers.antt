@@ -1,4 +1,4 @@
-use Rattle.std.proofs.Common.{◌≡◌, ap, ◌∙◌, arith, List, ℕ}
+use Rattle.std.proofs.Common.{ap, ◌∙◌, arith, List, ℕ}
 use Rattle.std.specs.Prelude.{is_some}
 use Rattle.regex_hir.specs.Find.{find}
 use Rattle.regex_hir.specs.Re.{Re}

@@ -1,4 +1,4 @@
-use Rattle.std.proofs.Common.{◌≡◌, ap, ◌∙◌}
+use Rattle.std.proofs.Common.{ap, ◌∙◌}
 use Rattle.regex.specs.Names.{names_of}
 use Rattle.regex.specs.declared.builder.RegexBuilder.{RegexBuilder}
 use Rattle.px_patterns.proofs.ExpressionLemmas.{expression_of-reads, options_of, refusal_of, unread_from_refuses}

@@ -1,4 +1,4 @@
-use Rattle.std.proofs.Common.{◌≡◌, ◌∙◌, sym, ap, true, false, None, Some}
+use Rattle.std.proofs.Common.{◌∙◌, sym, ap, None, Some}
 use Rattle.px_patterns.specs.Patterns.{behind_slash, has_protocol, pattern_of_parts, url_pattern}
 use Rattle.px_patterns.proofs.FaultLemmas.{handed_ok, handed_refusal}
 use Rattle.px_patterns.proofs.PatternLemmas.{pattern_no_slash, pattern_protocol, pattern_slash}
