@@ -24,3 +24,6 @@ pub use rules::{FORWARD, MINUTE_DIGITS, MOST_MINUTES, read_override};
 pub use sets::ActionSet;
 pub use settings::Setting;
 pub use updates::Update;
+
+#[cfg(test)]
+mod tests;
