@@ -173,6 +173,17 @@ fn words_are_refused_by_number_and_name(rt: HostRuntime) {
 }
 
 #[test]
+fn bytes_that_are_no_text_are_a_bad_parameter(rt: HostRuntime) {
+    assert!(rt; as_text(b"\xff").is_none());
+    assert!(rt;
+        matches!(
+            Update::read_bytes(rt.alloc(), b"+block{\xff}"),
+            Err(ActionFault::BadParameter)
+        )
+    );
+}
+
+#[test]
 fn a_refusal_is_printed_by_its_name(rt: HostRuntime) -> Result<(), Fail> {
     let shown = format!(in rt.alloc(); "{}", ActionFault::BadParameter)?;
     assert_eq!(rt; shown.as_str(), "BadParameter");
