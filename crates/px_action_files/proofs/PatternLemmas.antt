@@ -1,5 +1,5 @@
 -- Fronts of texts, and the refusals of patterns.
-use Rattle.std.proofs.Common.{◌≡◌, ℕ, ◌+◌, Bool, true, false, List, refl, sym, ap, subst, Option, Some, None, length, drop, nat_eq}
+use Rattle.std.proofs.Common.{◌≡◌, ℕ, ◌+◌, true, false, List, sym, ap, subst, Option, Some, None, length, drop, nat_eq}
 use Rattle.std.specs.Prelude.{Result, MatchOption}
 use Rattle.std.specs.Borrow.{Bor}
 use Rattle.std.specs.List.{starts_with}
