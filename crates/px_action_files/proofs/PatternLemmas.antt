@@ -1,26 +1,16 @@
--- Texts, and the refusals of patterns.
-use Rattle.std.proofs.Common.{◌≡◌, ℕ, ◌+◌, Bool, true, false, List, refl, sym, ap, subst, Option, Some, None, length, drop, nat_eq}
+-- Fronts of texts, and the refusals of patterns.
+use Rattle.std.proofs.Common.{◌≡◌, ℕ, ◌+◌, true, false, List, sym, ap, subst, Option, Some, None, length, drop, nat_eq}
 use Rattle.std.specs.Prelude.{Result, MatchOption}
 use Rattle.std.specs.Borrow.{Bor}
 use Rattle.std.specs.List.{starts_with}
-use Rattle.std.specs.Str.{IsUtf8, is_utf8, IsCharBoundary}
+use Rattle.std.specs.Str.{IsCharBoundary}
 use Rattle.std.specs.Str.Pattern.{FindsTextPrefix}
-use Rattle.std.proofs.lemmas.Str.{IsUtf8-from_is_utf8, is_utf8-from_IsUtf8}
 use Rattle.std.proofs.lemmas.Str.Pattern.{starts_text}
 use Rattle.px_patterns.specs.Faults.{IsPatternRefusal, pattern_fault_number}
 use Rattle.px_patterns.specs.declared.faults.PatternFault.{PatternFault}
 use Rattle.px_patterns.specs.declared.faults.PatternFault.TheVariants as fault
 use Rattle.px_action_files.specs.Faults.{result_map, at_line, IsReported, reported_pattern}
 use Rattle.px_action_files.specs.declared.patterns.Pattern.{Pattern}
-
-by_test : (bs : List ℕ) (b : Bool) → is_utf8 bs ≡ b → ¬ (IsUtf8 bs) → b ≡ false
-by_test bs true e not_text = absurd (not_text (IsUtf8-from_is_utf8 bs e))
-by_test bs false e not_text = refl
-
-pub is_utf8-no_text : (bs : List ℕ) → ¬ (IsUtf8 bs) → is_utf8 bs ≡ false
-is_utf8-no_text bs not_text = by_test bs (is_utf8 bs) refl not_text
-
-pub ruleset text_laws = (is_utf8-no_text, is_utf8-from_IsUtf8)
 
 -- what `strip_prefix` at a text says
 pub strips_text : (n s : List ℕ) (r : Option (Bor (List ℕ)))

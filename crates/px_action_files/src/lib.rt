@@ -15,3 +15,6 @@ pub use faults::FileFault;
 pub use files::ActionFile;
 pub use patterns::Pattern;
 pub use sections::Section;
+
+#[cfg(test)]
+mod tests;

@@ -1,13 +1,13 @@
 // The patterns of sections.
 ghost use Rattle.std.specs.Prelude.{◌≡◌, [], Ok, Some, None, IfErr, IfOk, MatchOption, nat_eq, true, false, length, drop};
 ghost use Rattle.std.specs.List.{starts_with};
-ghost use Rattle.std.specs.Str.{is_utf8};
 ghost use Rattle.px_patterns.specs.Faults.{IsPatternRefusal, pattern_fault_number};
 ghost use Rattle.px_patterns.specs.Patterns.{tag_pattern};
 ghost use Rattle.px_action_files.specs.Faults.{result_map, IsReported, at_line};
 ghost use Rattle.px_action_files.specs.Patterns.{word_of, tags_of, pattern_on, pattern_by, line_pattern, patterns_of};
 
 use crate::faults::FileFault;
+use px_actions::as_text;
 use px_base::List;
 use px_patterns::{PatternFault, TagPattern, UrlPattern};
 use px_text::Line;
@@ -117,17 +117,6 @@ fn text_pattern(alloc: Global, text: &str) -> Result<Pattern, PatternFault>
     match split_tags(text) {
         Some((which, tag)) => tag_pattern(alloc, which, tag),
         None => url_pattern(alloc, text),
-    }
-}
-
-/// The bytes as a text, if they are UTF-8.
-#[tactic(auto, using(crate::proofs::PatternLemmas::text_laws))]
-fn as_text(bytes: &[u8]) -> Option<&str>
-    ensures { MatchOption result (is_utf8 bytes.now ≡ false) (λ text. (is_utf8 bytes.now ≡ true) × (text.now ≡ bytes.now)) }
-{
-    match str::from_utf8(bytes) {
-        Ok(text) => Some(text),
-        Err(_) => None,
     }
 }
 

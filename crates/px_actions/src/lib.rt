@@ -20,7 +20,10 @@ pub use faults::ActionFault;
 pub use fields::{FieldLine, HELD_BACK, is_held_back, is_token, read_field_line};
 pub use hops::{Hop, PARENT_PORT, read_hop};
 pub use kinds::{KINDS, Kind, Rule, Shape};
-pub use rules::{FORWARD, MINUTE_DIGITS, MOST_MINUTES, read_override};
+pub use rules::{FORWARD, MINUTE_DIGITS, MOST_MINUTES, as_text, read_override};
 pub use sets::ActionSet;
 pub use settings::Setting;
 pub use updates::Update;
+
+#[cfg(test)]
+mod tests;

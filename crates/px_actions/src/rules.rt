@@ -1,7 +1,7 @@
 // The rules of parameters.
-ghost use Rattle.std.specs.Prelude.{◌≡◌, ◌&&◌, ◌||◌, not, nat_le, length, is_some, IfOk, IfSome, option_map};
+ghost use Rattle.std.specs.Prelude.{◌≡◌, ◌&&◌, ◌||◌, true, false, not, nat_le, length, is_some, IfOk, IfSome, MatchOption, option_map};
 ghost use Rattle.std.specs.List.{list_all};
-ghost use Rattle.std.specs.Str.{bytes_eq};
+ghost use Rattle.std.specs.Str.{bytes_eq, is_utf8};
 ghost use Rattle.px_base.specs.Numbers.{decimal};
 ghost use Rattle.px_base.specs.Ports.{port_list};
 ghost use Rattle.px_actions.specs.Rules.{is_control, is_plain, override_hop, hop_behind, meets, keeps, may_add};
@@ -123,21 +123,32 @@ fn meets(alloc: Global, rule: Rule, parameter: &str) -> Result<bool, Mem>
     }
 }
 
+/// The bytes as a text, if they are UTF-8.
+#[tactic(auto, using(crate::proofs::RuleLemmas::text_laws))]
+pub fn as_text(bytes: &[u8]) -> Option<&str>
+    ensures { MatchOption result (is_utf8 bytes.now ≡ false) (λ text. (is_utf8 bytes.now ≡ true) × (text.now ≡ bytes.now)) }
+{
+    match str::from_utf8(bytes) {
+        Ok(text) => Some(text),
+        Err(_) => None,
+    }
+}
+
 /// The bytes as a text, if they are UTF-8 without control bytes other than the tab.
-#[tactic(auto, using(crate::proofs::RuleLemmas::text_laws), unfolding(crate::specs::Rules::is_plain))]
+#[tactic(auto, unfolding(crate::specs::Rules::is_plain))]
 fn plain_text(bytes: &[u8]) -> Option<&str>
     ensures plain { is_some result ≡ is_plain bytes.now }
     ensures same { IfSome result (λ text. text.now ≡ bytes.now) }
 {
-    match str::from_utf8(bytes) {
-        Ok(text) => {
+    match as_text(bytes) {
+        Some(text) => {
             if has_no_control(bytes) {
                 Some(text)
             } else {
                 None
             }
         }
-        Err(_) => None,
+        None => None,
     }
 }
 
