@@ -1,4 +1,5 @@
 //! Pumps that are fed in pieces, and the loop that feeds them.
+ghost use Rattle.std.specs.Prelude.{◌<◌};
 ghost use Rattle.px_base.specs.Sources.{untold_source};
 
 use crate::answering::hear;
