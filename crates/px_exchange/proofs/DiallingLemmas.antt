@@ -1,6 +1,5 @@
 -- The one dial that a plan takes.
-use Rattle.std.proofs.Common.{◌≡◌, ℕ, Bool, IsTrue, true, false, not, ◌==◌, List, [], ◌∷◌, ◌++◌, length, drop, Result, Ok, Err, ap, ◌∙◌, refl, subst, inr}
-use Rattle.std.specs.Result.{IfOk, OnErr}
+use Rattle.std.proofs.Common.{◌≡◌, ℕ, Bool, IsTrue, true, false, not, ◌==◌, List, [], ◌∷◌, ◌++◌, length, drop, Ok, ap, ◌∙◌, refl, subst, inr}
 use Rattle.std.specs.Prelude.{MatchBool}
 use Rattle.std.proofs.lemmas.Bool.{or_parts, or_right, or_left, eq-eqb}
 use Rattle.px_base.specs.Causes.{Rose, RisesWith}
@@ -8,7 +7,6 @@ use Rattle.px_base.specs.declared.dials.Dial.{Dial}
 use Rattle.px_base.specs.declared.dials.Answer.{Answer}
 use Rattle.px_base.specs.declared.dials.Answer.TheVariants as answer
 use Rattle.px_base.specs.declared.dials.DialOutcome.TheVariants as outcome
-use Rattle.px_base.specs.declared.faults.Mem.{Mem}
 use Rattle.px_base.specs.Sources.{SourceState, SourceGoesOn}
 use Rattle.px_base.specs.Sinks.{SinkState, SinkGoesOn}
 use Rattle.px_base.specs.Dials.{DialerState, IsFresh, IsTold, HangsUp, traffic, Traffic, is_open, is_open_at, finish, closed_dial, agrees}

@@ -1,5 +1,5 @@
 -- What a link's bytes, fed and written piece by piece, come to.
-use Rattle.std.proofs.Common.{rules, ◌≡◌, ◌≢◌, ℕ, ◌+◌, ◌<◌, ◌≤◌, Bool, true, false, List, [], ◌++◌, length, take, sym, ap, ◌∙◌, refl, arith, append_assoc, length-append, inl, inr, ◌⊎◌, Result, Ok, Err}
+use Rattle.std.proofs.Common.{rules, ◌≡◌, ◌≢◌, ℕ, ◌+◌, ◌<◌, ◌≤◌, Bool, true, false, List, [], ◌++◌, length, take, sym, ap, ◌∙◌, refl, arith, append_assoc, length-append, inl, inr, ◌⊎◌}
 use Rattle.std.proofs.lemmas.Grind.{common_steps}
 use Rattle.std.proofs.lemmas.List.{append-nil, take-take}
 use Rattle.std.proofs.Math.Seq.{take-append-add}
@@ -14,7 +14,7 @@ use Rattle.px_exchange.specs.declared.talks.Talked.{Talked}
 use Rattle.px_exchange.specs.declared.talks.Talked.TheVariants as talked
 use Rattle.px_exchange.specs.declared.replies.Reply.{Reply}
 use Rattle.px_exchange.specs.Answering.{Answered}
-use Rattle.px_exchange.specs.Pumps.{After, Ends, Returns, SoFar, keeps_at, ending_talk}
+use Rattle.px_exchange.specs.Pumps.{After, Ends, HasReply, SoFar, keeps_at, ending_talk}
 use Rattle.px_exchange.specs.Returning.{ReturnsBy, ReturnedFront, ReturnedPrefix}
 use Rattle.px_exchange.specs.Hearing.{HearsStream, FedOn, CutOff, NoMore, Stopped, Flows}
 
@@ -26,7 +26,7 @@ front_take bytes xs k h t =
     (omega (arith, h, whole, long), ap (λ (zs : List ℕ). take k zs) (sym t) ∙ take-take k (length xs) bytes (omega (arith, h)))
 
 -- a write was refused
-pub cut_front : (keep : Bool) (bytes : List ℕ) (failed : Bool) (put more start taken taken' : List ℕ) → ((put ++ more ≡ []) ⊎ Returns keep bytes failed (put ++ more)) → AddsFront taken taken' more → taken ≡ start ++ put → ReturnedFront (Answered keep bytes failed) start taken'
+pub cut_front : (keep : Bool) (bytes : List ℕ) (failed : Bool) (put more start taken taken' : List ℕ) → ((put ++ more ≡ []) ⊎ HasReply keep bytes failed (put ++ more)) → AddsFront taken taken' more → taken ≡ start ++ put → ReturnedFront (Answered keep bytes failed) start taken'
 cut_front keep bytes failed put more start taken taken' (inl e) a w = absurd (omega (arith, ap (λ (zs : List ℕ). length zs) e, length-append put more, a.1))
 cut_front keep bytes failed put more start taken taken' (inr r) a w =
     let n = length put + a.0 in
@@ -38,14 +38,14 @@ pub front_prefix : (Due : Reply → Type 0) (old new : List ℕ) → ReturnedFro
 front_prefix Due old new x = record { reply = x.reply; due = x.due; prefix = (take x.front.0 x.reply.bytes, (x.front.0, omega (arith, x.front.1), refl), x.front.2) }
 
 -- memory was wanting behind what was put out
-pub so_far_prefix : (keep : Bool) (bytes : List ℕ) (failed : Bool) (put start taken : List ℕ) → ((put ≡ []) ⊎ Returns keep bytes failed put) → taken ≡ start ++ put → (Unit {0} × (taken ≡ start)) ⊎ ReturnedPrefix (Answered keep bytes failed) start taken
+pub so_far_prefix : (keep : Bool) (bytes : List ℕ) (failed : Bool) (put start taken : List ℕ) → ((put ≡ []) ⊎ HasReply keep bytes failed put) → taken ≡ start ++ put → (Unit {0} × (taken ≡ start)) ⊎ ReturnedPrefix (Answered keep bytes failed) start taken
 so_far_prefix keep bytes failed put start taken (inl e) w = inl (tt, w ∙ ap (λ (zs : List ℕ). start ++ zs) e ∙ append-nil start)
 so_far_prefix keep bytes failed put start taken (inr r) w =
     let whole : length (take (length put) r.reply.bytes) ≡ length put = ap (λ (zs : List ℕ). length zs) r.front in
     let long : length (take (length put) r.reply.bytes) ≤ length r.reply.bytes = grind (arith, common_steps) in
     inr (record { reply = r.reply; due = r.answered; prefix = (put, (length put, omega (arith, whole, long), sym r.front), w) })
 
-at_rest : (keep : Bool) (fed put rest : List ℕ) (failed : Bool) → SoFar keep fed put → (put ≡ []) ⊎ Returns keep (fed ++ rest) failed put
+at_rest : (keep : Bool) (fed put rest : List ℕ) (failed : Bool) → SoFar keep fed put → (put ≡ []) ⊎ HasReply keep (fed ++ rest) failed put
 at_rest keep fed put rest failed (inl e) = inl e
 at_rest keep fed put rest failed (inr r) = inr (r rest failed)
 
@@ -60,7 +60,7 @@ ends_talk keep keeps (flow.Refused p) bytes failed put more start taken taken' e
     let all : taken' ≡ start ++ (put ++ more) = k ∙ ap (λ (zs : List ℕ). zs ++ more) w ∙ append_assoc start put more in
     (rw (e.ends_as.1) at e.answered, all ∙ ap (λ (zs : List ℕ). start ++ zs) e.ends_as.0 ∙ append-nil start)
 
-pub ends_some : (keep keeps : Bool) (f : Flow) (bytes : List ℕ) (failed : Bool) (put : List ℕ) → Ends keep f keeps bytes failed put → (put ≡ []) ⊎ Returns keep bytes failed put
+pub ends_some : (keep keeps : Bool) (f : Flow) (bytes : List ℕ) (failed : Bool) (put : List ℕ) → Ends keep f keeps bytes failed put → (put ≡ []) ⊎ HasReply keep bytes failed put
 ends_some keep keeps flow.More bytes failed put e = absurd e.ends_as
 ends_some keep keeps (flow.Done x) bytes failed put e = inr (record { reply = e.reply; answered = e.answered; front = rw e.ends_as (grind (arith, common_steps)) })
 ends_some keep keeps (flow.Refused p) bytes failed put e = inl e.ends_as.0

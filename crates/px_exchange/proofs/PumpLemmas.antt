@@ -1,7 +1,6 @@
 -- What a stage of a pump says of the bytes that were fed and put out.
-use Rattle.std.proofs.Common.{◌≡◌, ◌≢◌, ℕ, zero, suc, ◌+◌, ◌-◌, ◌<◌, ◌≤◌, Bool, true, false, not, ◌&&◌, List, [], ◌∷◌, ◌++◌, length, take, drop, sym, ap, ◌∙◌, refl, subst, arith, append_assoc, length-append, nat_le, inl, inr, ◌⊎◌}
+use Rattle.std.proofs.Common.{◌≡◌, ◌≢◌, ℕ, zero, suc, ◌-◌, ◌<◌, ◌≤◌, Bool, true, false, ◌&&◌, List, [], ◌∷◌, ◌++◌, length, take, sym, ap, ◌∙◌, refl, arith, append_assoc, length-append, nat_le, inl, inr}
 use Rattle.std.proofs.lemmas.Grind.{common_steps}
-use Rattle.std.proofs.lemmas.Bool.{le-leb, lt-leb}
 use Rattle.std.proofs.lemmas.Bool.Decides.{nat_tests}
 use Rattle.std.proofs.lemmas.List.{append-nil}
 use Rattle.std.proofs.Math.Seq.{take-append_seam}
@@ -12,13 +11,12 @@ use Rattle.px_exchange.specs.declared.replies.Reply.{Reply}
 use Rattle.px_exchange.specs.declared.notes.Ending.{Ending}
 use Rattle.px_exchange.specs.declared.notes.Ending.TheVariants as ending
 use Rattle.px_exchange.specs.declared.pages.Page.{Page}
-use Rattle.px_exchange.specs.declared.pages.Page.TheVariants as page
 use Rattle.px_exchange.specs.declared.pumps.Flow.{Flow}
 use Rattle.px_exchange.specs.declared.pumps.Flow.TheVariants as flow
 use Rattle.px_exchange.specs.declared.pumps.Stage.{Stage}
 use Rattle.px_exchange.specs.declared.pumps.Stage.TheVariants as stage
-use Rattle.px_exchange.specs.Answering.{Seen, Waiting, Bad, Good, Answered, most_of, has_end, is_full, is_whole, ending_of, returned_head, passed, no_data}
-use Rattle.px_exchange.specs.Pumps.{ShowsOnly, shorter, stage_behind, Behind, PassesOn, Finished, Refuses, Holds, After, IsSettled, flow_at, keeps_at, end_at, added, StaysAtEnd, Begins, Ends, Returns, SoFar, Pumped}
+use Rattle.px_exchange.specs.Answering.{Waiting, Bad, Good, Answered, most_of, has_end, is_full, is_whole, ending_of, returned_head, passed, no_data}
+use Rattle.px_exchange.specs.Pumps.{ShowsOnly, shorter, stage_behind, Behind, PassesOn, Finished, Refuses, Holds, After, IsSettled, flow_at, keeps_at, end_at, added, StaysAtEnd, Begins, Ends, SoFar, Pumped}
 use Rattle.px_exchange.proofs.ShowsLemmas.{shows_waiting, shows_now}
 
 take_past : (n : ℕ) (xs ys : List ℕ) → length xs ≤ n → take n (xs ++ ys) ≡ xs ++ take (n - length xs) ys
@@ -92,14 +90,19 @@ passed_on keep fed put rest bytes head b left keeps shows put_is few keeps_is le
   where
     most : most_of left ≡ most_of b - length rest
     most = ap most_of left_is ∙ most_shorter b (length rest)
+
     whole : (failed : Bool) → is_whole left bytes failed ≡ is_whole b (rest ++ bytes) failed
     whole failed = rw left_is (whole_shorter b rest bytes failed few)
+
     full : is_full left bytes ≡ is_full b (rest ++ bytes)
     full = rw left_is (full_shorter b rest bytes few)
+
     out : put ++ take (most_of left) bytes ≡ returned_head keep b head ++ take (most_of b) (rest ++ bytes)
     out = rw (put_is, most, take_past (most_of b) rest bytes few) (append_assoc (returned_head keep b head) rest (take (most_of b - length rest) bytes))
+
     behind : Behind keep fed (put ++ take (most_of left) bytes)
     behind = record { head = head; body = b; rest = rest ++ bytes; shows = shows; put_is = out }
+
     by : (z : Bool) → is_full left bytes ≡ z → After keep fed (put ++ take (most_of left) bytes) (stage_behind keeps left bytes)
     by true z = rw z (record {
       behind = behind;
@@ -129,8 +132,8 @@ more_passed keep fed put bytes keeps left p =
     let few = open_few b.body b.rest p.open_ in
     let all : take (most_of b.body) b.rest ≡ b.rest = grind (arith, common_steps, few) in
     passed_on keep (fed ++ bytes) put b.rest bytes b.head b.body left keeps
-      (λ more. rw (append_assoc fed bytes more, append_assoc b.rest bytes more) (b.shows (bytes ++ more)))
-      (b.put_is ∙ ap (λ (xs : List ℕ). returned_head keep b.body b.head ++ xs) all) (omega (arith, few)) p.keeps_is p.left_is
+    (λ more. rw (append_assoc fed bytes more, append_assoc b.rest bytes more) (b.shows (bytes ++ more)))
+    (b.put_is ∙ ap (λ (xs : List ℕ). returned_head keep b.body b.head ++ xs) all) (omega (arith, few)) p.keeps_is p.left_is
 
 -- a piece behind a body that has all its bytes, and behind a refusal
 pub finished_more : (keep : Bool) (fed put bytes : List ℕ) (keeps : Bool) (e : Ending) → Finished keep fed put keeps e → Finished keep (fed ++ bytes) put keeps e

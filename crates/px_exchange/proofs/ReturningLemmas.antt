@@ -1,5 +1,5 @@
 -- What was returned of a reply that is due in one sense is returned of it in another.
-use Rattle.std.proofs.Common.{ℕ, List, inl, inr, ◌⊎◌}
+use Rattle.std.proofs.Common.{ℕ, List, inl, inr}
 use Rattle.px_exchange.specs.declared.replies.Reply.{Reply}
 use Rattle.px_exchange.specs.declared.talks.Talked.{Talked}
 use Rattle.px_exchange.specs.declared.talks.Talked.TheVariants as talked

@@ -1,10 +1,10 @@
 -- What is returned over a link whose request was sent whole.
-use Rattle.std.proofs.Common.{◌≡◌, ℕ, ◌+◌, ◌-◌, ◌≤◌, Bool, true, false, not, ◌==◌, IsTrue, List, [], ◌++◌, length, take, sym, ap, ◌∙◌, refl, subst, arith, length-append}
+use Rattle.std.proofs.Common.{◌≡◌, ℕ, ◌-◌, ◌≤◌, Bool, true, false, not, ◌==◌, List, ◌++◌, length, take, sym, ap, ◌∙◌, refl, arith, length-append}
 use Rattle.std.specs.Prelude.{MatchBool}
 use Rattle.std.proofs.lemmas.Grind.{common_steps}
 use Rattle.std.proofs.Math.Seq.{take-append_seam}
 use Rattle.px_base.specs.Causes.{Rose}
-use Rattle.px_base.specs.Sources.{SourceState, SourceGoesOn, given}
+use Rattle.px_base.specs.Sources.{SourceState, SourceGoesOn}
 use Rattle.px_base.specs.Sinks.{SinkState}
 use Rattle.px_exchange.specs.declared.judging.Plan.{Plan}
 use Rattle.px_exchange.specs.declared.replies.Reply.{Reply}
@@ -12,7 +12,7 @@ use Rattle.px_exchange.specs.declared.talks.Talked.{Talked}
 use Rattle.px_exchange.specs.Answering.{Answered}
 use Rattle.px_exchange.specs.Sending.{GivesOver, IsPrefix, link_seen, answer_of}
 use Rattle.px_exchange.specs.Returning.{ReturnsBy}
-use Rattle.px_exchange.specs.Hearing.{Hears, HearsStream, IsAnswer}
+use Rattle.px_exchange.specs.Hearing.{HearsStream, IsAnswer}
 use Rattle.px_exchange.proofs.ReturningLemmas.{returns_due}
 
 -- the source of a fresh link failed exactly where its count isn't 0

@@ -1,5 +1,5 @@
 -- What the bytes so far show of an answer's head.
-use Rattle.std.proofs.Common.{◌≡◌, ℕ, ◌<◌, ◌≤◌, List, [], ◌++◌, length, take, drop, Option, Some, None, Result, Ok, Err, ap, ◌∙◌, sym, refl, subst, arith, inl, inr, ◌⊎◌}
+use Rattle.std.proofs.Common.{◌≡◌, ℕ, ◌≤◌, List, [], ◌++◌, length, take, drop, Option, Some, None, Result, Ok, Err, ap, ◌∙◌, refl, subst, arith, inl, inr}
 use Rattle.std.proofs.lemmas.List.{take-append-le, drop-append-le, append-nil}
 use Rattle.px_head.specs.Blocks.{head_end, block_len, block_of, lines_of}
 use Rattle.px_head.specs.Heads.{IsResponse}
@@ -11,7 +11,7 @@ use Rattle.px_head.specs.declared.faults.HeadFault.{HeadFault}
 use Rattle.px_head.specs.declared.faults.HeadFault.TheVariants as fault
 use Rattle.px_head.specs.declared.responses.ResponseHead.{ResponseHead}
 use Rattle.px_exchange.specs.declared.bodies.Body.{Body}
-use Rattle.px_exchange.specs.Answering.{Seen, Waiting, Bad, Good, Reads, ShowsBlock, Shows, seen_behind, seen_head, body_of}
+use Rattle.px_exchange.specs.Answering.{Seen, Waiting, Bad, Good, Reads, seen_behind, body_of}
 use Rattle.px_exchange.specs.Pumps.{ShowsOnly, BlockShows, IsWaiting}
 
 -- one reading of a block is its only one

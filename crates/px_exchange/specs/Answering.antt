@@ -1,5 +1,5 @@
 -- Answering: what an origin's answer becomes for the client (RFC 9112, sections 6.3 and 9.3).
-use Rattle.std.specs.Prelude.{◌≡◌, ◌≢◌, ℕ, ◌-◌, Bool, true, false, not, ◌&&◌, ◌==◌, nat_le, if◌then◌else◌, List, [], ◌∷◌, ◌++◌, length, take, drop, Option, Some, None, option_map}
+use Rattle.std.specs.Prelude.{◌≡◌, ℕ, Bool, true, false, not, ◌&&◌, ◌==◌, nat_le, if◌then◌else◌, List, [], ◌∷◌, ◌++◌, length, take, drop, Option, Some, None, option_map}
 use Rattle.std.specs.Fmt.{decimal as decimal_text}
 use Rattle.px_base.specs.Numbers.{decimal}
 use Rattle.px_head.specs.declared.fields.Field.{Field}

@@ -54,26 +54,24 @@ Returns old new reply e after.Close = (new ≡ old ++ reply.bytes) × (reply.kee
 Returns old new reply e after.WriteFailed = AddsFront old new reply.bytes × (e ≡ ending.Broken)
 Returns old new reply e after.NoMemory = AddsPrefix old new reply.bytes × (e ≡ ending.Broken)
 
--- what was returned of the reply that was due, or that memory was wanting before and nothing was returned
+-- a reply was due, and was returned, or after a fault or for want of memory a prefix of it
+pub record Replies (Due : Reply → Type 0) (taken taken' : List ℕ) (e : Ending) (a : After) : Type 0 where
+  pub reply : Reply
+  pub due : Due reply
+  pub returned : Returns taken taken' reply e a
+
+-- memory was wanting before a reply was due, and nothing was returned
 pub record GivesUp (Wants : Type 0) (taken taken' : List ℕ) (e : Ending) (a : After) : Type 0 where
   pub wants : Wants
   pub nothing_returned : taken' ≡ taken
   pub broken : e ≡ ending.Broken
   pub no_memory : a ≡ after.NoMemory
 
-pub record Replies (Due : Reply → Type 0) (taken taken' : List ℕ) (e : Ending) (a : After) : Type 0 where
-  pub reply : Reply
-  pub due : Due reply
-  pub returned : Returns taken taken' reply e a
-
-abbrev pub Concludes : (Reply → Type 0) → Type 0 → List ℕ → List ℕ → Ending → After → Type 0
-Concludes Due Wants taken taken' e a = Replies Due taken taken' e a ⊎ GivesUp Wants taken taken' e a
-
 -- one exchange: its request, whether it is the first and the last one of its connection, the dialer before and after,
 -- what the client's sink had taken before and after, its ending, and what comes after
 abbrev pub Exchanges : HeadSeen → Bool → Bool → DialerState → DialerState → List ℕ → List ℕ → Ending → After → Type 0
 Exchanges seen first last old new taken taken' e a =
-    Concludes (Due seen first last old new) (Wants seen first last old new) taken taken' e a
+    Replies (Due seen first last old new) taken taken' e a ⊎ GivesUp (Wants seen first last old new) taken taken' e a
 
 -- the client's sink failed exactly where its count says so
 abbrev pub WriteCause : SinkState → SinkState → After → Type 0

@@ -1,5 +1,5 @@
 -- Hearing: what is returned of a link's bytes, read and passed on in pieces.
-use Rattle.std.specs.Prelude.{◌≡◌, ℕ, ◌<◌, Bool, true, false, ◌⊎◌, IsTrue, List, [], ◌++◌, length, MatchBool, Result, MatchResult}
+use Rattle.std.specs.Prelude.{◌≡◌, ℕ, Bool, true, false, ◌⊎◌, IsTrue, List, [], ◌++◌, MatchBool, Result, MatchResult}
 use Rattle.px_base.specs.Causes.{Rose}
 use Rattle.px_base.specs.Sources.{SourceState, SourceGoesOn}
 use Rattle.px_base.specs.Sinks.{SinkState, SinkGoesOn, AddsFront}

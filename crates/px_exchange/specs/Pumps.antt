@@ -19,7 +19,7 @@ use Rattle.px_exchange.specs.declared.talks.Talked.{Talked}
 use Rattle.px_exchange.specs.declared.talks.Talked.TheVariants as talked
 use Rattle.px_exchange.specs.declared.heads.HeadRead.{HeadRead}
 use Rattle.px_exchange.specs.declared.heads.HeadRead.TheVariants as read
-use Rattle.px_exchange.specs.Answering.{Seen, Waiting, Bad, Good, Shows, ShowsBlock, Answered, page_reply, no_data, most_of, has_end, is_full, is_whole, ending_of, returned_head}
+use Rattle.px_exchange.specs.Answering.{Seen, Waiting, Bad, Good, Shows, ShowsBlock, Answered, page_reply, most_of, has_end, is_full, is_whole, ending_of, returned_head}
 
 -- the bytes show that, and nothing else
 pub record ShowsOnly (bytes : List ℕ) (seen : Seen) : Type 0 where
@@ -178,14 +178,14 @@ pub record Ends (keep : Bool) (f : Flow) (keeps : Bool) (bytes : List ℕ) (fail
   pub ends_as : EndsAs f keeps put reply
 
 -- something is returned of that answer, and it begins with the bytes put out
-pub record Returns (keep : Bool) (bytes : List ℕ) (failed : Bool) (put : List ℕ) : Type 0 where
+pub record HasReply (keep : Bool) (bytes : List ℕ) (failed : Bool) (put : List ℕ) : Type 0 where
   pub reply : Reply
   pub answered : Answered keep bytes failed reply
   pub front : take (length put) reply.bytes ≡ put
 
 -- nothing was put out, or the head stands whole: then each whole answer that begins with the fed bytes has a reply that begins so
 abbrev pub SoFar : Bool → List ℕ → List ℕ → Type 0
-SoFar keep fed put = (put ≡ []) ⊎ ((rest : List ℕ) (failed : Bool) → Returns keep (fed ++ rest) failed put)
+SoFar keep fed put = (put ≡ []) ⊎ ((rest : List ℕ) (failed : Bool) → HasReply keep (fed ++ rest) failed put)
 
 -- what a pump says that was fed these bytes, has put out those, and shows that flow
 pub record Pumped (keep : Bool) (fed put : List ℕ) (f : Flow) (keeps : Bool) : Type 0 where

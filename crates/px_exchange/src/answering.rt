@@ -22,7 +22,7 @@ fn feed_on<O: Sink>(
 ) -> Result<Flow, SinkFault>
     ensures fed { IsTrue (O.state client_out.old).tells → (keep : Bool) (fed put : List ℕ) → After keep fed put pump.old
         → MatchResult result (λ f. FedOn keep (fed ++ piece.now) put (O.state client_out.old).taken (O.state client_out.new).taken f pump.new)
-            (λ e. Stopped keep fed piece.now put (O.state client_out.old).taken (O.state client_out.new).taken e) }
+        (λ e. Stopped keep fed piece.now put (O.state client_out.old).taken (O.state client_out.new).taken e) }
     ensures kind { IfOk result IsOfAnswer }
     ensures progress { IfOk result (λ f. f ≡ Flow.More → 0 < length piece.now → pieces_left pump.new < pieces_left pump.old) }
     ensures cause { FeedCause (O.state client_out.old) (O.state client_out.new) result }

@@ -148,7 +148,8 @@ impl<'a> Sink for Counting<'a> {
 /// The head of an answer of 1,048,576 bytes, and what is returned for it.
 const HEAD: &[u8] = b"HTTP/1.1 200 OK\r\nContent-Length: 1048532\r\n\r\n";
 
-const RETURNED: &[u8] = b"HTTP/1.1 200 OK\r\nContent-Length: 1048532\r\nConnection: keep-alive\r\n\r\n";
+const RETURNED: &[u8] =
+    b"HTTP/1.1 200 OK\r\nContent-Length: 1048532\r\nConnection: keep-alive\r\n\r\n";
 
 /// A head with the body of that answer.
 fn with_body(alloc: Global, head: &[u8]) -> Result<Text, Mem> {

@@ -42,8 +42,14 @@ pub enum Stage {
         search: HeadSearch,
     },
     /// Its head was put out, and so much of its body is to come.
-    Passing { keep: bool, left: Body },
-    Done { keep: bool, ending: Ending },
+    Passing {
+        keep: bool,
+        left: Body,
+    },
+    Done {
+        keep: bool,
+        ending: Ending,
+    },
     Refused(Page),
     /// Memory was wanting.
     Wanting,

@@ -61,12 +61,7 @@ fn returned_fields(
 
 /// The head that is returned: the answer's status line as HTTP/1.1, and the fields that are returned.
 #[tactic(auto, unfolding(crate::specs::Answering::returned_head))]
-pub fn returned_head(
-    alloc: Global,
-    keep: bool,
-    body: Body,
-    head: ResponseHead,
-) -> Result<Text, Mem>
+pub fn returned_head(alloc: Global, keep: bool, body: Body, head: ResponseHead) -> Result<Text, Mem>
     ensures { IfOk result (λ text. text ≡ returned_head keep body head) }
 {
     let ResponseHead {

@@ -22,10 +22,10 @@ returns-in-Ok-clause-dials g c t u =
     let o = g.D.Out.Sink.state c.talk-talked.new.link_out in
     returns_due (GivesOver c.args.plan.now (link_seen i o)) (DialsOnce old new c.args.plan.now) (IsPrefix o.taken c.args.plan.now.sent) (WantsFor old new c.args.plan.now) _ _ c.talk-talked.result
     (λ reply gives. dialed_once old mid new _ i _ o c.args.plan.now reply
-      (e.goes_on.tells_same ∙ t) (rw c.as_bytes.ensures at (e.dials t)) told e.fresh
-      e.coming (λ k. (e.coming_left k, e.goes_on.tells_coming_same ∙ k)) (e.cause.link_reads_same, e.cause.link_writes_same)
-      talked.in_goes_on talked.out_goes_on c.hang_up.ensures.hung_up gives)
+    (e.goes_on.tells_same ∙ t) (rw c.as_bytes.ensures at (e.dials t)) told e.fresh
+    e.coming (λ k. (e.coming_left k, e.goes_on.tells_coming_same ∙ k)) (e.cause.link_reads_same, e.cause.link_writes_same)
+    talked.in_goes_on talked.out_goes_on c.hang_up.ensures.hung_up gives)
     (λ wants. wanted_once old mid new _ i o c.args.plan.now
-      (e.goes_on.tells_same ∙ t) (rw c.as_bytes.ensures at (e.dials t)) told.new_mark
-      talked.in_goes_on c.hang_up.ensures.hung_up wants)
+    (e.goes_on.tells_same ∙ t) (rw c.as_bytes.ensures at (e.dials t)) told.new_mark
+    talked.in_goes_on c.hang_up.ensures.hung_up wants)
     (talked.gives told.in_tells told.out_tells u e.fresh)

@@ -21,9 +21,9 @@ returns-in-Ok-Some-clause-exchanges g c u t =
     let told = c.carry_out-talked.ensures.out_goes_on.tells_same in
     c.conclude.ensures.exchanges (rw told u) c.args.seen.now c.args.first c.args.last old new (g.O.Sink.state c.args.client_out.now).taken
     (returns_due (DialsOnce old new plan) (Due c.args.seen.now c.args.first c.args.last old new) (WantsFor old new plan) (Wants c.args.seen.now c.args.first c.args.last old new) _ _ c.carry_out-talked.result
-      (λ reply dialled. inr (record { plan = plan; judged = judged; dialled = dialled }))
-      (λ dialled. inr (record { plan = plan; judged = judged; dialled = dialled }))
-      (c.carry_out-talked.ensures.dials t u))
+    (λ reply dialled. inr (record { plan = plan; judged = judged; dialled = dialled }))
+    (λ dialled. inr (record { plan = plan; judged = judged; dialled = dialled }))
+    (c.carry_out-talked.ensures.dials t u))
 
 pub returns-in-Ok-Some-clause-write_cause : goal.returns-in-Ok-Some-clause-write_cause
 returns-in-Ok-Some-clause-write_cause g c = c.conclude.ensures.cause (g.O.Sink.state c.args.client_out.now) c.carry_out-talked.ensures.write_cause

@@ -9,10 +9,12 @@ returns-in-None c =
     (cc)
 
 pub returns-in-Some : goal.returns-in-Some
-returns-in-Some c =
-    (refl, shows_some c.args.block.now c.in-Ok.head c.in-Some.body
-    (block_shows c.args.block.now (Some c.in-Ok.head) c.in-Ok.ensures.head (λ other h. read_only _ c.in-Ok.head other refl (c.in-Ok.ensures.read other h)))
-    (cc))
+returns-in-Some c = (
+  refl,
+  shows_some c.args.block.now c.in-Ok.head c.in-Some.body
+      (block_shows c.args.block.now (Some c.in-Ok.head) c.in-Ok.ensures.head (λ other h. read_only _ c.in-Ok.head other refl (c.in-Ok.ensures.read other h)))
+      (cc),
+)
 
 pub returns-in-Err-Malformed : goal.returns-in-Err-Malformed
 returns-in-Err-Malformed c =
