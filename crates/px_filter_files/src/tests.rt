@@ -43,45 +43,36 @@ fn shared<T: Send + Sync>(_value: &T) {}
 #[test]
 fn gives_the_first_refusal(rt: HostRuntime) -> Result<(), Fail> {
     let alloc = rt.alloc();
-    let job = refusal(alloc, &["s/a/b/", "FILTER:"])?;
-    assert_eq!(rt;
-        job,
-        Some(FilterFault::At {
-            line: 1,
-            number: 25
-        })
-    );
-    let unnamed = refusal(alloc, &["FILTER: f a", "FILTER:", "FILTER: f a"])?;
-    assert_eq!(rt;
-        unnamed,
-        Some(FilterFault::At {
-            line: 2,
-            number: 26
-        })
-    );
-    let unread = refusal(alloc, &["EXTERNAL-FILTER:  "])?;
-    assert_eq!(rt;
-        unread,
-        Some(FilterFault::At {
-            line: 1,
-            number: 26
-        })
-    );
-    let twice = refusal(alloc, &["FILTER: f a", "s/a/b/", "FILTER: f other"])?;
-    assert_eq!(rt;
-        twice,
-        Some(FilterFault::At {
-            line: 3,
-            number: 27
-        })
-    );
-    let two = refusal(alloc, &["FILTER: f a", "SERVER-HEADER-FILTER: f a"])?;
-    assert_eq!(rt; two, None);
-    let unread = refusal(
-        alloc,
-        &["CLIENT-BODY-FILTER: f", "any line", "CLIENT-BODY-TAGGER: f"],
-    )?;
-    assert_eq!(rt; unread, None);
+    let rows: [(&[&str], u32, u8); 8] = [
+        (&["s/a/b/"], 1, 25),
+        (&["s/a/b/", "FILTER:"], 1, 25),
+        (&["FILTER:"], 1, 26),
+        (&["FILTER: f a", "FILTER:", "FILTER: f a"], 2, 26),
+        (&["EXTERNAL-FILTER:  "], 1, 26),
+        (&["FILTER: f a", "FILTER: f a"], 2, 27),
+        (&["FILTER: f a", "s/a/b/", "FILTER: f other"], 3, 27),
+        (&["FILTER: f a", "FILTER: g", "s/a/b", "FILTER: f", "FILTER:"], 4, 27),
+    ];
+    for (texts, line, number) in rows {
+        let fault = refusal(alloc, texts)?;
+        assert_eq!(rt; fault, Some(FilterFault::At { line, number }));
+    }
+    Ok(())
+}
+
+#[test]
+fn refuses_nothing_else(rt: HostRuntime) -> Result<(), Fail> {
+    let alloc = rt.alloc();
+    let rows: [(&[&str], usize); 4] = [
+        (&[], 0),
+        (&["FILTER: f a", "SERVER-HEADER-FILTER: f a"], 2),
+        (&["FILTER: f a", "s/(/b/", "FILTER: F a"], 2),
+        (&["CLIENT-BODY-FILTER: f", "any line", "CLIENT-BODY-TAGGER: f"], 0),
+    ];
+    for (texts, filters) in rows {
+        let file = FilterFile::read(alloc, lines(alloc, texts)?.as_slice())?;
+        assert_eq!(rt; file.filters.len(), filters);
+    }
     Ok(())
 }
 

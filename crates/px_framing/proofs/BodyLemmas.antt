@@ -1,7 +1,6 @@
 -- What a reader reads whole bytes to is what is said of them, and nothing else is said.
-use Rattle.std.proofs.Common.{◌≡◌, ◌≢◌, ℕ, zero, suc, ◌+◌, ◌-◌, ◌<◌, ◌≤◌, ◌⊎◌, inl, inr, Bool, true, false, ◌==◌, ◌&&◌, cond, nat_le, min, List, [], ◌∷◌, ◌++◌, length, take, drop, IsTrue, refl, sym, ◌∙◌, ap, subst, arith, append_assoc, flat_map, length-append, length-take, eqb-true, eq-eqb}
+use Rattle.std.proofs.Common.{◌≡◌, ◌≢◌, ℕ, zero, suc, ◌+◌, ◌-◌, ◌<◌, ◌≤◌, inl, Bool, true, false, ◌==◌, ◌&&◌, cond, nat_le, min, List, [], ◌∷◌, ◌++◌, length, take, IsTrue, refl, sym, ◌∙◌, ap, subst, arith, append_assoc, flat_map, length-append, length-take, eqb-true, eq-eqb}
 use Rattle.std.proofs.lemmas.List.{append-nil, take_all, take-take, length-take-le}
-use Rattle.std.proofs.lemmas.Grind.{common_steps}
 use Rattle.std.proofs.lemmas.Bool.Decides.{nat_tests}
 use Rattle.px_framing.specs.declared.places.Place.{Place}
 use Rattle.px_framing.specs.declared.places.Place.TheVariants.{Size, Data, Gap, Trailers, Done, Wrong}
@@ -13,13 +12,13 @@ use Rattle.px_framing.specs.declared.stages.Stage.TheVariants as stage
 use Rattle.px_framing.specs.declared.rules.BodyRule.{BodyRule}
 use Rattle.px_framing.specs.declared.rules.BodyRule.TheVariants as rule
 use Rattle.px_framing.specs.Lines.{crlf, may_stand, after, data_place, IsOpen, NoLine}
-use Rattle.px_framing.specs.Elements.{Element, Element.line, Element.byte, print, data_of, Follows, Leads}
-use Rattle.px_framing.specs.Body.{Part, nothing, first_bytes, body_limit, AreElements, Says, KeepsLimit, IsBody, IsChunked, Body}
-use Rattle.px_framing.specs.Reading.{before, ends_in_cr, without_last, verdict_of, step, line_step, reads, goes_on, reads_on, capped, cut_state, state_at, stage_state, is_line, is_last, first, first_stage, IsHeld, IsSettled, After, Steps, Reading}
-use Rattle.px_framing.proofs.LineLemmas.{no_cr, wrong_after_cr, wrong_cr, wrong_byte, open_cr}
-use Rattle.px_framing.proofs.MoveLemmas.{reads-byte, reads-line-byte, line-not-last, data-place-some}
-use Rattle.px_framing.proofs.HeldLemmas.{cr-front, cr-push, without-push, held-open, held-line-end, open-line}
-use Rattle.px_framing.proofs.StepLemmas.{nothing-left, reads-last, reads-none, le-yes, le-no}
+use Rattle.px_framing.specs.Elements.{Element, print, data_of, Leads}
+use Rattle.px_framing.specs.Body.{Part, nothing, first_bytes, body_limit, Says, KeepsLimit, IsBody, IsChunked, Body}
+use Rattle.px_framing.specs.Reading.{before, ends_in_cr, without_last, verdict_of, step, reads, goes_on, reads_on, capped, cut_state, state_at, stage_state, is_line, is_last, first, IsHeld, IsSettled, After, Reading}
+use Rattle.px_framing.proofs.LineLemmas.{wrong_after_cr, wrong_cr, wrong_byte, open_cr}
+use Rattle.px_framing.proofs.MoveLemmas.{reads-byte, reads-line-byte}
+use Rattle.px_framing.proofs.HeldLemmas.{cr-front, cr-push, held-open, held-line-end}
+use Rattle.px_framing.proofs.StepLemmas.{nothing-left, reads-last, reads-none, le-yes}
 use Rattle.px_framing.proofs.ElementLemmas.{Ends, not_wrong, fewer, shorter, says_of}
 
 -- what the bytes are read to from a place: whole elements, and what is held back

@@ -1,14 +1,13 @@
 -- What a reader reads whole bytes to is what is said of them.
-use Rattle.std.proofs.Common.{◌≡◌, ◌≢◌, ℕ, zero, suc, ◌+◌, ◌-◌, ◌<◌, ◌≤◌, ◌⊎◌, inl, inr, List, [], ◌∷◌, ◌++◌, length, take, drop, map, IsTrue, refl, sym, ◌∙◌, ap, subst, arith, append_assoc, flat_map, length-append, Option, Some, None, is_some, nat_le, ◌&&◌, true}
+use Rattle.std.proofs.Common.{◌≡◌, ◌≢◌, ℕ, zero, suc, ◌+◌, ◌-◌, ◌<◌, ◌≤◌, ◌⊎◌, inl, inr, List, [], ◌∷◌, ◌++◌, length, take, drop, IsTrue, refl, sym, ◌∙◌, ap, subst, arith, append_assoc, flat_map, length-append, Option, Some, None, is_some, nat_le, ◌&&◌, true}
 use Rattle.std.proofs.lemmas.List.{append-nil, take_all, take-take, take_at, length-take-le, length_push, take-append-drop}
-use Rattle.std.proofs.lemmas.Grind.{common_steps}
 use Rattle.std.proofs.lemmas.Bool.Decides.{nat_tests}
 use Rattle.px_framing.specs.declared.places.Place.{Place}
 use Rattle.px_framing.specs.declared.places.Place.TheVariants.{Size, Data, Gap, Trailers, Done, Wrong}
 use Rattle.px_framing.specs.declared.places.State.{State}
 use Rattle.px_framing.specs.declared.places.State.TheVariants.{More, Whole, Cut, Misframed}
 use Rattle.px_framing.specs.Lines.{crlf, may_stand, after, after_size, size_of, data_place, IsOpen, NoLine}
-use Rattle.px_framing.specs.Elements.{Element, Element.line, Element.byte, print, data_of, Follows, Leads}
+use Rattle.px_framing.specs.Elements.{Element, print, data_of, Follows, Leads}
 use Rattle.px_framing.specs.Body.{AreElements, IsBody, CanGoOn, NoBody, Says}
 use Rattle.px_framing.proofs.LineLemmas.{Split, split, no_cr}
 

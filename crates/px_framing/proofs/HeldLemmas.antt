@@ -1,16 +1,14 @@
 -- What is kept of an unfinished line, and a whole line at once.
-use Rattle.std.proofs.Common.{◌≡◌, ◌≢◌, ℕ, zero, suc, ◌+◌, ◌-◌, ◌<◌, ◌≤◌, ◌⊎◌, inl, inr, Bool, true, false, ◌==◌, ◌&&◌, cond, nat_lt, nat_le, List, [], ◌∷◌, ◌++◌, length, take, drop, slice_index, Option, Some, None, IsTrue, refl, sym, ◌∙◌, ap, subst, arith, append_assoc, length-append, eq-eqb, eqb-true, lt-ltb}
+use Rattle.std.proofs.Common.{◌≡◌, ℕ, ◌+◌, ◌-◌, ◌<◌, ◌≤◌, ◌⊎◌, inl, inr, Bool, true, false, ◌==◌, ◌&&◌, cond, nat_lt, nat_le, List, [], ◌∷◌, ◌++◌, length, take, slice_index, Option, Some, None, IsTrue, refl, sym, ◌∙◌, ap, subst, arith, append_assoc, eqb-true, lt-ltb}
 use Rattle.std.proofs.lemmas.List.{append-nil, length_push, get_or_at, take_at}
-use Rattle.std.proofs.lemmas.Grind.{common_steps}
 use Rattle.std.proofs.lemmas.Bool.Decides.{nat_tests}
 use Rattle.px_framing.specs.declared.places.Place.{Place}
 use Rattle.px_framing.specs.declared.places.Place.TheVariants.{Size, Data, Gap, Trailers, Done, Wrong}
-use Rattle.px_framing.specs.declared.places.Verdict.{Verdict}
 use Rattle.px_framing.specs.declared.places.Verdict.TheVariants as verdict
 use Rattle.px_framing.specs.Lines.{crlf, may_stand, after, after_size, size_of, IsOpen}
 use Rattle.px_framing.specs.Reading.{before, ends_in_cr, without_last, verdict_of, is_line, reads, IsHeld, Moves}
 use Rattle.px_framing.proofs.LineLemmas.{closed, no_cr, ends_in}
-use Rattle.px_framing.proofs.MoveLemmas.{before-before, move-open, move-line, moves-on}
+use Rattle.px_framing.proofs.MoveLemmas.{move-open, move-line, moves-on}
 
 -- ---- the last byte
 

@@ -1,7 +1,6 @@
 -- What begins a line, over plain lists.
-use Rattle.std.proofs.Common.{◌≡◌, ℕ, zero, suc, ◌+◌, ◌-◌, ◌*◌, ◌^◌, ◌<◌, ◌≤◌, ◌⊎◌, inl, inr, ◌≢◌, Bool, true, false, not, ◌&&◌, ◌||◌, cond, List, [], ◌∷◌, ◌++◌, length, take, drop, Option, Some, None, is_some, IsTrue, drop-cons, if◌then◌else◌, ◌==◌, nat_lt, lt-ltb, le-ltb, ltb-true, ltb-false, refl, sym, ◌∙◌, ap, subst, arith, length-append, append_assoc, slice_index}
-use Rattle.std.proofs.lemmas.List.{append-nil, take_more, take_all, same_from_push, length_push}
-use Rattle.std.proofs.lemmas.Grind.{common_steps}
+use Rattle.std.proofs.Common.{◌≡◌, ℕ, ◌+◌, ◌-◌, ◌*◌, ◌^◌, ◌<◌, ◌≤◌, ◌⊎◌, inl, inr, ◌≢◌, Bool, true, false, ◌&&◌, cond, List, [], ◌∷◌, ◌++◌, length, take, drop, Option, Some, None, is_some, IsTrue, drop-cons, if◌then◌else◌, ◌==◌, nat_lt, lt-ltb, le-ltb, ltb-true, ltb-false, refl, sym, ◌∙◌, ap, subst, arith, length-append, append_assoc, slice_index}
+use Rattle.std.proofs.lemmas.List.{append-nil, take_more, take_all, same_from_push}
 use Rattle.std.proofs.lemmas.Bool.Decides.{nat_tests}
 use Rattle.std.specs.List.{list_all}
 use Rattle.std.specs.Prelude.{nat_le}
@@ -9,8 +8,8 @@ use Rattle.std.specs.Char.{digit_value}
 use Rattle.px_framing.specs.declared.places.Place.{Place}
 use Rattle.px_framing.specs.declared.places.Place.TheVariants.{Size, Data, Gap, Trailers, Done, Wrong}
 use Rattle.px_base.specs.Blanks.{is_blank}
-use Rattle.std.specs.Str.Parse.{digits_value, digits_value_after}
-use Rattle.px_framing.specs.Lines.{crlf, is_hex, is_plain, is_extension, front_while, behind_while, size_from, size_of, may_stand, after, IsOpen, NoLine}
+use Rattle.std.specs.Str.Parse.{digits_value_after}
+use Rattle.px_framing.specs.Lines.{crlf, is_hex, is_plain, is_extension, front_while, behind_while, size_from, size_of, may_stand, IsOpen, NoLine}
 
 -- where two joins are one list, one front begins the other
 abbrev pub Split : List ℕ → List ℕ → List ℕ → List ℕ → Type 0

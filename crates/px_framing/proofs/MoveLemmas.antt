@@ -1,18 +1,13 @@
 -- A byte, a run of data and a whole line further, and moves one after another.
-use Rattle.std.proofs.Common.{◌≡◌, ◌≢◌, ℕ, zero, suc, ◌+◌, ◌-◌, ◌<◌, ◌≤◌, ◌⊎◌, inl, inr, Bool, true, false, ◌==◌, ◌&&◌, cond, nat_lt, nat_le, List, [], ◌∷◌, ◌++◌, length, take, drop, slice_index, Option, Some, None, IsTrue, refl, sym, ◌∙◌, ap, subst, arith, append_assoc, length-append, eq-eqb, eqb-true, lt-ltb}
-use Rattle.std.proofs.lemmas.List.{append-nil, take_all, length_push, get_or_at, take_at}
-use Rattle.std.proofs.lemmas.Grind.{common_steps}
-use Rattle.std.proofs.lemmas.Bool.Decides.{nat_tests}
+use Rattle.std.proofs.Common.{◌≡◌, ℕ, zero, suc, ◌+◌, ◌-◌, ◌<◌, ◌≤◌, true, false, List, [], ◌∷◌, ◌++◌, length, take, drop, refl, sym, ◌∙◌, ap, subst, arith, append_assoc, length-append}
+use Rattle.std.proofs.lemmas.List.{append-nil, take_all}
 use Rattle.px_framing.specs.declared.places.Place.{Place}
 use Rattle.px_framing.specs.declared.places.Place.TheVariants.{Size, Data, Gap, Trailers, Done, Wrong}
-use Rattle.px_framing.specs.declared.places.State.{State}
-use Rattle.px_framing.specs.declared.places.State.TheVariants.{More, Whole, Cut, Misframed}
 use Rattle.px_framing.specs.declared.places.Verdict.{Verdict}
 use Rattle.px_framing.specs.declared.places.Verdict.TheVariants as verdict
-use Rattle.px_framing.specs.Lines.{crlf, may_stand, after, after_size, size_of, data_place, IsOpen}
-use Rattle.px_framing.specs.Body.{Part, nothing}
-use Rattle.px_framing.specs.Reading.{before, ends_in_cr, without_last, verdict_of, Step, line_step, step, state_at, is_last, is_line, reads, IsHeld, Moves}
-use Rattle.px_framing.proofs.LineLemmas.{closed, no_cr, ends_in}
+use Rattle.px_framing.specs.Lines.{data_place}
+use Rattle.px_framing.specs.Body.{Part}
+use Rattle.px_framing.specs.Reading.{before, verdict_of, Step, line_step, step, is_last, is_line, reads, Moves}
 
 -- ---- what was read before
 

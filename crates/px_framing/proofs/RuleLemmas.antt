@@ -1,8 +1,7 @@
 -- Codings and lengths that are read one by one.
-use Rattle.std.proofs.Common.{◌≡◌, ℕ, zero, suc, ◌+◌, ◌-◌, ◌<◌, ◌≤◌, Bool, true, false, ◌==◌, not, ◌&&◌, ◌||◌, cond, List, [], ◌∷◌, ◌++◌, length, drop, get_or, Option, Some, None, Result, Ok, Err, refl, sym, ◌∙◌, ap, subst, ◌^◌, arith, drop-cons, add-one, flat_map}
-use Rattle.std.specs.Prelude.{option_copied, option_map}
+use Rattle.std.proofs.Common.{◌≡◌, ℕ, ◌+◌, ◌-◌, ◌<◌, ◌≤◌, Bool, true, false, ◌==◌, not, ◌&&◌, ◌||◌, cond, List, [], ◌∷◌, ◌++◌, length, drop, get_or, Option, Some, None, Result, Ok, Err, refl, sym, ◌∙◌, ap, subst, ◌^◌, drop-cons, add-one, flat_map}
+use Rattle.std.specs.Prelude.{option_map}
 use Rattle.std.specs.List.{list_all, slice_split}
-use Rattle.std.proofs.lemmas.Grind.{common_steps}
 use Rattle.std.proofs.lemmas.List.{drop_all}
 use Rattle.px_base.specs.Blanks.{trimmed}
 use Rattle.px_base.specs.Cuts.{parts_of}
@@ -14,7 +13,7 @@ use Rattle.px_framing.specs.declared.rules.BodyRule.{BodyRule}
 use Rattle.px_framing.specs.declared.rules.BodyRule.TheVariants.{Length}
 use Rattle.px_framing.specs.declared.rules.BodyFault.{BodyFault}
 use Rattle.px_framing.specs.declared.rules.BodyFault.TheVariants.{TwoLengths, BadLength}
-use Rattle.px_framing.specs.Rules.{same_word, values, stands, some_items, items_of, codings_name, codings_of, lengths_name, is_chunked, are_chunked, end_chunked, with_length, lengths, length_rule}
+use Rattle.px_framing.specs.Rules.{same_word, values, some_items, items_of, codings_name, lengths_name, are_chunked, end_chunked, with_length, lengths, length_rule}
 use Rattle.px_framing.specs.Seen.{seen_one, seen_all, field_seen, length_at, length_seen, length_field, by_lengths}
 
 -- the items of what is left of a list

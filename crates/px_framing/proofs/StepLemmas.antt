@@ -1,8 +1,7 @@
 -- What a stage reads bytes to, before and behind a piece.
-use Rattle.std.proofs.Common.{◌≡◌, ◌≢◌, ℕ, zero, suc, ◌+◌, ◌-◌, ◌<◌, ◌≤◌, ◌⊎◌, inl, inr, Bool, true, false, ◌==◌, cond, nat_lt, nat_le, min, List, [], ◌∷◌, ◌++◌, length, take, drop, refl, sym, ◌∙◌, ap, subst, arith, append_assoc, length-append, length-take, eqb-true}
+use Rattle.std.proofs.Common.{◌≡◌, ◌≢◌, ℕ, ◌+◌, ◌-◌, ◌<◌, ◌≤◌, Bool, true, false, ◌==◌, cond, nat_le, min, List, [], ◌∷◌, ◌++◌, length, take, drop, refl, sym, ◌∙◌, ap, arith, append_assoc, length-append, length-take, eqb-true}
 use Rattle.std.proofs.lemmas.List.{append-nil, take_all, take-take, take-append-le, take-append-drop, length-take-le}
 use Rattle.std.proofs.Math.Seq.{take-append-add, drop-append_seam}
-use Rattle.std.proofs.lemmas.Grind.{common_steps}
 use Rattle.std.proofs.lemmas.Bool.Decides.{nat_tests}
 use Rattle.px_framing.specs.declared.places.Place.{Place}
 use Rattle.px_framing.specs.declared.places.Place.TheVariants.{Size, Data, Gap, Trailers, Done, Wrong}
@@ -12,7 +11,7 @@ use Rattle.px_framing.specs.declared.stages.Stage.{Stage}
 use Rattle.px_framing.specs.declared.stages.Stage.TheVariants as stage
 use Rattle.px_framing.specs.declared.rules.BodyRule.{BodyRule}
 use Rattle.px_framing.specs.declared.rules.BodyRule.TheVariants as rule
-use Rattle.px_framing.specs.Body.{Part, nothing, first_bytes, at_end}
+use Rattle.px_framing.specs.Body.{nothing, first_bytes, at_end}
 use Rattle.px_framing.specs.Reading.{before, reads, reads_on, goes_on, capped, cut_state, state_at, stage_state, is_last, is_ended, is_to_close, KeepsKind, stage_before, added, After, first_stage, end_state, Advances, Moves, Reading, Steps, IsSettled, IsSettledAt}
 use Rattle.px_framing.proofs.MoveLemmas.{before-before}
 

@@ -1,6 +1,6 @@
 -- The body of a message over whole bytes (RFC 9112, sections 6 and 7): which of them are the body's, which are whole
 -- elements, their data, and how the body stands.
-use Rattle.std.specs.Prelude.{◌≡◌, ℕ, ◌+◌, ◌-◌, ◌<◌, ◌≤◌, List, [], ◌++◌, length, take, min, flat_map, nat_le, if◌then◌else◌}
+use Rattle.std.specs.Prelude.{◌≡◌, ℕ, ◌-◌, ◌<◌, ◌≤◌, List, [], ◌++◌, length, take, min, flat_map, nat_le, if◌then◌else◌}
 use Rattle.px_framing.specs.declared.places.Place.{Place}
 use Rattle.px_framing.specs.declared.places.Place.TheVariants.{Size, Done}
 use Rattle.px_framing.specs.declared.places.State.{State}

@@ -1,5 +1,5 @@
 -- A reader of a body: what the bytes to come will be read to. A body read from its start is read to what `Body` says.
-use Rattle.std.specs.Prelude.{◌≡◌, ℕ, zero, suc, ◌+◌, ◌-◌, ◌<◌, ◌≤◌, Bool, true, false, ◌&&◌, ◌==◌, nat_le, nat_lt, slice_index, List, [], ◌∷◌, ◌++◌, length, take, drop, if◌then◌else◌, Vec, vec_len, vec_capacity}
+use Rattle.std.specs.Prelude.{◌≡◌, ℕ, ◌+◌, ◌-◌, ◌<◌, ◌≤◌, Bool, true, false, ◌&&◌, ◌==◌, nat_le, nat_lt, slice_index, List, [], ◌∷◌, ◌++◌, length, take, drop, if◌then◌else◌, Vec, vec_len, vec_capacity}
 use Rattle.px_framing.specs.declared.places.Place.{Place}
 use Rattle.px_framing.specs.declared.places.Place.TheVariants.{Size, Data, Gap, Trailers, Done, Wrong}
 use Rattle.px_framing.specs.declared.places.State.{State}
@@ -11,7 +11,7 @@ use Rattle.px_framing.specs.declared.stages.Stage.TheVariants as stage
 use Rattle.px_framing.specs.declared.rules.BodyRule.{BodyRule}
 use Rattle.px_framing.specs.declared.rules.BodyRule.TheVariants as rule
 use Rattle.px_framing.specs.Lines.{may_stand, after, data_place, IsOpen}
-use Rattle.px_framing.specs.Body.{Part, nothing, first_bytes, body_limit, Body}
+use Rattle.px_framing.specs.Body.{Part, nothing, first_bytes, body_limit}
 
 -- what was read before
 abbrev pub before : List ℕ → List ℕ → ℕ → Part → Part

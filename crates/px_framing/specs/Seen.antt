@@ -1,5 +1,5 @@
 -- What is remembered of codings and of lengths that are read one by one.
-use Rattle.std.specs.Prelude.{ℕ, ◌-◌, ◌^◌, option_map, Bool, true, false, not, ◌&&◌, ◌||◌, ◌==◌, if◌then◌else◌, List, [], ◌∷◌, Option, Some, None, Result, Ok, Err}
+use Rattle.std.specs.Prelude.{ℕ, ◌-◌, ◌^◌, option_map, Bool, true, not, ◌&&◌, ◌||◌, ◌==◌, if◌then◌else◌, List, [], ◌∷◌, Option, Some, None, Result, Ok, Err}
 use Rattle.px_framing.specs.declared.rules.Seen.{Seen}
 use Rattle.px_framing.specs.declared.rules.Lengths.{Lengths}
 use Rattle.px_framing.specs.declared.rules.BodyRule.{BodyRule}

@@ -58,8 +58,8 @@ fn fed(
 }
 
 #[derive(Drop)]
-struct Row {
-    bytes: &'static [u8],
+struct Row<'a> {
+    bytes: &'a [u8],
     ends: bool,
     state: State,
     raw: usize,
@@ -67,7 +67,7 @@ struct Row {
     used: usize,
 }
 
-fn is_row(got: &Got, row: &Row) -> bool {
+fn is_row(got: &Got, row: &Row<'_>) -> bool {
     got.state == row.state
         && got.used == row.used
         && got.plain.as_bytes() == row.plain
@@ -76,7 +76,7 @@ fn is_row(got: &Got, row: &Row) -> bool {
 }
 
 /// A row for the bytes whole, for every cut into two, and for single bytes.
-fn check_row(rt: &impl Abort, alloc: Global, row: Row) {
+fn check_row(rt: &impl Abort, alloc: Global, row: Row<'_>) {
     let mut all = Vec::new(alloc);
     for i in 0..row.bytes.len() {
         let one = [i];
@@ -157,36 +157,39 @@ fn chunked_bodies_are_read_in_any_cuts(rt: HostRuntime) {
     }
 }
 
+/// `0`, so many spaces, and these bytes.
+fn size_line(rt: &impl Abort, alloc: Global, spaces: usize, end: &[u8]) -> Text {
+    let mut line = Text::from_bytes(alloc, b"0").expect(rt, "memory");
+    for _ in 0..spaces {
+        line.push(b' ').expect(rt, "memory");
+    }
+    line.push_all(end).expect(rt, "memory");
+    line
+}
+
 #[test]
 fn a_size_line_has_at_most_256_bytes(rt: HostRuntime) {
     let alloc = rt.alloc();
-    let mut spaces = Text::from_bytes(alloc, b"0").expect(&rt, "memory");
-    for _ in 0..253 {
-        spaces.push(b' ').expect(&rt, "memory");
+    let rows: [(usize, &[u8], State, usize, usize); 3] = [
+        (253, b"\r\n\r\n", State::Whole, 258, 258),
+        (254, b"\r\n\r\n", State::Misframed, 0, 255),
+        (300, b"", State::Misframed, 0, 255),
+    ];
+    for (spaces, end, state, raw, used) in rows {
+        let line = size_line(&rt, alloc, spaces, end);
+        check_row(
+            &rt,
+            alloc,
+            Row {
+                bytes: line.as_bytes(),
+                ends: false,
+                state,
+                raw,
+                plain: b"",
+                used,
+            },
+        );
     }
-    let mut taken = Text::from_bytes(alloc, spaces.as_bytes()).expect(&rt, "memory");
-    taken.push_all(b"\r\n\r\n").expect(&rt, "memory");
-    let whole = fed(
-        &rt,
-        alloc,
-        BodyRule::Chunked,
-        taken.as_bytes(),
-        [].as_slice(),
-        false,
-    );
-    assert!(rt; whole.state == State::Whole && whole.used == 258);
-    for _ in 0..47 {
-        spaces.push(b' ').expect(&rt, "memory");
-    }
-    let long = fed(
-        &rt,
-        alloc,
-        BodyRule::Chunked,
-        spaces.as_bytes(),
-        [].as_slice(),
-        false,
-    );
-    assert!(rt; long.state == State::Misframed && long.used == 255 && long.raw.is_empty());
 }
 
 #[test]

@@ -1,4 +1,4 @@
-use Rattle.std.proofs.Common.{◌≡◌, refl, sym, ◌∙◌, arith}
+use Rattle.std.proofs.Common.{refl, sym, ◌∙◌, arith}
 use Rattle.px_framing.proofs.StepLemmas.{chunks-advance, chunks-kept}
 use Rattle.px_framing.proofs.readers.advance_chunks.Goals as goal
 

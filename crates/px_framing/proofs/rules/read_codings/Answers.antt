@@ -1,4 +1,4 @@
-use Rattle.std.proofs.Common.{◌≡◌, false, [], List, ℕ, sym, ◌∙◌, ap, flat_map}
+use Rattle.std.proofs.Common.{◌≡◌, false, List, ℕ, sym, ◌∙◌, ap, flat_map}
 use Rattle.px_framing.specs.Rules.{items_of, codings_of}
 use Rattle.px_framing.specs.Seen.{seen_all}
 use Rattle.px_framing.specs.declared.rules.Seen.{Seen}

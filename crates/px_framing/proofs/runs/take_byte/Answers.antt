@@ -1,4 +1,4 @@
-use Rattle.std.proofs.Common.{◌≡◌, ℕ, List, ◌++◌, length, take, sym, ◌∙◌, ap, arith}
+use Rattle.std.proofs.Common.{◌≡◌, ℕ, List, ◌++◌, take, ◌∙◌, ap, arith}
 use Rattle.px_framing.proofs.HeldLemmas.{held-open, held-line-end, front-of}
 use Rattle.px_framing.proofs.MoveLemmas.{move-open, move-line, move-wrong}
 use Rattle.px_framing.proofs.runs.take_byte.Goals as goal

@@ -1,4 +1,4 @@
-use Rattle.std.proofs.Common.{◌≡◌, ◌-◌, length, take, arith, ap, sym, ◌∙◌}
+use Rattle.std.proofs.Common.{◌-◌, length, take, arith}
 use Rattle.std.proofs.lemmas.List.{length-take-le, take_all}
 use Rattle.px_framing.specs.declared.places.Place.TheVariants.{Gap}
 use Rattle.px_framing.proofs.MoveLemmas.{move-data, data-place-zero, data-place-some}

@@ -1,5 +1,4 @@
-use Rattle.std.proofs.Common.{◌≡◌, ℕ, List, ◌++◌, sym, ◌∙◌, ap, subst}
-use Rattle.px_framing.specs.declared.rules.BodyRule.{BodyRule}
+use Rattle.std.proofs.Common.{◌++◌, subst}
 use Rattle.px_framing.specs.Reading.{Advances, Steps, first, added}
 use Rattle.px_framing.proofs.BodyLemmas.{body-of}
 use Rattle.px_framing.proofs.StepLemmas.{steps-of, steps-on}
