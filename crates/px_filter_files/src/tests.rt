@@ -51,7 +51,11 @@ fn gives_the_first_refusal(rt: HostRuntime) -> Result<(), Fail> {
         (&["EXTERNAL-FILTER:  "], 1, 26),
         (&["FILTER: f a", "FILTER: f a"], 2, 27),
         (&["FILTER: f a", "s/a/b/", "FILTER: f other"], 3, 27),
-        (&["FILTER: f a", "FILTER: g", "s/a/b", "FILTER: f", "FILTER:"], 4, 27),
+        (
+            &["FILTER: f a", "FILTER: g", "s/a/b", "FILTER: f", "FILTER:"],
+            4,
+            27,
+        ),
     ];
     for (texts, line, number) in rows {
         let fault = refusal(alloc, texts)?;
@@ -67,7 +71,10 @@ fn refuses_nothing_else(rt: HostRuntime) -> Result<(), Fail> {
         (&[], 0),
         (&["FILTER: f a", "SERVER-HEADER-FILTER: f a"], 2),
         (&["FILTER: f a", "s/(/b/", "FILTER: F a"], 2),
-        (&["CLIENT-BODY-FILTER: f", "any line", "CLIENT-BODY-TAGGER: f"], 0),
+        (
+            &["CLIENT-BODY-FILTER: f", "any line", "CLIENT-BODY-TAGGER: f"],
+            0,
+        ),
     ];
     for (texts, filters) in rows {
         let file = FilterFile::read(alloc, lines(alloc, texts)?.as_slice())?;
