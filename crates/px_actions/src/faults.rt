@@ -51,6 +51,11 @@ impl ActionFault {
 }
 
 impl fmt::Display for ActionFault {
+    ghost use Rattle.std.specs.Prelude.{Some};
+    ghost use Rattle.px_actions.specs.Faults.{refusal};
+
+    ghost output = { λ fault. Some (refusal fault).name };
+
     fn fmt<W: fmt::Write>(&self, f: &mut fmt::Formatter<W>) -> fmt::Result {
         let name = self.name();
         write!(f, "{name}")
