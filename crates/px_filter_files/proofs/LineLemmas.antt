@@ -13,7 +13,7 @@ use Rattle.px_filter_files.specs.declared.faults.FilterFault.TheVariants.{At}
 use Rattle.px_filter_files.specs.declared.files.NamedFilter.{NamedFilter}
 use Rattle.px_filter_files.specs.declared.files.FilterFile.{FilterFile}
 use Rattle.px_filter_files.specs.Headings.{Key, is_job, key_at, keyword_at}
-use Rattle.px_filter_files.specs.FilterFiles.{all_skipped, begins_part, file_of, filter_at, filters_in, first_fault, heading_refusal, jobs_in, key_of, keys_in, own_lines, refusal_at, refusal_by, skipped_in}
+use Rattle.px_filter_files.specs.FilterFiles.{all_skipped, begins_part, file_of, filter_at, filters_in, first_fault, heading_refusal, jobs_in, key_of, keys_in, own_lines, refusal_at, skipped_in}
 
 -- `&xs[i..]`
 pub slice_to_end : {X : Type 0} (i : ℕ) (xs : List X) → take (length xs - i) (drop i xs) ≡ drop i xs

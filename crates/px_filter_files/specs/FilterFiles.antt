@@ -1,18 +1,17 @@
 -- What the lines of a filter file stand for.
-use Rattle.std.specs.Prelude.{ℕ, ◌+◌, Bool, false, not, ◌==◌, List, [], ◌∷◌, ◌++◌, length, filter_map, flat_map, find, sum_by, Option, Some, None, option_map, option_to_list, is_some, is_none, Result, Ok, Err, if◌then◌else◌}
+use Rattle.std.specs.Prelude.{ℕ, Bool, false, not, ◌==◌, List, [], ◌∷◌, ◌++◌, length, filter_map, flat_map, find, Option, Some, None, option_map, option_to_list, is_some, Result, Ok, Err, if◌then◌else◌}
 use Rattle.std.specs.List.{list_any}
 use Rattle.std.specs.Option.{option_map_or}
 use Rattle.std.specs.Result.{result_ok}
 use Rattle.std.specs.Str.{is_utf8}
 use Rattle.px_text.specs.declared.lines.Line.{Line}
 use Rattle.px_subst.specs.Jobs.{JobParts, job_of}
-use Rattle.px_filter_files.specs.declared.kinds.FilterKind.{FilterKind}
 use Rattle.px_filter_files.specs.declared.kinds.Keyword.{Keyword}
 use Rattle.px_filter_files.specs.declared.faults.FilterFault.{FilterFault}
 use Rattle.px_filter_files.specs.declared.faults.FilterFault.TheVariants.{At}
 use Rattle.px_filter_files.specs.declared.files.NamedFilter.{NamedFilter}
 use Rattle.px_filter_files.specs.declared.files.FilterFile.{FilterFile}
-use Rattle.px_filter_files.specs.Headings.{Key, keyword_at, kind_of, key_at, same_key, name_behind, is_job}
+use Rattle.px_filter_files.specs.Headings.{Key, keyword_at, key_at, same_key, name_behind, is_job}
 
 -- the lines up to the next one that begins a part
 abbrev pub own_lines : List Line → List Line

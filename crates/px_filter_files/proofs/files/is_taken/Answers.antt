@@ -1,4 +1,4 @@
-use Rattle.std.proofs.Common.{◌≡◌, sym, ◌∙◌}
+use Rattle.std.proofs.Common.{sym, ◌∙◌}
 use Rattle.px_filter_files.specs.Headings.{Key, same_key}
 use Rattle.px_filter_files.proofs.FindLemmas.{any_at}
 use Rattle.px_filter_files.proofs.files.is_taken.Goals as goal
