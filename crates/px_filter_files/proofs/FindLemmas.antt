@@ -1,24 +1,12 @@
 -- Looking for a filter by kind and name.
-use Rattle.std.proofs.Common.{◌≡◌, ℕ, zero, suc, ◌<◌, ◌≤◌, ◌+◌, Bool, true, false, ◌||◌, cond, List, [], ◌∷◌, ◌++◌, map, drop, length, get_or, find, flat_map, Option, Some, None, option_map, refl, sym, ap, ◌∙◌, arith}
-use Rattle.std.specs.List.{list_any}
+use Rattle.std.proofs.Common.{◌≡◌, ℕ, ◌<◌, ◌+◌, Bool, true, false, cond, List, [], ◌∷◌, ◌++◌, drop, length, get_or, find, Option, Some, None, option_map, refl, sym, ap, ◌∙◌}
 use Rattle.std.specs.Option.{option_or}
 use Rattle.std.proofs.lemmas.List.{drop_more}
 use Rattle.px_subst.specs.Jobs.{JobParts}
 use Rattle.px_filter_files.specs.declared.files.NamedFilter.{NamedFilter}
 use Rattle.px_filter_files.specs.declared.files.FilterFile.{FilterFile}
 use Rattle.px_filter_files.specs.Headings.{Key}
-use Rattle.px_filter_files.specs.FilterFiles.{filters_of_all, found, has_key, key_of}
-
-or_right : (a b : Bool) → b ≡ true → (a || b) ≡ true
-or_right true b h = refl
-or_right false b h = h
-
--- some filter's key passes
-pub any_at : (p : Key → Bool) (fs : List NamedFilter) (i : ℕ) (f : NamedFilter) → i < length fs → f ≡ get_or fs i f → p (key_of f) ≡ true →
-    list_any p (map key_of fs) ≡ true
-any_at p [] i f inside is holds = absurd (omega arith)
-any_at p (x ∷ fs) zero f inside is holds = ap (λ b. b || list_any p (map key_of fs)) (ap (λ y. p (key_of y)) (sym is) ∙ holds)
-any_at p (x ∷ fs) (suc i) f inside is holds = or_right (p (key_of x)) (list_any p (map key_of fs)) (any_at p fs i f (omega arith) is holds)
+use Rattle.px_filter_files.specs.FilterFiles.{filters_of_all, found, has_key}
 
 by_test : {X : Type 0} (b : Bool) (x : X) (o p q : Option X) → o ≡ option_or p q → cond b (Some x) o ≡ option_or (cond b (Some x) p) q
 by_test true x o p q e = refl

@@ -1,3 +1,4 @@
 pub mod LineLemmas
 pub mod FindLemmas
+pub mod SeenLemmas
 pub mod Crossing

@@ -1,8 +1,8 @@
 -- One line further in a filter file.
-use Rattle.std.proofs.Common.{◌≡◌, ℕ, ◌+◌, ◌-◌, ◌<◌, ◌≤◌, Bool, true, false, not, ◌||◌, cond, List, [], ◌∷◌, ◌++◌, map, take, drop, length, get_or, filter_map, Option, Some, None, is_some, is_none, option_map, option_to_list, Result, Ok, Err, refl, sym, ap, ap₂, ◌∙◌, arith, length-drop, append_assoc}
-use Rattle.std.specs.List.{cons_option}
+use Rattle.std.proofs.Common.{◌≡◌, ℕ, ◌+◌, ◌-◌, ◌<◌, ◌≤◌, Bool, true, false, not, ◌||◌, cond, List, [], ◌∷◌, ◌++◌, take, drop, length, get_or, filter_map, Option, Some, None, is_some, is_none, option_to_list, Result, Ok, Err, refl, sym, ap, ap₂, ◌∙◌, arith, length-drop, append_assoc}
+use Rattle.std.specs.List.{cons_option, list_any}
 use Rattle.std.specs.Option.{option_map_or}
-use Rattle.std.proofs.lemmas.List.{append-nil, drop_all, drop_more, map-append, take_all, take_more}
+use Rattle.std.proofs.lemmas.List.{append-nil, drop_all, drop_more, take_all, take_more}
 use Rattle.std.proofs.lemmas.List.Elements.{filter_map-append}
 use Rattle.std.proofs.lemmas.List.Folds.{list_any-append}
 use Rattle.std.proofs.lemmas.Option.{none-some}
@@ -12,29 +12,33 @@ use Rattle.px_filter_files.specs.declared.faults.FilterFault.{FilterFault}
 use Rattle.px_filter_files.specs.declared.faults.FilterFault.TheVariants.{At}
 use Rattle.px_filter_files.specs.declared.files.NamedFilter.{NamedFilter}
 use Rattle.px_filter_files.specs.declared.files.FilterFile.{FilterFile}
-use Rattle.px_filter_files.specs.Headings.{Key, is_job, key_at, keyword_at}
-use Rattle.px_filter_files.specs.FilterFiles.{all_skipped, begins_part, file_of, filter_at, filters_in, first_fault, heading_refusal, jobs_in, key_of, keys_in, own_lines, refusal_at, refusal_by, skipped_in}
+use Rattle.px_filter_files.specs.Headings.{Key, is_job, key_at, keyword_at, same_key}
+use Rattle.px_filter_files.specs.Seen.{begins_filter}
+use Rattle.px_filter_files.specs.FilterFiles.{all_skipped, begins_part, file_of, filter_at, filters_in, first_fault, heading_refusal, is_among, keys_in, own_lines, refusal_at, skipped_in}
 
 -- `&xs[i..]`
 pub slice_to_end : {X : Type 0} (i : ℕ) (xs : List X) → take (length xs - i) (drop i xs) ≡ drop i xs
 slice_to_end i xs = take_all _ _ (omega (arith, length-drop i xs))
 
 -- a line that isn't refused leaves a part begun
-part_is_begun : (before : List Key) (text : List ℕ) (k : Option Keyword) (begun : Bool) →
-    option_map_or (λ k. heading_refusal before k text) k (cond begun None (Some 25)) ≡ None → (begun || not (is_none k)) ≡ true
-part_is_begun before text k true e = refl
-part_is_begun before text (Some k) false e = refl
-part_is_begun before text None false e = absurd (none-some 25 (sym e))
-
-key_of_option : (o : Option Key) (line : Line) (below : List Line) → map key_of
-    (option_to_list (option_map (λ (key : Key). let f : NamedFilter = record { kind = key.kind; name = key.name; line = line.number; filter = jobs_in (own_lines below) } in f) o))
-    ≡ option_to_list o
-key_of_option None line below = refl
-key_of_option (Some key) line below = refl
+part_is_begun : (taken : Key → Bool) (text : List ℕ) (k : Option Keyword) (begun : Bool) →
+    option_map_or (λ k. heading_refusal taken k text) k (cond begun None (Some 25)) ≡ None → (begun || not (is_none k)) ≡ true
+part_is_begun taken text k true e = refl
+part_is_begun taken text (Some k) false e = refl
+part_is_begun taken text None false e = absurd (none-some 25 (sym e))
 
 one_key : (o : Option Key) (line : Line) → key_at line.text ≡ o → filter_map (λ (l : Line). key_at l.text) (line ∷ []) ≡ option_to_list o
 one_key None line is = ap (λ o. cons_option o []) is
 one_key (Some key) line is = ap (λ o. cons_option o []) is
+
+or_false : (b : Bool) → (b || false) ≡ b
+or_false true = refl
+or_false false = refl
+
+-- the key of one line
+any_of_one : (p : Key → Bool) (o : Option Key) → list_any p (option_to_list o) ≡ option_map_or p o false
+any_of_one p None = refl
+any_of_one p (Some key) = or_false (p key)
 
 module _ (lines : List Line) (i : ℕ) (line : Line) (inside : i < length lines) (is : line ≡ get_or lines i line) where
   drop_is : drop i lines ≡ line ∷ drop (i + 1) lines
@@ -70,23 +74,19 @@ module _ (lines : List Line) (i : ℕ) (line : Line) (inside : i < length lines)
       append_assoc skipped (cond (is_some (key_at line.text)) (skipped_in (own_lines (drop (i + 1) lines))) []) (all_skipped (drop (i + 1) lines))
       ∙ ap (λ ls. skipped ++ all_skipped ls) (sym drop_is) ∙ so_far
 
-  pub keys_later : (filters : List NamedFilter) → map key_of filters ≡ keys_in (take i lines) →
-      map key_of (filters ++ option_to_list (filter_at line (drop (i + 1) lines))) ≡ keys_in (take (i + 1) lines)
-  keys_later filters so_far =
-      map-append key_of filters (option_to_list (filter_at line (drop (i + 1) lines)))
-      ∙ ap₂ ◌++◌ so_far (key_of_option (key_at line.text) line (drop (i + 1) lines) ∙ sym (one_key (key_at line.text) line refl))
-      ∙ sym (filter_map-append (λ (l : Line). key_at l.text) (take i lines) (line ∷ []))
-      ∙ ap keys_in (sym take_is)
+  pub seen_later : (key : Key) → is_among (take (i + 1) lines) key ≡ (is_among (take i lines) key || begins_filter line.text key)
+  seen_later key =
+      ap (λ ls. is_among ls key) take_is
+      ∙ ap (list_any (same_key key)) (filter_map-append (λ (l : Line). key_at l.text) (take i lines) (line ∷ []))
+      ∙ list_any-append (same_key key) (keys_in (take i lines)) (keys_in (line ∷ []))
+      ∙ ap (λ b. is_among (take i lines) key || b)
+      (ap (list_any (same_key key)) (one_key (key_at line.text) line refl) ∙ any_of_one (same_key key) (key_at line.text))
 
   pub begun_later : refusal_at (take i lines) line ≡ None → true ≡ begins_part (take (i + 1) lines)
   begun_later fine =
       sym (ap begins_part take_is ∙ list_any-append (λ l. not (is_job l)) (take i lines) (line ∷ [])
       ∙ ap (λ b. begins_part (take i lines) || b) (or_false (not (is_job line)))
-      ∙ part_is_begun (keys_in (take i lines)) line.text (keyword_at line.text) (begins_part (take i lines)) fine)
-    where
-      or_false : (b : Bool) → (b || false) ≡ b
-      or_false true = refl
-      or_false false = refl
+      ∙ part_is_begun (is_among (take i lines)) line.text (keyword_at line.text) (begins_part (take i lines)) fine)
 
 -- a file whose lines are all read
 pub file_is_read : (lines : List Line) (i : ℕ) (filters : List NamedFilter) (skipped : List ℕ) → length lines ≤ i →

@@ -1,5 +1,5 @@
 -- The numbers and names of the refusals of a filter file.
-use Rattle.std.specs.Prelude.{ℕ, List, [], ◌==◌, codes, if◌then◌else◌}
+use Rattle.std.specs.Prelude.{ℕ, List, ◌==◌, codes, if◌then◌else◌}
 use Rattle.px_filter_files.specs.declared.faults.FilterFault.{FilterFault}
 use Rattle.px_filter_files.specs.declared.faults.FilterFault.TheVariants.{At, Mem}
 

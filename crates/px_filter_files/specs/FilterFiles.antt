@@ -1,18 +1,17 @@
 -- What the lines of a filter file stand for.
-use Rattle.std.specs.Prelude.{ℕ, ◌+◌, Bool, false, not, ◌==◌, List, [], ◌∷◌, ◌++◌, length, filter_map, flat_map, find, sum_by, Option, Some, None, option_map, option_to_list, is_some, is_none, Result, Ok, Err, if◌then◌else◌}
+use Rattle.std.specs.Prelude.{ℕ, Bool, false, not, ◌==◌, List, [], ◌∷◌, ◌++◌, length, filter_map, flat_map, find, Option, Some, None, option_map, option_to_list, is_some, Result, Ok, Err, if◌then◌else◌}
 use Rattle.std.specs.List.{list_any}
 use Rattle.std.specs.Option.{option_map_or}
 use Rattle.std.specs.Result.{result_ok}
 use Rattle.std.specs.Str.{is_utf8}
 use Rattle.px_text.specs.declared.lines.Line.{Line}
 use Rattle.px_subst.specs.Jobs.{JobParts, job_of}
-use Rattle.px_filter_files.specs.declared.kinds.FilterKind.{FilterKind}
 use Rattle.px_filter_files.specs.declared.kinds.Keyword.{Keyword}
 use Rattle.px_filter_files.specs.declared.faults.FilterFault.{FilterFault}
 use Rattle.px_filter_files.specs.declared.faults.FilterFault.TheVariants.{At}
 use Rattle.px_filter_files.specs.declared.files.NamedFilter.{NamedFilter}
 use Rattle.px_filter_files.specs.declared.files.FilterFile.{FilterFile}
-use Rattle.px_filter_files.specs.Headings.{Key, keyword_at, kind_of, key_at, same_key, name_behind, is_job}
+use Rattle.px_filter_files.specs.Headings.{Key, keyword_at, key_at, same_key, name_behind, is_job}
 
 -- the lines up to the next one that begins a part
 abbrev pub own_lines : List Line → List Line
@@ -50,17 +49,21 @@ all_skipped (line ∷ rest) = (if is_some (key_at line.text) then skipped_in (ow
 abbrev pub keys_in : List Line → List Key
 keys_in lines = filter_map (λ line. key_at line.text) lines
 
--- what is refused at a heading: a missing name, or a filter's key that is among those before
-abbrev pub heading_refusal : List Key → Keyword → List ℕ → Option ℕ
-heading_refusal before k text =
+-- the key is among those of the filters that lines begin
+abbrev pub is_among : List Line → Key → Bool
+is_among lines key = list_any (same_key key) (keys_in lines)
+
+-- what is refused at a heading: a missing name, or a filter's key that is taken
+abbrev pub heading_refusal : (Key → Bool) → Keyword → List ℕ → Option ℕ
+heading_refusal taken k text =
     if length (name_behind k text) == 0 then Some 26
-    else if option_map_or (λ key. list_any (same_key key) before) (key_at text) false then Some 27
+    else if option_map_or taken (key_at text) false then Some 27
     else None
 
--- what is refused at a line, by the keys of the filters before it and whether any part begins before it
-abbrev pub refusal_by : List Key → Bool → List ℕ → Option ℕ
-refusal_by before begun text =
-    option_map_or (λ k. heading_refusal before k text) (keyword_at text) (if begun then None else Some 25)
+-- what is refused at a line, by which keys are taken and whether any part begins before it
+abbrev pub refusal_by : (Key → Bool) → Bool → List ℕ → Option ℕ
+refusal_by taken begun text =
+    option_map_or (λ k. heading_refusal taken k text) (keyword_at text) (if begun then None else Some 25)
 
 -- a part begins among the lines
 abbrev pub begins_part : List Line → Bool
@@ -68,7 +71,7 @@ begins_part lines = list_any (λ line. not (is_job line)) lines
 
 -- what is refused at a line: a job below no part, or a heading
 abbrev pub refusal_at : List Line → Line → Option ℕ
-refusal_at before line = refusal_by (keys_in before) (begins_part before) line.text
+refusal_at before line = refusal_by (is_among before) (begins_part before) line.text
 
 -- the first refusal among lines that follow others
 unfoldable pub first_fault : List Line → List Line → Option FilterFault

@@ -1,3 +1,4 @@
 pub mod Headings
 pub mod FilterFiles
+pub mod Seen
 pub mod Faults

@@ -61,6 +61,11 @@ fn refusal_name(number: u8) -> &'static str
 }
 
 impl fmt::Display for FilterFault {
+    ghost use Rattle.std.specs.Prelude.{Some};
+    ghost use Rattle.px_filter_files.specs.Faults.{name_of};
+
+    ghost output = { λ fault. Some (name_of fault) };
+
     fn fmt<W: fmt::Write>(&self, f: &mut fmt::Formatter<W>) -> fmt::Result {
         let name = self.name();
         write!(f, "{name}")

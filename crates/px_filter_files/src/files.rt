@@ -1,10 +1,10 @@
 // What a filter file stands for.
-ghost use Rattle.std.specs.Prelude.{◌≡◌, ◌≢◌, ◌++◌, ◌∷◌, [], not, Err, None, IfOk, OnOk, map, is_some, option_to_list, if◌then◌else◌, Some, ◌≤◌, length, option_map};
-ghost use Rattle.std.specs.List.{list_any};
+ghost use Rattle.std.specs.Prelude.{◌≡◌, ◌≢◌, ◌||◌, ◌++◌, ◌∷◌, [], not, Err, None, IfOk, OnOk, is_some, option_to_list, if◌then◌else◌, Some, ◌≤◌, length, option_map};
 ghost use Rattle.std.specs.Result.{result_ok};
 ghost use Rattle.px_subst.specs.Jobs.{job_of};
-ghost use Rattle.px_filter_files.specs.Headings.{keyword_at, key_at, is_job, word_of, same_key};
-ghost use Rattle.px_filter_files.specs.FilterFiles.{job_in, jobs_in, skipped_in, own_lines, filter_at, key_of, refusal_by, heading_refusal};
+ghost use Rattle.px_filter_files.specs.Headings.{Key, keyword_at, key_at, is_job, word_of};
+ghost use Rattle.px_filter_files.specs.Seen.{begins_filter, has_seen};
+ghost use Rattle.px_filter_files.specs.FilterFiles.{job_in, jobs_in, skipped_in, own_lines, filter_at, refusal_by, heading_refusal};
 
 use crate::faults::{FilterFault, JOB_BEFORE_FILTER, NAME_MISSING, NAME_TWICE};
 use crate::kinds::{FilterKind, Keyword};
@@ -12,6 +12,7 @@ use px_base::{List, Mem, Text};
 use px_subst::{Filter, Job, JobFault};
 use px_text::Line;
 use std::alloc::Global;
+use std::collections::BTreeSet;
 
 /// A filter of a filter file.
 #[derive(Drop)]
@@ -119,23 +120,22 @@ fn read_filter(alloc: Global, below: &[Line], skipped: &mut List<u32>) -> Result
     Ok(Filter::new(List::from_vec(jobs)))
 }
 
-/// Whether a filter has this kind and name.
-fn is_taken(filters: &[NamedFilter], kind: FilterKind, name: &[u8]) -> bool
-    ensures { result ≡ list_any (same_key (record { kind = kind; name = name.now })) (map key_of filters.now) }
+/// Whether a filter of this kind and name was seen.
+fn is_taken<'l>(seen: &BTreeSet<(u8, &'l [u8])>, kind: FilterKind, name: &'l [u8]) -> bool
+    ensures { result ≡ has_seen seen.now (record { kind = kind; name = name.now }) }
 {
-    for filter in filters {
-        if filter.has(kind, name) {
-            return true;
-        }
-    }
-    false
+    seen.contains(&(kind.rank(), name))
 }
 
 /// The number of the refusal at a heading, if it is refused.
-fn heading_refusal(keyword: Keyword, text: &[u8], filters: &[NamedFilter]) -> Option<u8>
+fn heading_refusal<'l>(
+    keyword: Keyword,
+    text: &'l [u8],
+    seen: &BTreeSet<(u8, &'l [u8])>,
+) -> Option<u8>
     requires begins { keyword_at text.now ≡ Some keyword }
     requires within { length (word_of keyword) ≤ length text.now }
-    ensures { result ≡ heading_refusal (map key_of filters.now) keyword text.now }
+    ensures { result ≡ heading_refusal (has_seen seen.now) keyword text.now }
 {
     let name = keyword.name(text);
     if name.is_empty() {
@@ -143,7 +143,7 @@ fn heading_refusal(keyword: Keyword, text: &[u8], filters: &[NamedFilter]) -> Op
     }
     match keyword.kind() {
         Some(kind) => {
-            if is_taken(filters, kind, name) {
+            if is_taken(seen, kind, name) {
                 Some(NAME_TWICE)
             } else {
                 None
@@ -154,11 +154,11 @@ fn heading_refusal(keyword: Keyword, text: &[u8], filters: &[NamedFilter]) -> Op
 }
 
 /// The number of the refusal at a line, if it is refused. `begun` says whether a part begins before it.
-fn refusal(text: &[u8], filters: &[NamedFilter], begun: bool) -> Option<u8>
-    ensures { result ≡ refusal_by (map key_of filters.now) begun text.now }
+fn refusal<'l>(text: &'l [u8], seen: &BTreeSet<(u8, &'l [u8])>, begun: bool) -> Option<u8>
+    ensures { result ≡ refusal_by (has_seen seen.now) begun text.now }
 {
     match Keyword::at(text) {
-        Some(keyword) => heading_refusal(keyword, text, filters),
+        Some(keyword) => heading_refusal(keyword, text, seen),
         None => { if begun { None } else { Some(JOB_BEFORE_FILTER) } }
     }
 }
@@ -173,6 +173,19 @@ fn key_at(text: &[u8]) -> Option<(FilterKind, &[u8])>
             None => None,
         },
         None => None,
+    }
+}
+
+/// Notes the kind and the name of the filter that a line begins, if it begins one.
+fn add_key<'l>(text: &'l [u8], seen: &mut BTreeSet<(u8, &'l [u8])>) -> Result<(), Mem>
+    ensures { OnOk result ((key : Key) → has_seen seen.new key ≡ (has_seen seen.old key || begins_filter text.now key)) }
+{
+    match key_at(text) {
+        Some(key) => {
+            seen.insert((key.0.rank(), key.1))?;
+            Ok(())
+        }
+        None => Ok(()),
     }
 }
 
@@ -216,14 +229,17 @@ impl FilterFile {
     {
         let mut filters = List::new(alloc);
         let mut skipped = List::new(alloc);
+        let mut seen = BTreeSet::new(alloc);
         let mut begun = false;
         for (at, line) in lines.iter().enumerate() {
-            if let Some(number) = refusal(line.text.as_bytes(), filters.as_slice(), begun) {
+            let text = line.text.as_bytes();
+            if let Some(number) = refusal(text, &seen, begun) {
                 return Err(FilterFault::At {
                     line: line.number,
                     number,
                 });
             }
+            add_key(text, &mut seen)?;
             add_filter(alloc, line, &lines[at + 1..], &mut filters, &mut skipped)?;
             begun = true;
         }

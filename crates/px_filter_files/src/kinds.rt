@@ -19,7 +19,7 @@ pub enum FilterKind {
 }
 
 impl FilterKind {
-    fn rank(self) -> u8
+    pub(crate) fn rank(self) -> u8
         ensures { result ≡ rank self }
     {
         self as u8

@@ -52,6 +52,11 @@ impl JobFault {
 }
 
 impl fmt::Display for JobFault {
+    ghost use Rattle.std.specs.Prelude.{Some};
+    ghost use Rattle.px_subst.specs.Refusals.{name_of};
+
+    ghost output = { λ fault. Some (name_of fault) };
+
     fn fmt<W: fmt::Write>(&self, f: &mut fmt::Formatter<W>) -> fmt::Result {
         let name = self.name();
         write!(f, "{name}")

@@ -1,4 +1,4 @@
-use Rattle.std.proofs.Common.{◌≡◌, ◌+◌, drop, find, option_map, ap, sym, ◌∙◌}
+use Rattle.std.proofs.Common.{◌+◌, drop, find, option_map, ap, sym, ◌∙◌}
 use Rattle.std.specs.Option.{option_or}
 use Rattle.std.proofs.lemmas.List.{drop_all}
 use Rattle.px_filter_files.specs.Headings.{Key}

@@ -1,19 +1,21 @@
-use Rattle.std.proofs.Common.{◌≡◌, ◌+◌, ◌++◌, ℕ, Bool, List, map, drop, cond, is_some, option_to_list, [], ap, sym, ◌∙◌}
+use Rattle.std.proofs.Common.{◌≡◌, ◌+◌, ◌++◌, ℕ, Bool, ◌||◌, List, drop, cond, is_some, option_to_list, [], ap, ap₂, sym, ◌∙◌}
+use mathlib.Core.Path.{fun_ext}
 use Rattle.px_filter_files.specs.Headings.{Key, key_at}
-use Rattle.px_filter_files.specs.FilterFiles.{all_skipped, filter_at, filters_in, key_of, own_lines, refusal_by, skipped_in}
-use Rattle.px_filter_files.proofs.LineLemmas.{begun_later, fault_here, fault_later, file_is_read, file_is_refused, filters_later, keys_later, skipped_later, slice_to_end}
+use Rattle.px_filter_files.specs.Seen.{begins_filter}
+use Rattle.px_filter_files.specs.FilterFiles.{all_skipped, filter_at, filters_in, own_lines, refusal_by, skipped_in}
+use Rattle.px_filter_files.proofs.LineLemmas.{begun_later, fault_here, fault_later, file_is_read, file_is_refused, filters_later, seen_later, skipped_later, slice_to_end}
 use Rattle.px_filter_files.proofs.files.FilterFile.read.Goals as goal
 
--- what is refused by the filters so far is what is refused by the lines so far
-refused_so_far : {filters keys : List Key} {begun begins : Bool} {text line_text : List ℕ} → filters ≡ keys → begun ≡ begins → text ≡ line_text →
-    refusal_by filters begun text ≡ refusal_by keys begins line_text
-refused_so_far {keys = keys} {begun = begun} {begins = begins} {text = text} a b c =
-    ap (λ k. refusal_by k begun text) a ∙ ap (λ x. refusal_by keys x text) b ∙ ap (refusal_by keys begins) c
+-- what is refused by the keys so far is what is refused by the lines so far
+refused_so_far : {seen among : Key → Bool} {begun begins : Bool} {text line_text : List ℕ} → ((key : Key) → seen key ≡ among key) →
+    begun ≡ begins → text ≡ line_text → refusal_by seen begun text ≡ refusal_by among begins line_text
+refused_so_far {among = among} {begun = begun} {begins = begins} {text = text} a b c =
+    ap (λ k. refusal_by k begun text) (fun_ext a) ∙ ap (λ x. refusal_by among x text) b ∙ ap (refusal_by among begins) c
 
 pub returns-in-Some : goal.returns-in-Some
 returns-in-Some c = λ _.
     let so_far = c.loop-at.invariant in
-    let refused = sym (refused_so_far (ap (map key_of) c.as_slice.ensures ∙ so_far.keys) so_far.begun c.as_bytes.ensures) ∙ sym c.in-Some.ensures in
+    let refused = sym (refused_so_far so_far.seen so_far.begun c.as_bytes-text.ensures) ∙ sym c.in-Some.ensures in
     file_is_refused c.args.lines.now _
     (so_far.fault ∙ fault_here c.args.lines.now c.loop-at.at c.index-lines-at.result c.loop-at-test.true c.index-lines-at.is c.in-Some.number refused)
 
@@ -25,13 +27,13 @@ loop-at-preserved c =
     let inside = c.loop-at-test.true in
     let is = c.index-lines-at.is in
     let so_far = c.loop-at.invariant in
-    let fine = sym (refused_so_far (ap (map key_of) c.as_slice.ensures ∙ so_far.keys) so_far.begun c.as_bytes.ensures) ∙ sym c.in_default.ensures in
+    let fine = sym (refused_so_far so_far.seen so_far.begun c.as_bytes-text.ensures) ∙ sym c.in_default.ensures in
     let below = slice_to_end (at + 1) lines in
     let added = c.in_ok-add_filter.ensures.filters ∙ ap (λ b. c.loop-at.filters ++ option_to_list (filter_at line b)) below in
     let skipped = c.in_ok-add_filter.ensures.skipped ∙ ap (λ b. c.loop-at.skipped ++ cond (is_some (key_at line.text)) (skipped_in (own_lines b)) []) below in
     record {
       begun = begun_later lines at line inside is fine;
-      keys = ap (map key_of) added ∙ keys_later lines at line inside is c.loop-at.filters so_far.keys;
+      seen = λ key. c.in_ok-add_key.ensures key ∙ ap₂ ◌||◌ (so_far.seen key) (ap (λ t. begins_filter t key) c.as_bytes-text.ensures) ∙ sym (seen_later lines at line inside is key);
       fault = so_far.fault ∙ fault_later lines at line inside is fine;
       filters = ap (λ fs. fs ++ filters_in (drop (at + 1) lines)) added ∙ filters_later lines at line inside is c.loop-at.filters so_far.filters;
       skipped = ap (λ ns. ns ++ all_skipped (drop (at + 1) lines)) skipped ∙ skipped_later lines at line inside is c.loop-at.skipped so_far.skipped;
