@@ -3,6 +3,8 @@ ghost use Rattle.std.specs.Prelude.{◌≡◌, ◌==◌, ◌<◌, ◌∷◌, IfS
 ghost use Rattle.std.specs.List.{slice_split, position};
 ghost use Rattle.px_base.specs.Cuts.{parts_of};
 
+use memchr::memchr;
+
 /// The part before the first separator, and the bytes behind it if there is one.
 pub fn cut(bytes: &[u8], separator: u8) -> (&[u8], Option<&[u8]>)
     ensures parts { slice_split (λ b. b == separator) bytes.now ≡ result.0.now ∷ parts_of separator (option_copied result.1) }
@@ -14,10 +16,10 @@ pub fn cut(bytes: &[u8], separator: u8) -> (&[u8], Option<&[u8]>)
     }
 }
 
-/// The place of the first separator.
-fn place(bytes: &[u8], separator: u8) -> Option<usize>
-    ensures value { result ≡ position (λ b. b == separator) bytes.now }
+/// The place of the first byte that equals `byte`.
+pub fn place(bytes: &[u8], byte: u8) -> Option<usize>
+    ensures value { result ≡ position (λ b. b == byte) bytes.now }
     ensures within { IfSome result (λ at. at < length bytes.now) }
 {
-    bytes.iter().position(|byte| *byte == separator)
+    memchr(byte, bytes)
 }

@@ -3,10 +3,12 @@
 
 mod adapters;
 mod blanks;
+mod cases;
 mod clocks;
 mod cuts;
 mod dialers;
 mod dials;
+mod encodings;
 mod entries;
 mod faults;
 mod files;
@@ -25,10 +27,12 @@ mod texts;
 
 pub use adapters::{DiskFiles, ReaderSource, SystemClock, WriterSink};
 pub use blanks::{is_blank, trim};
+pub use cases::same_without_case;
 pub use clocks::{Clock, FixedClock};
-pub use cuts::cut;
+pub use cuts::{cut, place};
 pub use dialers::Dialer;
 pub use dials::{Answer, Dial, DialOutcome, LinkNote, LinkSeen};
+pub use encodings::{as_text, is_text};
 pub use faults::{DialFault, Failed, FilesFault, Mem, SinkFault};
 pub use files::{Content, Files};
 pub use lists::List;

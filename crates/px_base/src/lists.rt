@@ -1,6 +1,7 @@
 // A list of items.
-ghost use Rattle.std.specs.Prelude.{◌≡◌, ◌++◌, ◌∷◌, [], ◌==◌, IfErr, OnOk, OnErr, length};
+ghost use Rattle.std.specs.Prelude.{◌≡◌, ◌++◌, ◌∷◌, [], ◌==◌, IfOk, IfErr, OnOk, OnErr, length};
 
+use crate::Mem;
 use std::alloc::Global;
 use std::marker::Model;
 
@@ -28,6 +29,15 @@ impl<T> List<T> {
         }
     }
 
+    /// The empty list, with room for so many items.
+    pub fn with_capacity(alloc: Global, room: usize) -> Result<List<T>, Mem>
+        ensures { IfOk result (λ list. list ≡ []) }
+    {
+        Ok(List {
+            items: Vec::with_capacity(alloc, room)?,
+        })
+    }
+
     /// The items of a vector, which takes no memory.
     pub fn from_vec(items: Vec<T>) -> List<T>
         ensures { result ≡ items.items }
@@ -51,6 +61,19 @@ impl<T> List<T> {
         match self.items.push(item) {
             Ok(()) => Ok(()),
             Err(refused) => Err(refused.value),
+        }
+    }
+
+    /// Adds an item at the end. After `Mem` the list is as it was, and the item is let go.
+    pub fn add(&mut self, item: T) -> Result<(), Mem>
+    where
+        T: Drop,
+        ensures ok { OnOk result (self.new ≡ self.old ++ item ∷ []) }
+        ensures err { OnErr result (self.new ≡ self.old) }
+    {
+        match self.push(item) {
+            Ok(()) => Ok(()),
+            Err(_) => Err(Mem),
         }
     }
 

@@ -4,7 +4,7 @@ ghost use Rattle.std.specs.List.{position};
 ghost use Rattle.px_base.specs.Ports.{port, port_list, item, range, end_of_range, allows, is_dash};
 
 use crate::blanks::trim;
-use crate::cuts::cut;
+use crate::cuts::{cut, place};
 use crate::numbers::read_decimal;
 use std::alloc::{AllocFailed, Global};
 use std::marker::Model;
@@ -83,14 +83,6 @@ impl Ports {
     }
 }
 
-/// The place of the first dash.
-fn dash(bytes: &[u8]) -> Option<usize>
-    ensures value { result ≡ position is_dash bytes.now }
-    ensures within { IfSome result (λ at. at < length bytes.now) }
-{
-    bytes.iter().position(|byte| *byte == b'-')
-}
-
 /// A port: a decimal number from 1 to 65,535.
 #[tactic(auto, unfolding(crate::specs::Ports::port))]
 pub fn read_port(bytes: &[u8]) -> Option<u16>
@@ -131,7 +123,7 @@ fn range(low: Option<u16>, high: Option<u16>) -> Option<PortRange>
 fn read_item(bytes: &[u8]) -> Option<PortRange>
     ensures { result ≡ item bytes.now }
 {
-    match dash(bytes) {
+    match place(bytes, b'-') {
         Some(at) => range(
             read_end(&bytes[..at], 1),
             read_end(&bytes[at + 1..], 65_535),

@@ -29,6 +29,15 @@ impl Text {
         }
     }
 
+    /// The empty text, with room for so many bytes.
+    pub fn with_capacity(alloc: Global, room: usize) -> Result<Text, Mem>
+        ensures { IfOk result (λ text. text ≡ []) }
+    {
+        Ok(Text {
+            bytes: Vec::with_capacity(alloc, room)?,
+        })
+    }
+
     /// The bytes of a vector, which takes no memory.
     pub fn from_vec(bytes: Vec<u8>) -> Text
         ensures { result ≡ bytes.items }
@@ -50,6 +59,14 @@ impl Text {
         Ok(Text {
             bytes: bytes.to_vec(alloc)?,
         })
+    }
+
+    /// Makes room for so many bytes more. The text is as it was.
+    pub fn reserve(&mut self, more: usize) -> Result<(), Mem>
+        ensures { self.new ≡ self.old }
+    {
+        self.bytes.reserve(more)?;
+        Ok(())
     }
 
     /// Adds one byte at the end. After `Mem` the text is as it was.
