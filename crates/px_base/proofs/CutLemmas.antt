@@ -37,12 +37,12 @@ fails false = λ no. refl
 pub position-first : (byte : ℕ) (bs : List ℕ) (r : Option ℕ) → IsFirstByte (is_byte byte) bs r → r ≡ position (λ b. b == byte) bs
 position-first byte bs None none =
     let whole : position_or_len (λ b. b == byte) bs ≡ length bs =
-      position_or_len_is (λ b. b == byte) bs (length bs) 0 (omega arith) (λ k l. fails (slice_index bs k == byte) (none k (omega arith) l)) (λ l. absurd (omega (arith, l))) in
+    position_or_len_is (λ b. b == byte) bs (length bs) 0 (omega arith) (λ k l. fails (slice_index bs k == byte) (none k (omega arith) l)) (λ l. absurd (omega (arith, l))) in
     rw (le-ltb (position_or_len (λ b. b == byte) bs) (length bs) (omega (arith, whole))) refl
 position-first byte bs (Some at) found =
     let within : at < length bs = found.0.high in
     let here : position_or_len (λ b. b == byte) bs ≡ at =
-      position_or_len_is (λ b. b == byte) bs at 0 (omega (arith, within)) (λ k l. fails (slice_index bs k == byte) (found.0.before k (omega arith) l)) (λ l. found.1) in
+    position_or_len_is (λ b. b == byte) bs at 0 (omega (arith, within)) (λ k l. fails (slice_index bs k == byte) (found.0.before k (omega arith) l)) (λ l. found.1) in
     rw here (rw (lt-ltb at (length bs) within) refl)
 
 -- that place lies in the text

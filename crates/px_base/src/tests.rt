@@ -88,8 +88,63 @@ fn a_tape_takes_its_bytes_in_pieces_until_a_write_fails(rt: HostRuntime) -> Resu
     let mut out = TapeOut::new(alloc, &[1, 2], &[2])?;
     assert_eq!(rt; write_all(&mut out, b"abcdefgh"), Err(SinkFault::Failed));
     assert_eq!(rt; out.taken(), "abc".as_bytes());
-    let mut out = WriterSink::new(Vec::<u8>::new(alloc), 0);
-    assert_eq!(rt; write_all(&mut out, b"abcdefgh"), Ok(()));
+    assert!(rt; out.has_failed());
+    Ok(())
+}
+
+#[test]
+fn a_write_behind_the_end_of_a_tape_fails(rt: HostRuntime) -> Result<(), Fail> {
+    let mut out = TapeOut::new(rt.alloc(), &[], &[])?;
+    assert_eq!(rt; write_all(&mut out, b"ab"), Ok(()));
+    out.finish();
+    assert!(rt; !out.has_failed());
+    assert_eq!(rt; write_all(&mut out, b"c"), Err(SinkFault::Failed));
+    assert_eq!(rt; out.taken(), "ab".as_bytes());
+    assert!(rt; out.has_failed());
+    Ok(())
+}
+
+#[test]
+fn a_writer_takes_the_bytes_that_it_counts(rt: HostRuntime) {
+    let mut bytes = Vec::<u8>::new(rt.alloc());
+    assert_eq!(rt;
+        write_all(&mut WriterSink::new(&mut bytes, 0), b"abcdefgh"),
+        Ok(())
+    );
+    assert_eq!(rt; bytes.as_slice(), "abcdefgh".as_bytes());
+    let mut short = [0; 5];
+    let mut out = WriterSink::new(&mut short[..], 0);
+    assert_eq!(rt; out.write(b"abc"), Ok(3));
+    assert_eq!(rt; out.write(b"defgh"), Ok(2));
+    assert_eq!(rt; out.write(b"fgh"), Err(SinkFault::Failed));
+    assert_eq!(rt; short.as_slice(), "abcde".as_bytes());
+}
+
+#[test]
+fn a_link_in_memory_keeps_its_cuts(rt: HostRuntime) -> Result<(), Fail> {
+    let alloc = rt.alloc();
+    let mut cuts = Vec::new(alloc);
+    cuts.push(2)?;
+    let mut answers = Vec::new(alloc);
+    answers.push(Answer::Link {
+        bytes: Text::from_bytes(alloc, b"heard")?,
+        cuts: List::from_vec(cuts),
+        read_fails: List::new(alloc),
+        write_fails: List::new(alloc),
+    })?;
+    let mut dialer = MemDialer::new(alloc, List::from_vec(answers))?;
+    let Ok(link) = dialer.dial(b"a.test", 80) else {
+        panic!(rt; "no link");
+    };
+    let (mut link_in, link_out) = link;
+    let mut piece = [0; 8];
+    assert_eq!(rt; link_in.read(&mut piece), Ok(2));
+    assert_eq!(rt; link_in.read(&mut piece[..1]), Ok(1));
+    dialer.hang_up(link_in, link_out);
+    assert_eq!(rt; dialer.links().len(), 1);
+    for link in dialer.links() {
+        assert_eq!(rt; link.heard.as_bytes(), "hea".as_bytes());
+    }
     Ok(())
 }
 
@@ -203,6 +258,10 @@ fn clocks_give_their_moments(rt: HostRuntime) -> Result<(), Fail> {
     let mut clock = FixedClock::new(List::from_vec(moments));
     assert_eq!(rt; [clock.now(), clock.now(), clock.now()], [7, 9, 9]);
     assert_eq!(rt; FixedClock::new(List::new(rt.alloc())).now(), 0);
-    assert!(rt; SystemClock::new(&rt).now() > 1_700_000_000);
+    let now = SystemClock::new(&rt).now();
+    assert!(rt;
+        now > 1_700_000_000 && now < 10_000_000_000,
+        "{now} isn't in seconds"
+    );
     Ok(())
 }
