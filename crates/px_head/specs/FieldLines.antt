@@ -1,5 +1,5 @@
 -- Field lines that are read (RFC 9110, section 5).
-use Rattle.std.specs.Prelude.{◌≡◌, ℕ, ◌+◌, ◌==◌, ◌&&◌, Bool, not, if◌then◌else◌, IsTrue, List, length, take, drop, Option, Some, None, option_and_then}
+use Rattle.std.specs.Prelude.{ℕ, ◌+◌, ◌==◌, ◌&&◌, Bool, not, if◌then◌else◌, List, take, drop, Option, Some, None, option_and_then}
 use Rattle.std.specs.List.{position, list_all}
 use Rattle.httparse.specs.Grammar.{is_token}
 use Rattle.px_base.specs.Blanks.{trimmed}

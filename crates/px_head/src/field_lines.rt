@@ -1,10 +1,10 @@
 // Field lines that are read.
-ghost use Rattle.std.specs.Prelude.{◌≡◌, ◌==◌, ◌<◌, length, MatchOption, IfSome, Some, None};
-ghost use Rattle.std.specs.List.{list_all, position};
+ghost use Rattle.std.specs.Prelude.{◌≡◌, MatchOption, Some, None};
+ghost use Rattle.std.specs.List.{list_all};
 ghost use Rattle.httparse.specs.Grammar.{is_token_byte as is_token_byte_spec, is_token as is_token_spec};
 ghost use Rattle.px_head.specs.FieldLines.{is_value_byte, field_from as field_from_spec, read_field};
 
-use px_base::trim;
+use px_base::{place, trim};
 
 /// A field line in its parts.
 #[derive(Clone, Copy, Debug)]
@@ -45,21 +45,13 @@ fn are_value_bytes(text: &[u8]) -> bool
         .all(|byte| *byte != 0 && *byte != b'\n' && *byte != b'\r')
 }
 
-/// The place of the first colon.
-fn place_of_colon(text: &[u8]) -> Option<usize>
-    ensures value { result ≡ position (λ b. b == 58) text.now }
-    ensures within { IfSome result (λ at. at < length text.now) }
-{
-    text.iter().position(|byte| *byte == b':')
-}
-
 /// Reads a field line without its end: a token, a colon, and a value without CR, LF and NUL (RFC 9110, section 5). The white
 /// space around the value is dropped.
 #[tactic(auto, unfolding(crate::specs::FieldLines::read_field))]
 pub fn read_field_line(text: &[u8]) -> Option<FieldLine<'_>>
     ensures { MatchOption result (read_field text.now ≡ None) (λ f. read_field text.now ≡ Some (record { name = f.name.now; value = f.value.now })) }
 {
-    match place_of_colon(text) {
+    match place(text, b':') {
         Some(at) => field_from(&text[..at], &text[at + 1..]),
         None => None,
     }

@@ -5,13 +5,13 @@ ghost use Rattle.std.specs.Str.{str_eq_ignore_ascii_case};
 ghost use Rattle.px_head.specs.Names.{has_name as has_name_spec, has_field as has_field_spec, first_field as first_field_spec, lists_word as lists_word_spec, is_connection_word as is_connection_word_spec, is_among as is_among_spec, connection_names, request_names, is_held_back_of_request as is_held_back_of_request_spec, is_held_back_of_response as is_held_back_of_response_spec};
 
 use crate::fields::Field;
-use px_base::{cut, trim};
+use px_base::{cut, same_without_case, trim};
 
 /// Whether the field has that name, without case (RFC 9110, section 5.1).
 pub fn has_name(field: &Field, name: &[u8]) -> bool
     ensures { result ≡ has_name_spec name.now field.now }
 {
-    field.name.as_bytes().eq_ignore_ascii_case(name)
+    same_without_case(field.name.as_bytes(), name)
 }
 
 /// Whether a field of that name stands.
@@ -36,7 +36,7 @@ pub fn lists_word(word: &[u8], value: &[u8]) -> bool
     let mut rest = Some(value);
     'words: while let Some(bytes) = rest {
         let (first, more) = cut(bytes, b',');
-        if trim(first).eq_ignore_ascii_case(word) {
+        if same_without_case(trim(first), word) {
             return true;
         }
         rest = more;
@@ -102,5 +102,5 @@ fn is_among(names: &[&str], name: &[u8]) -> bool
 {
     names
         .iter()
-        .any(|one| one.as_bytes().eq_ignore_ascii_case(name))
+        .any(|one| same_without_case(one.as_bytes(), name))
 }
