@@ -1,3 +1,4 @@
+mod Cutting
 pub mod LineLemmas
 pub mod BlockLemmas
 pub mod SearchLemmas

@@ -14,6 +14,13 @@ fault_name Malformed = codes "Malformed"
 fault_name TooManyFields = codes "TooManyFields"
 fault_name Mem = codes "Mem"
 
+-- the refusal of a head over the limit, which is no fault of a reader but where its block ends
+abbrev pub too_long_number : ℕ
+too_long_number = 36
+
+abbrev pub too_long_name : List ℕ
+too_long_name = codes "TooLong"
+
 -- the fault is the answer, or memory was wanting
 abbrev pub IsRefused : {T : Type 0} → Result T HeadFault → HeadFault → Type 0
 IsRefused result fault = MatchResult result (λ _. ⊥) (λ e. (e ≡ fault) ⊎ (e ≡ Mem))

@@ -3,7 +3,10 @@
 
 mod blocks;
 mod faults;
+mod field_lines;
 mod fields;
+mod laws;
+mod names;
 mod prints;
 mod requests;
 mod responses;
@@ -13,7 +16,13 @@ mod tests;
 
 pub use blocks::{HeadEnd, find_head};
 pub use faults::{HeadFault, TOO_LONG_NAME, TOO_LONG_NUMBER};
+pub use field_lines::{FieldLine, is_token, read_field_line};
 pub use fields::Field;
+pub use laws::constants;
+pub use names::{
+    first_field, has_field, has_name, is_connection_word, is_held_back_of_request,
+    is_held_back_of_response, lists_word,
+};
 pub use prints::print_head;
 pub use requests::RequestHead;
 pub use responses::ResponseHead;

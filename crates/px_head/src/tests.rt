@@ -1,7 +1,8 @@
 //! Heads found, read and printed.
 use crate::{
     FIELD_LIMIT, Field, HEAD_LIMIT, HeadEnd, HeadFault, HeadSearch, RequestHead, ResponseHead,
-    find_head, print_head,
+    TOO_LONG_NAME, TOO_LONG_NUMBER, find_head, first_field, has_field, is_connection_word,
+    is_held_back_of_request, is_held_back_of_response, print_head, read_field_line,
 };
 use px_base::Text;
 use std::alloc::Global;
@@ -169,6 +170,8 @@ fn what_is_no_whole_head_is_malformed(rt: HostRuntime) {
     }
     assert!(rt; HeadFault::Malformed.number() == 34 && HeadFault::TooManyFields.number() == 35);
     assert_eq!(rt; HeadFault::Malformed.name(), "Malformed");
+    assert_eq!(rt; HeadFault::TooManyFields.name(), "TooManyFields");
+    assert!(rt; TOO_LONG_NUMBER == 36 && TOO_LONG_NAME == "TooLong");
 }
 
 #[test]
@@ -207,5 +210,66 @@ fn a_response_keeps_its_reason_as_it_came(rt: HostRuntime) {
     for (block, line) in rows {
         let head = ResponseHead::read(alloc, block).expect(&rt, "a head");
         assert!(rt; head.first_line(alloc).expect(&rt, "memory").as_bytes() == line);
+    }
+}
+
+#[test]
+fn fields_are_found_by_their_names(rt: HostRuntime) {
+    let block =
+        b"GET / HTTP/1.1\r\nA: 1\r\nCONNECTION: close, X-A\r\na: 2\r\nconnection:\tTE \r\n\r\n";
+    let head = RequestHead::read(rt.alloc(), block).expect(&rt, "a head");
+    let fields = head.fields.as_slice();
+    assert!(rt;
+        first_field(fields, b"a").is_some_and(|field| field.value.as_bytes() == b"1".as_slice())
+    );
+    assert!(rt; has_field(fields, b"Connection") && !has_field(fields, b"Connectio"));
+    for word in [b"CLOSE".as_slice(), b"x-a", b"te"] {
+        assert!(rt; is_connection_word(word, fields));
+    }
+    for word in [b"a".as_slice(), b"close,", b"x"] {
+        assert!(rt; !is_connection_word(word, fields));
+    }
+}
+
+#[test]
+fn eight_names_are_held_back_and_three_more_of_a_request(rt: HostRuntime) {
+    let rows: [&[u8]; 8] = [
+        b"connection",
+        b"proxy-connection",
+        b"keep-alive",
+        b"te",
+        b"trailer",
+        b"transfer-encoding",
+        b"upgrade",
+        b"content-length",
+    ];
+    for name in rows {
+        assert!(rt; is_held_back_of_request(name) && is_held_back_of_response(name));
+    }
+    for name in [b"HOST".as_slice(), b"EXPECT", b"PROXY-AUTHORIZATION"] {
+        assert!(rt; is_held_back_of_request(name) && !is_held_back_of_response(name));
+    }
+    for name in [b"Authorization".as_slice(), b"Via", b"", b"T"] {
+        assert!(rt; !is_held_back_of_request(name) && !is_held_back_of_response(name));
+    }
+}
+
+#[test]
+fn a_field_line_is_a_token_a_colon_and_a_value(rt: HostRuntime) {
+    let rows: [(&[u8], &[u8], &[u8]); 4] = [
+        (b"X:   2", b"X", b"2"),
+        (b"x-a|1: b: c\t", b"x-a|1", b"b: c"),
+        (b"A:", b"A", b""),
+        (b"A: \x01", b"A", b"\x01"),
+    ];
+    for (text, name, value) in rows {
+        let line = read_field_line(text).expect(&rt, "a field line");
+        assert!(rt; line.name == name && line.value == value);
+    }
+    let none: [&[u8]; 8] = [
+        b"", b"A", b": b", b"A : b", b" A: b", b"A: b\r", b"A: b\nc", b"A: \0",
+    ];
+    for text in none {
+        assert!(rt; read_field_line(text).is_none());
     }
 }

@@ -1,0 +1,106 @@
+// Fields by their names, the words of Connection fields, and the fields that a proxy doesn't pass on.
+ghost use Rattle.std.specs.Prelude.{◌≡◌, option_copied};
+ghost use Rattle.std.specs.List.{list_any};
+ghost use Rattle.std.specs.Str.{str_eq_ignore_ascii_case};
+ghost use Rattle.px_head.specs.Names.{has_name as has_name_spec, has_field as has_field_spec, first_field as first_field_spec, lists_word as lists_word_spec, is_connection_word as is_connection_word_spec, is_among as is_among_spec, connection_names, request_names, is_held_back_of_request as is_held_back_of_request_spec, is_held_back_of_response as is_held_back_of_response_spec};
+
+use crate::fields::Field;
+use px_base::{cut, same_without_case, trim};
+
+/// Whether the field has that name, without case (RFC 9110, section 5.1).
+pub fn has_name(field: &Field, name: &[u8]) -> bool
+    ensures { result ≡ has_name_spec name.now field.now }
+{
+    same_without_case(field.name.as_bytes(), name)
+}
+
+/// Whether a field of that name stands.
+pub fn has_field(fields: &[Field], name: &[u8]) -> bool
+    ensures { result ≡ has_field_spec name.now fields.now }
+{
+    fields.iter().any(|field| has_name(field, name))
+}
+
+/// The first field of that name.
+pub fn first_field<'a>(fields: &'a [Field], name: &[u8]) -> Option<&'a Field>
+    ensures { option_copied result ≡ first_field_spec name.now fields.now }
+{
+    fields.iter().find(|field| has_name(field, name))
+}
+
+/// Whether the word is one of a list between commas, without the white space around it and without case.
+#[tactic(auto, unfolding(crate::specs::Names::lists_word))]
+pub fn lists_word(word: &[u8], value: &[u8]) -> bool
+    ensures { result ≡ lists_word_spec word.now value.now }
+{
+    let mut rest = Some(value);
+    'words: while let Some(bytes) = rest {
+        let (first, more) = cut(bytes, b',');
+        if same_without_case(trim(first), word) {
+            return true;
+        }
+        rest = more;
+    }
+    false
+}
+
+/// Whether the word is one of those of the Connection fields (RFC 9110, section 7.6.1).
+pub fn is_connection_word(word: &[u8], fields: &[Field]) -> bool
+    ensures { result ≡ is_connection_word_spec word.now fields.now }
+{
+    fields.iter().any(|field| has_name(field, b"Connection")
+        && lists_word(word, field.value.as_bytes()))
+}
+
+/// The names of fields that speak of one connection alone (RFC 9110, section 7.6.1), and Content-Length.
+const CONNECTION_NAMES: [&str; 8] = [
+    "Connection",
+    "Proxy-Connection",
+    "Keep-Alive",
+    "TE",
+    "Trailer",
+    "Transfer-Encoding",
+    "Upgrade",
+    "Content-Length",
+];
+
+/// The further names that a proxy answers for in a request.
+const REQUEST_NAMES: [&str; 3] = ["Host", "Expect", "Proxy-Authorization"];
+
+/// Whether a field of that name isn't passed on of a request: the eight of a response, Host, Expect and
+/// Proxy-Authorization.
+#[tactic(auto, unfolding(crate::specs::Names::is_held_back_of_request))]
+pub fn is_held_back_of_request(name: &[u8]) -> bool
+    ensures { result ≡ is_held_back_of_request_spec name.now }
+{
+    is_connection_name(name) || is_request_name(name)
+}
+
+/// Whether a field of that name isn't passed on of a response: Connection, Proxy-Connection, Keep-Alive, TE, Trailer,
+/// Transfer-Encoding, Upgrade and Content-Length.
+#[tactic(auto, unfolding(crate::specs::Names::is_held_back_of_response))]
+pub fn is_held_back_of_response(name: &[u8]) -> bool
+    ensures { result ≡ is_held_back_of_response_spec name.now }
+{
+    is_connection_name(name)
+}
+
+fn is_connection_name(name: &[u8]) -> bool
+    ensures { result ≡ is_among_spec connection_names name.now }
+{
+    is_among(&CONNECTION_NAMES, name)
+}
+
+fn is_request_name(name: &[u8]) -> bool
+    ensures { result ≡ is_among_spec request_names name.now }
+{
+    is_among(&REQUEST_NAMES, name)
+}
+
+fn is_among(names: &[&str], name: &[u8]) -> bool
+    ensures { result ≡ list_any (λ one. str_eq_ignore_ascii_case one.now name.now) names.now }
+{
+    names
+        .iter()
+        .any(|one| same_without_case(one.as_bytes(), name))
+}
