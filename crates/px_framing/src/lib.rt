@@ -2,8 +2,10 @@
 //! any pieces.
 #![tactic(auto)]
 
+mod extracts;
 mod laws;
 mod lines;
+mod passes;
 mod places;
 mod readers;
 mod rules;
@@ -12,8 +14,8 @@ mod stages;
 #[cfg(test)]
 mod tests;
 
-pub use laws::{cuts_agree, raw_is_whole};
+pub use laws::{body_is_one, body_is_read, cuts_agree, raw_is_whole, read_is_said};
 pub use places::{Place, State};
-pub use readers::{BODY_LIMIT, BodyReader, Fed};
+pub use readers::{BODY_LIMIT, BodyReader, Fed, Passed};
 pub use rules::{BodyFault, BodyRule, request_body, response_body};
 pub use stages::Stage;

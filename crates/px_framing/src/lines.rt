@@ -101,7 +101,7 @@ fn read_size(text: &[u8]) -> Option<u64>
 
 /// What comes after the line, if it may stand there.
 #[tactic(auto, unfolding(crate::specs::Lines::may_stand, crate::specs::Lines::after))]
-fn next_place(place: Place, text: &[u8]) -> Option<Place>
+pub fn next_place(place: Place, text: &[u8]) -> Option<Place>
     ensures { MatchOption result (may_stand place text.now ≡ false) (λ next. IsTrue (may_stand place text.now) × (next ≡ after place text.now)) }
 {
     match place {

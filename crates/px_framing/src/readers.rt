@@ -1,8 +1,10 @@
 // Reads a body that comes in pieces.
 ghost use Rattle.std.specs.Prelude.{◌≡◌, ◌≢◌, ◌+◌, ◌-◌, ◌==◌, ◌++◌, [], ◌<◌, ◌≤◌, length, take, min, false, true, List, ℕ, OnErr, OnOk, IfOk, vec_len, vec_capacity, if◌then◌else◌};
 ghost use Rattle.px_framing.specs.Reading.{Advances, IsHeld, IsSettledAt, Room, Uses, end_state as end_state_spec, first_stage as first_stage_spec, is_ended as is_ended_spec, is_last, stage_before as stage_before_spec, stage_state};
+ghost use Rattle.px_framing.specs.Passing.{PassesOn, bytes_left, settled};
 
 use crate::lines::front;
+use crate::passes::pass_piece;
 use crate::places::{Place, State};
 use crate::rules::BodyRule;
 use crate::runs::{append, take_piece};
@@ -21,6 +23,18 @@ pub const BODY_LIMIT: u64 = 9_223_372_036_854_775_807;
 /// What a call of `feed` did.
 #[derive(Clone, Copy, Debug, PartialEq, Eq)]
 pub struct Fed {
+    /// How many bytes of the piece belong to the body, or were looked at as a faulty element.
+    pub used: usize,
+    /// How the body stands behind them.
+    pub state: State,
+}
+
+/// What a call of `pass` did. The raw bytes that it settled are the line that it added and then the first `whole` bytes of the
+/// piece.
+#[derive(Clone, Copy, Debug, PartialEq, Eq)]
+pub struct Passed {
+    /// How many bytes at the front of the piece end with a whole element.
+    pub whole: usize,
     /// How many bytes of the piece belong to the body, or were looked at as a faulty element.
     pub used: usize,
     /// How the body stands behind them.
@@ -47,7 +61,8 @@ impl Model for BodyReader {
 impl BodyReader {
     ghost use Rattle.px_framing.specs.Body.{Body, at_end};
     ghost use Rattle.px_framing.specs.declared.rules.BodyRule.{BodyRule};
-    ghost use Rattle.px_framing.specs.Reading.{After, IsSettled, Steps, added, first};
+    ghost use Rattle.px_framing.specs.Reading.{After, IsSettled, Steps, added, before, first};
+    ghost use Rattle.px_framing.specs.Passing.{bytes_left, data_in, due};
 
     /// A reader at the start of a body, which has put out nothing. It takes no memory.
     pub fn new(alloc: Global, rule: BodyRule) -> BodyReader
@@ -110,9 +125,49 @@ impl BodyReader {
         }
     }
 
+    /// Takes the next piece and copies none of its bytes: the raw bytes that are settled by it are those that go to the end of
+    /// `line`, of a line that an earlier piece began, and then the first `whole` bytes of the piece. After `Mem` nothing has
+    /// changed.
+    pub fn pass(&mut self, piece: &[u8], line: &mut Text) -> Result<Passed, Mem>
+        ensures steps { IfOk result (λ p. Steps self.old piece.now (added line.old line.new ++ take p.whole piece.now) (data_in self.old piece.now) p.used self.new) }
+        ensures due { IfOk result (λ p. (rest : List ℕ) → due self.old (piece.now ++ rest) ≡ before (added line.old line.new ++ take p.whole piece.now) (data_in self.old piece.now) p.used (due self.new rest)) }
+        ensures line { IfOk result (λ p. line.new ≡ line.old ++ added line.old line.new) }
+        ensures short { IfOk result (λ p. length (added line.old line.new) ≤ 8192) }
+        ensures whole { IfOk result (λ p. p.whole ≤ p.used) }
+        ensures state { IfOk result (λ p. p.state ≡ stage_state self.new.stage) }
+        ensures used { IfOk result (λ p. Uses piece.now p.used p.state) }
+        ensures left { IfOk result (λ p. p.state ≡ State.More → bytes_left self.new.stage + p.used ≡ bytes_left self.old.stage) }
+        ensures stays { stage_state self.old.stage ≢ State.More → IfOk result (λ p. (p.used ≡ 0) × (self.new ≡ self.old)) }
+        ensures after { IfOk result (λ p. (rule : BodyRule) (bytes raw_put plain_put : List ℕ) (count : ℕ) → After rule bytes raw_put plain_put count self.old
+            → After rule (bytes ++ piece.now) (raw_put ++ (added line.old line.new ++ take p.whole piece.now)) (plain_put ++ data_in self.old piece.now) (count + p.used) self.new) }
+        ensures body { IfOk result (λ p. (rule : BodyRule) (bytes raw_put plain_put : List ℕ) (count : ℕ) → After rule bytes raw_put plain_put count self.old
+            → Body rule (bytes ++ piece.now) (record { raw = raw_put ++ (added line.old line.new ++ take p.whole piece.now); plain = plain_put ++ data_in self.old piece.now; used = count + p.used; state = p.state })) }
+        ensures kept { length self.new.kept ≤ 8192 }
+        ensures err { OnErr result ((self.new ≡ self.old) × (line.new ≡ line.old)) }
+    {
+        let len = line.len();
+        line.push_all(self.kept.as_slice())?;
+        match pass_on(self.stage, &mut self.kept, piece) {
+            Ok(progress) => {
+                settle_line(line, len, progress.whole);
+                self.stage = progress.stage;
+                Ok(Passed {
+                    whole: progress.whole,
+                    used: progress.used,
+                    state: state_of(progress.stage),
+                })
+            }
+            Err(Mem) => {
+                line.truncate(len);
+                Err(Mem)
+            }
+        }
+    }
+
     /// Takes the end of the bytes: a body to the close is whole, and any other that isn't is cut. It takes no memory.
     pub fn end(&mut self) -> State
         ensures state { result ≡ end_state_spec self.old.stage }
+        ensures due { result ≡ (due self.old []).state }
         ensures ended { self.new ≡ record { stage = Stage.Ended result; kept = [] } }
         ensures by_rule { (rule : BodyRule) (bytes raw plain : List ℕ) (count : ℕ) → After rule bytes raw plain count self.old → result ≡ at_end rule (stage_state self.old.stage) }
     {
@@ -339,5 +394,121 @@ fn is_ended(stage: Stage) -> bool
         Stage::Bytes(_) => false,
         Stage::Rest(_) => false,
         Stage::Chunks(_, _) => false,
+    }
+}
+
+/// How far a piece was passed, and the stage behind it.
+#[derive(Clone, Copy)]
+struct Far {
+    whole: usize,
+    used: usize,
+    stage: Stage,
+}
+
+/// Passes the bytes of a piece that belong to the body.
+fn pass_on(stage: Stage, kept: &mut Vec<u8>, piece: &[u8]) -> Result<Far, Mem>
+    requires settled { IsSettledAt stage kept.old.items }
+    requires short { length kept.old.items ≤ 8192 }
+    ensures passes { IfOk result (λ a. PassesOn stage kept.old.items piece.now (settled kept.old.items piece.now a.whole) a.used a.stage kept.new.items) }
+    ensures settled { IfOk result (λ a. IsSettledAt a.stage kept.new.items) }
+    ensures whole { IfOk result (λ a. a.whole ≤ a.used) }
+    ensures used { IfOk result (λ a. Uses piece.now a.used (stage_state a.stage)) }
+    ensures left { IfOk result (λ a. stage_state a.stage ≡ State.More → bytes_left a.stage + a.used ≡ bytes_left stage) }
+    ensures stays { stage_state stage ≢ State.More → IfOk result (λ a. (a.used ≡ 0) × (a.stage ≡ stage) × (kept.new.items ≡ kept.old.items)) }
+    ensures short { length kept.new.items ≤ 8192 }
+    ensures err { OnErr result (kept.new.items ≡ kept.old.items) }
+{
+    match stage {
+        Stage::Ended(state) => Ok(Far {
+            whole: 0,
+            used: 0,
+            stage: Stage::Ended(state),
+        }),
+        Stage::Bytes(left) => Ok(pass_bytes(left, piece)),
+        Stage::Rest(room) => Ok(pass_rest(room, piece)),
+        Stage::Chunks(place, room) => pass_chunks(place, room, kept, piece),
+    }
+}
+
+fn pass_bytes(left: u64, piece: &[u8]) -> Far
+    requires { 0 < left }
+    ensures passes { PassesOn (Stage.Bytes left) [] piece.now (settled [] piece.now result.whole) result.used result.stage [] }
+    ensures settled { IsSettledAt result.stage [] }
+    ensures whole { result.whole ≤ result.used }
+    ensures used { Uses piece.now result.used (stage_state result.stage) }
+    ensures left { stage_state result.stage ≡ State.More → bytes_left result.stage + result.used ≡ left }
+{
+    if left <= piece.len() as u64 {
+        Far {
+            whole: left as usize,
+            used: left as usize,
+            stage: Stage::Ended(State::Whole),
+        }
+    } else {
+        Far {
+            whole: piece.len(),
+            used: piece.len(),
+            stage: Stage::Bytes(left - piece.len() as u64),
+        }
+    }
+}
+
+fn pass_rest(room: u64, piece: &[u8]) -> Far
+    requires { 0 < room }
+    ensures passes { PassesOn (Stage.Rest room) [] piece.now (settled [] piece.now result.whole) result.used result.stage [] }
+    ensures settled { IsSettledAt result.stage [] }
+    ensures whole { result.whole ≤ result.used }
+    ensures used { Uses piece.now result.used (stage_state result.stage) }
+    ensures left { stage_state result.stage ≡ State.More → bytes_left result.stage + result.used ≡ room }
+{
+    if room <= piece.len() as u64 {
+        Far {
+            whole: room as usize,
+            used: room as usize,
+            stage: Stage::Ended(State::Cut),
+        }
+    } else {
+        Far {
+            whole: piece.len(),
+            used: piece.len(),
+            stage: Stage::Rest(room - piece.len() as u64),
+        }
+    }
+}
+
+fn pass_chunks(place: Place, room: u64, kept: &mut Vec<u8>, piece: &[u8]) -> Result<Far, Mem>
+    requires held { IsHeld place kept.old.items }
+    requires more { is_last place ≡ false }
+    requires room { 0 < room }
+    requires short { length kept.old.items ≤ 8192 }
+    ensures passes { IfOk result (λ a. PassesOn (Stage.Chunks place room) kept.old.items piece.now (settled kept.old.items piece.now a.whole) a.used a.stage kept.new.items) }
+    ensures settled { IfOk result (λ a. IsSettledAt a.stage kept.new.items) }
+    ensures whole { IfOk result (λ a. a.whole ≤ a.used) }
+    ensures used { IfOk result (λ a. Uses piece.now a.used (stage_state a.stage)) }
+    ensures left { IfOk result (λ a. stage_state a.stage ≡ State.More → bytes_left a.stage + a.used ≡ room) }
+    ensures short { length kept.new.items ≤ 8192 }
+    ensures err { OnErr result (kept.new.items ≡ kept.old.items) }
+{
+    let bytes = front(piece, room);
+    kept.reserve(LINE - kept.len())?;
+    let reach = pass_piece(place, kept, bytes);
+    let stage = stage_before(reach.next, room - reach.used as u64);
+    if is_ended(stage) {
+        kept.clear();
+    }
+    Ok(Far {
+        whole: reach.whole,
+        used: reach.used,
+        stage,
+    })
+}
+
+/// Drops the line that was put behind the first `len` bytes, unless whole elements end.
+fn settle_line(line: &mut Text, len: usize, whole: usize)
+    ensures none { whole ≡ 0 → line.new ≡ take len line.old }
+    ensures some { 0 < whole → line.new ≡ line.old }
+{
+    if whole == 0 {
+        line.truncate(len);
     }
 }
