@@ -12,7 +12,7 @@ use Rattle.px_framing.specs.declared.stages.Stage.TheVariants as stage
 use Rattle.px_framing.specs.declared.rules.BodyRule.{BodyRule}
 use Rattle.px_framing.specs.declared.rules.BodyRule.TheVariants as rule
 use Rattle.px_framing.specs.Lines.{crlf, may_stand, after, data_place, IsOpen, NoLine}
-use Rattle.px_framing.specs.Elements.{Element, print, data_of, Leads}
+use Rattle.px_framing.specs.Elements.{Element, print, data_of, Leads, AreWhole}
 use Rattle.px_framing.specs.Body.{Part, nothing, first_bytes, body_limit, Says, KeepsLimit, AreElements, IsBody, IsChunked, Body}
 use Rattle.px_framing.specs.Reading.{before, ends_in_cr, without_last, verdict_of, step, reads, goes_on, reads_on, capped, cut_state, state_at, stage_state, is_line, is_last, first, IsHeld, IsSettled, After, Reading}
 use Rattle.px_framing.proofs.LineLemmas.{wrong_after_cr, wrong_cr, wrong_byte, open_cr}
@@ -208,6 +208,10 @@ module _ (bs : List ℕ) (on : (p : Place) (k : List ℕ) → IsHeld p k → p �
 found : (bs : List ℕ) (p : Place) (k : List ℕ) → IsHeld p k → p ≢ Wrong → Found p k bs (reads p k bs)
 found [] p k h w = subst (Found p k []) (sym (reads-none p k)) (found-none p k [] h w (λ e. refl))
 found (b ∷ bs) p k h w = by-byte bs (λ q j. found bs q j) p k b h w
+
+-- what is read from a place are whole elements and their data
+pub whole-from : (bs : List ℕ) (p : Place) (k : List ℕ) → IsHeld p k → p ≢ Wrong → AreWhole p (reads p k bs).raw (reads p k bs).plain
+whole-from bs p k h w = let f = found bs p k h w in record { elements = f.elements; next = f.next; leads = f.leads; bytes_are = f.raw_is; data_is = f.plain_is }
 
 -- ---- whole bytes
 

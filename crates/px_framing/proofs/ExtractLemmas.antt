@@ -53,8 +53,7 @@ run-step k n bytes data_bytes next (Element.byte x ∷ es) on short l b d =
     let mid : l.0 ≡ data_place n = l.1.2 ∙ ap data_place (sym left) in
     let len = ap (λ (v : List ℕ). length v) b in
     let inner = on (flat_map print es) (flat_map data_of es) (omega arith) (record { elements = es; next = next; leads = subst (λ (p : Place). Leads p es next) mid l.2; bytes_are = refl; data_is = refl }) in
-    let count : n - k ≡ suc n - suc k = omega arith in
-    (
+    let count : n - k ≡ suc n - suc k = omega arith in (
       inner.0,
       subst (λ (m : ℕ). AreWhole (data_place m) (drop (suc k) bytes) inner.0) count (subst (λ (v : List ℕ). AreWhole (data_place (n - k)) v inner.0) (sym (ap (drop (suc k)) b)) inner.1),
       d ∙ ap (λ (v : List ℕ). x ∷ v) inner.2 ∙ ap (λ (v : List ℕ). take (suc k) v ++ inner.0) (sym b),

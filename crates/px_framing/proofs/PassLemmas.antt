@@ -1,17 +1,19 @@
 -- What is passed on of a piece.
-use Rattle.std.proofs.Common.{◌≡◌, ℕ, zero, suc, ◌+◌, ◌-◌, ◌<◌, ◌≤◌, Bool, true, false, ◌==◌, cond, min, List, [], ◌∷◌, ◌++◌, length, take, drop, refl, sym, ◌∙◌, ap, subst, arith, append_assoc, length-append, length-take}
+use Rattle.std.proofs.Common.{◌≡◌, ◌≢◌, ℕ, zero, suc, ◌+◌, ◌-◌, ◌<◌, ◌≤◌, Bool, true, false, ◌==◌, cond, min, List, [], ◌∷◌, ◌++◌, length, take, drop, refl, sym, ◌∙◌, ap, subst, arith, append_assoc, length-append, length-take}
 use Rattle.std.proofs.lemmas.List.{append-nil, take_all, take-take, length-take-le}
 use Rattle.std.proofs.Math.Seq.{drop-append_seam}
 use Rattle.std.proofs.lemmas.Bool.Decides.{nat_tests}
 use Rattle.px_framing.specs.declared.places.Place.{Place}
+use Rattle.px_framing.specs.declared.places.Place.TheVariants.{Size, Data, Gap, Trailers, Done, Wrong}
 use Rattle.px_framing.specs.declared.stages.Stage.{Stage}
 use Rattle.px_framing.specs.declared.stages.Stage.TheVariants as stage
 use Rattle.px_framing.specs.declared.places.State.{State}
 use Rattle.px_framing.specs.Body.{Part, nothing, first_bytes}
-use Rattle.px_framing.specs.Reading.{before, reads, reads_on, goes_on, is_ended, is_last, is_to_close, end_state, stage_before, stage_state, Advances, KeepsKind, Moves, Reading, Steps, IsSettled, IsSettledAt}
+use Rattle.px_framing.specs.Reading.{before, reads, reads_on, goes_on, is_ended, is_last, is_to_close, end_state, stage_before, stage_state, state_at, IsHeld, Uses, Advances, KeepsKind, Moves, Reading, Steps, IsSettled, IsSettledAt}
 use Rattle.px_framing.specs.declared.places.State.TheVariants.{More, Whole, Cut, Misframed}
-use Rattle.px_framing.specs.Passing.{Goes, PassesOn, settled, data_in, due, last_state}
+use Rattle.px_framing.specs.Passing.{Goes, PassesOn, settled, bytes_left, data_in, due, last_state, IsDataOf}
 use Rattle.px_framing.proofs.MoveLemmas.{moves-more, taken-on}
+use Rattle.px_framing.proofs.BodyLemmas.{whole-from}
 use Rattle.px_framing.proofs.StepLemmas.{chunks-advance, first-all, first-part, nothing-left}
 
 -- a move is a passing, and the other way round
@@ -55,6 +57,15 @@ all-step k k1 k2 piece at used whole true some all fresh grows =
 all-step k k1 k2 piece at used whole false some all fresh grows =
     ap (λ (w : List ℕ). settled k piece whole ++ w) (grows refl) ∙ all-taken k k1 (settled k piece whole) piece at used all
 
+-- little is kept
+pub kept-len : (k k1 piece : List ℕ) (at whole : ℕ) → settled k piece whole ++ k1 ≡ k ++ take at piece → length k1 ≤ length k + at
+kept-len k k1 piece at whole all =
+    let left = length-append (settled k piece whole) k1 in
+    let right = length-append k (take at piece) in
+    let same = ap (λ (w : List ℕ). length w) all in
+    let few = length-take at piece in
+    omega arith
+
 -- ---- stages
 
 pub passes-of : (old new : Stage) (kept piece r q : List ℕ) (used : ℕ) (kept' : List ℕ) → Advances old kept piece [] r [] q used new kept' → PassesOn old kept piece r used new kept'
@@ -70,6 +81,47 @@ chunks-pass p n room used whole k k' kept' piece s is within fits all g keeps =
     subst (λ (w : List ℕ). PassesOn (stage.Chunks p room) k piece w used s kept') (window k piece whole room (omega arith))
     (passes-of (stage.Chunks p room) s k piece (settled k (take room piece) whole) g.data_put used kept'
     (chunks-advance p n room used k k' kept' piece [] (settled k (take room piece) whole) [] g.data_put s is fits all (moves-of p n k (take used (take room piece)) (settled k (take room piece) whole) k' g) keeps))
+
+last-not-more : (p : Place) → is_last p ≡ true → state_at p ≡ More → ⊥
+last-not-more Size l e = cc
+last-not-more (Data n) l e = cc
+last-not-more Gap l e = cc
+last-not-more (Trailers n) l e = cc
+last-not-more Done l e = cc
+last-not-more Wrong l e = cc
+
+settled-at : (last full : Bool) (n : Place) (room : ℕ) (s : Stage) (k k' : List ℕ) → is_last n ≡ last → (room == 0) ≡ full → s ≡ cond last (stage.Ended (state_at n)) (cond full (stage.Ended Cut) (stage.Chunks n room)) → IsHeld n k
+    → (is_ended s ≡ true → k' ≡ []) → (is_ended s ≡ false → k' ≡ k) → IsSettledAt s k'
+settled-at true full n room s k k' e f is held clear same = subst (λ (t : Stage). IsSettledAt t k') (sym is) (clear (ap is_ended is), last-not-more n e)
+settled-at false true n room s k k' e f is held clear same = subst (λ (t : Stage). IsSettledAt t k') (sym is) (clear (ap is_ended is), λ x. cc)
+settled-at false false n room s k k' e f is held clear same =
+    let some : 0 < room = grind (arith, nat_tests) in
+    subst (λ (t : Stage). IsSettledAt t k') (sym is) (subst (IsHeld n) (sym (same (ap is_ended is))) held, e, some)
+
+-- the stage behind a piece is settled
+pub settled-before : (n : Place) (room : ℕ) (s : Stage) (k k' : List ℕ) → s ≡ stage_before n room → IsHeld n k → (is_ended s ≡ true → k' ≡ []) → (is_ended s ≡ false → k' ≡ k) → IsSettledAt s k'
+settled-before n room s k k' is held clear same = settled-at (is_last n) (room == 0) n room s k k' refl refl is held clear same
+
+more-from : (last full : Bool) (n : Place) (room : ℕ) (s : Stage) → is_last n ≡ last → (room == 0) ≡ full → s ≡ cond last (stage.Ended (state_at n)) (cond full (stage.Ended Cut) (stage.Chunks n room)) → stage_state s ≡ More
+    → (is_last n ≡ false) × (0 < room) × (s ≡ stage.Chunks n room)
+more-from true full n room s e f is more = absurd (last-not-more n e (sym (ap stage_state is) ∙ more))
+more-from false true n room s e f is more = absurd (let both : Cut ≡ More = sym (ap stage_state is) ∙ more in cc)
+more-from false false n room s e f is more = (e, (let some : 0 < room = grind (arith, nat_tests) in some), is)
+
+-- a chunked body that may go on behind a piece
+pub more-before : (n : Place) (room : ℕ) (s : Stage) → s ≡ stage_before n room → stage_state s ≡ More → (is_last n ≡ false) × (0 < room) × (s ≡ stage.Chunks n room)
+more-before n room s is more = more-from (is_last n) (room == 0) n room s refl refl is more
+
+-- it used the whole piece
+pub uses-chunks : (n : Place) (room used : ℕ) (s : Stage) (piece : List ℕ) → s ≡ stage_before n (room - used) → used ≤ min room (length piece) → (is_last n ≡ false → used ≡ min room (length piece)) → Uses piece used (stage_state s)
+uses-chunks n room used s piece is fits all = record {
+  within = omega arith;
+  all = λ more. let m = more-before n (room - used) s is more in let whole = all m.0 in let some = m.1 in omega arith;
+}
+
+-- and may take so many fewer
+pub left-chunks : (n : Place) (room used : ℕ) (s : Stage) → s ≡ stage_before n (room - used) → used ≤ room → stage_state s ≡ More → bytes_left s + used ≡ room
+left-chunks n room used s is fits more = let m = more-before n (room - used) s is more in let e : bytes_left s ≡ room - used = ap bytes_left m.2 in omega arith
 
 -- ---- readers
 
@@ -147,3 +199,25 @@ end-due-at (stage.Chunks p n) k h = refl
 
 pub end-due : (r : Reading) → IsSettled r → end_state r.stage ≡ (due r []).state
 end-due r settled_ = end-due-at r.stage r.kept settled_.settled ∙ ap (λ (p : Part). last_state (is_to_close r.stage) p.state) (sym (nothing-left r settled_))
+
+-- ---- data
+
+raw-put : (old new : Reading) (piece put : List ℕ) (used : ℕ) → PassesOn old.stage old.kept piece put used new.stage new.kept → IsSettled new → (goes_on old piece).raw ≡ put
+unfolding goes_on
+raw-put old new piece put used a settled_ =
+    let now : goes_on old piece ≡ before put a.data_put used (goes_on new []) = ap (goes_on old) (sym (append-nil piece)) ∙ a.same [] in
+    ap (λ (x : Part). x.raw) now ∙ ap (λ (x : Part). put ++ x.raw) (nothing-left new settled_) ∙ append-nil put
+
+not-wrong : (p : Place) → is_last p ≡ false → p ≢ Wrong
+not-wrong p e w = let both : true ≡ false = sym (ap is_last w) ∙ e in cc
+
+data-at : (s : Stage) (k piece : List ℕ) → IsSettledAt s k → IsDataOf s (reads_on s k piece).raw (reads_on s k piece).plain
+data-at (stage.Ended t) k piece h = refl
+data-at (stage.Bytes n) k piece h = refl
+data-at (stage.Rest n) k piece h = refl
+data-at (stage.Chunks p room) k piece h = whole-from (take room piece) p k h.0 (not-wrong p h.1)
+
+-- the data of what is settled are those that the reader reads in the piece
+pub data-put : (old new : Reading) (piece put : List ℕ) (used : ℕ) → PassesOn old.stage old.kept piece put used new.stage new.kept → IsSettled old → IsSettled new → IsDataOf old.stage put (data_in old piece)
+unfolding goes_on
+data-put old new piece put used a from to = subst (λ (w : List ℕ). IsDataOf old.stage w (data_in old piece)) (raw-put old new piece put used a to) (data-at old.stage old.kept piece from.settled)

@@ -1,12 +1,12 @@
 // Passes a chunked body on: how far whole elements reach in a piece, without a copy of their bytes.
-ghost use Rattle.std.specs.Prelude.{◌≡◌, ◌+◌, ◌∷◌, ◌++◌, [], ◌<◌, ◌≤◌, length, take, true, false, vec_len, vec_capacity, if◌then◌else◌};
+ghost use Rattle.std.specs.Prelude.{◌≡◌, ◌+◌, ◌∷◌, ◌++◌, [], ◌<◌, ◌≤◌, length, take, min, true, false, vec_len, vec_capacity, if◌then◌else◌};
 ghost use Rattle.px_framing.specs.Lines.{IsOpen};
 ghost use Rattle.px_framing.specs.Reading.{is_last, is_line, IsHeld, Room};
 ghost use Rattle.px_framing.specs.Passing.{Goes, settled};
 
+use crate::advances::append;
 use crate::lines::{judge, line_at};
 use crate::places::{Place, Verdict};
-use crate::runs::{append, is_last_place};
 
 /// A step in a piece: how many bytes it took, whether a whole element ends with them, and what comes next.
 #[derive(Clone, Copy)]
@@ -112,7 +112,7 @@ fn pass_some(place: Place, kept: &mut Vec<u8>, rest: &[u8]) -> Gone
     requires some { 0 < length rest.now }
     requires more { is_last place ≡ false }
     requires held { IsHeld place kept.old.items }
-    requires kept { 8192 ≤ vec_capacity kept.old }
+    requires kept { Room kept.old 1 }
     ensures used { (0 < result.used) × (result.used ≤ length rest.now) }
     ensures held { IsHeld result.next kept.new.items }
     ensures goes { Goes place kept.old.items (take result.used rest.now) (if result.ends then kept.old.items ++ take result.used rest.now else []) result.next kept.new.items }
@@ -149,7 +149,7 @@ pub struct Reach {
 pub fn pass_piece(start: Place, kept: &mut Vec<u8>, piece: &[u8]) -> Reach
     requires more { is_last start ≡ false }
     requires held { IsHeld start kept.old.items }
-    requires kept { 8192 ≤ vec_capacity kept.old }
+    requires kept { min 8192 (length kept.old.items + length piece.now) ≤ vec_capacity kept.old }
     ensures whole { result.whole ≤ result.used }
     ensures used { result.used ≤ length piece.now }
     ensures all { is_last result.next ≡ false → result.used ≡ length piece.now }
@@ -177,5 +177,19 @@ pub fn pass_piece(start: Place, kept: &mut Vec<u8>, piece: &[u8]) -> Reach
         whole,
         used: at,
         next: place,
+    }
+}
+
+/// Nothing comes after this place.
+fn is_last_place(place: Place) -> bool
+    ensures { result ≡ is_last place }
+{
+    match place {
+        Place::Done => true,
+        Place::Wrong => true,
+        Place::Size => false,
+        Place::Data(_) => false,
+        Place::Gap => false,
+        Place::Trailers(_) => false,
     }
 }

@@ -3,7 +3,7 @@ use Rattle.std.proofs.lemmas.List.{take_rest}
 use Rattle.px_framing.specs.Reading.{is_last}
 use Rattle.px_framing.specs.Passing.{Goes, settled}
 use Rattle.px_framing.proofs.HeldLemmas.{held-short}
-use Rattle.px_framing.proofs.PassLemmas.{goes-step, all-step}
+use Rattle.px_framing.proofs.PassLemmas.{goes-step, all-step, kept-len}
 use Rattle.px_framing.proofs.passes.pass_piece.Goals as goal
 
 pub returns-then-is_last_place-clause-goes : goal.returns-then-is_last_place-clause-goes
@@ -30,3 +30,9 @@ loop-at-preserved c =
 
 pub returns-clause-short : goal.returns-clause-short
 returns-clause-short c = omega (arith, held-short _ _ c.loop-at.invariant.held)
+
+pub pass_some-gone-requires-clause-kept : goal.pass_some-gone-requires-clause-kept
+pass_some-gone-requires-clause-kept c =
+    let short = held-short c.loop-at.place _ c.loop-at.invariant.held in
+    let len = kept-len c.args.kept.now.items c.loop-at.kept.items c.args.piece.now c.loop-at.at c.loop-at.whole c.loop-at.invariant.all in
+    omega (arith, short, len)
