@@ -12,14 +12,14 @@ use Rattle.px_framing.specs.declared.stages.Stage.TheVariants as stage
 use Rattle.px_framing.specs.declared.rules.BodyRule.{BodyRule}
 use Rattle.px_framing.specs.declared.rules.BodyRule.TheVariants as rule
 use Rattle.px_framing.specs.Lines.{crlf, may_stand, after, data_place, IsOpen, NoLine}
-use Rattle.px_framing.specs.Elements.{Element, print, data_of, Leads}
-use Rattle.px_framing.specs.Body.{Part, nothing, first_bytes, body_limit, Says, KeepsLimit, IsBody, IsChunked, Body}
+use Rattle.px_framing.specs.Elements.{Element, print, data_of, Leads, AreWhole}
+use Rattle.px_framing.specs.Body.{Part, nothing, first_bytes, body_limit, Says, KeepsLimit, AreElements, IsBody, IsChunked, Body}
 use Rattle.px_framing.specs.Reading.{before, ends_in_cr, without_last, verdict_of, step, reads, goes_on, reads_on, capped, cut_state, state_at, stage_state, is_line, is_last, first, IsHeld, IsSettled, After, Reading}
 use Rattle.px_framing.proofs.LineLemmas.{wrong_after_cr, wrong_cr, wrong_byte, open_cr}
 use Rattle.px_framing.proofs.MoveLemmas.{reads-byte, reads-line-byte}
 use Rattle.px_framing.proofs.HeldLemmas.{cr-front, cr-push, held-open, held-line-end}
 use Rattle.px_framing.proofs.StepLemmas.{nothing-left, reads-last, reads-none, le-yes}
-use Rattle.px_framing.proofs.ElementLemmas.{Ends, not_wrong, fewer, shorter, says_of}
+use Rattle.px_framing.proofs.ElementLemmas.{Ends, not_wrong, fewer, shorter, says_of, one_end, same_length, same_data}
 
 -- what the bytes are read to from a place: whole elements, and what is held back
 record Found (p : Place) (k bytes : List ℕ) (part : Part) : Type 0 where
@@ -209,6 +209,10 @@ found : (bs : List ℕ) (p : Place) (k : List ℕ) → IsHeld p k → p ≢ Wron
 found [] p k h w = subst (Found p k []) (sym (reads-none p k)) (found-none p k [] h w (λ e. refl))
 found (b ∷ bs) p k h w = by-byte bs (λ q j. found bs q j) p k b h w
 
+-- what is read from a place are whole elements and their data
+pub whole-from : (bs : List ℕ) (p : Place) (k : List ℕ) → IsHeld p k → p ≢ Wrong → AreWhole p (reads p k bs).raw (reads p k bs).plain
+whole-from bs p k h w = let f = found bs p k h w in record { elements = f.elements; next = f.next; leads = f.leads; bytes_are = f.raw_is; data_is = f.plain_is }
+
 -- ---- whole bytes
 
 -- the state of a body that is cut at the limit, or isn't
@@ -349,3 +353,20 @@ raw-whole bytes p x e =
       says = subst (λ (s : State). Says s p.raw (length p.raw)) (sym e) (subst (λ (w : List ℕ). IsBody w) (taken ∙ sym same) body);
       limit = subst (KeepsLimit p.state) count x.limit;
     }
+
+-- a body is read to one part
+chunked-one : (bytes : List ℕ) (p q : Part) → IsChunked bytes p → IsChunked bytes q → p ≡ q
+chunked-one bytes p q x y =
+    let e = one_end bytes p.used q.used p.state q.state x.within y.within x.says y.says x.limit y.limit in
+    let takes : take p.used bytes ≡ take q.used bytes = ap (λ n. take n bytes) e.1 in
+    let less = x.longest q.raw q.plain y.held y.next y.elements (takes ∙ y.front) in
+    let more = y.longest p.raw p.plain x.held x.next x.elements (sym takes ∙ x.front) in
+    let raws : p.raw ≡ q.raw = same_length p.raw q.raw x.held y.held (sym x.front ∙ takes ∙ y.front) (omega (arith, less, more)) in
+    let plains : p.plain ≡ q.plain = same_data q.raw p.plain q.plain x.next y.next (subst (λ (w : List ℕ). AreElements w p.plain x.next) raws x.elements) y.elements in
+    λ i. record { raw = raws i; plain = plains i; used = e.1 i; state = e.0 i }
+
+pub body-one : (r : BodyRule) (bytes : List ℕ) (p q : Part) → Body r bytes p → Body r bytes q → p ≡ q
+body-one rule.Absent bytes p q x y = x ∙ sym y
+body-one (rule.Length n) bytes p q x y = x ∙ sym y
+body-one rule.Chunked bytes p q x y = chunked-one bytes p q x y
+body-one rule.ToClose bytes p q x y = x ∙ sym y

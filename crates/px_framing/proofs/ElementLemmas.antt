@@ -8,7 +8,7 @@ use Rattle.px_framing.specs.declared.places.State.{State}
 use Rattle.px_framing.specs.declared.places.State.TheVariants.{More, Whole, Cut, Misframed}
 use Rattle.px_framing.specs.Lines.{crlf, may_stand, after, after_size, size_of, data_place, IsOpen, NoLine}
 use Rattle.px_framing.specs.Elements.{Element, print, data_of, Follows, Leads}
-use Rattle.px_framing.specs.Body.{AreElements, IsBody, CanGoOn, NoBody, Says}
+use Rattle.px_framing.specs.Body.{AreElements, IsBody, CanGoOn, NoBody, Says, KeepsLimit}
 use Rattle.px_framing.proofs.LineLemmas.{Split, split, no_cr}
 
 -- what the state says of what comes next and of the bytes held back
@@ -62,7 +62,7 @@ not_wrong (Data n) text s h = cc
 not_wrong Done text s h = cc
 not_wrong Wrong text s h = cc
 
-no_line : (n : ℕ) (t : List ℕ) (p : Place) → p ≡ Data n → IsTrue (may_stand p t) → ⊥
+pub no_line : (n : ℕ) (t : List ℕ) (p : Place) → p ≡ Data n → IsTrue (may_stand p t) → ⊥
 unfolding may_stand
 no_line n t p e h = let q : IsTrue (may_stand (Data n) t) = subst (λ (p : Place). IsTrue (may_stand p t)) e h in cc
 
@@ -354,3 +354,22 @@ pub same_data : (raw p q : List ℕ) (m n : Place) → AreElements raw p m → A
 same_data raw p q m n a b =
     a.data_is ∙ (same_data_at a.elements b.elements m n (one_reading a.elements b.elements Size m n [] [] a.leads b.leads
     (ap (λ (v : List ℕ). v ++ []) (sym a.bytes_are ∙ b.bytes_are))) ∙ sym b.data_is)
+
+-- bytes have one state and one number of used bytes, those cut at the limit too
+pub one_end : (bytes : List ℕ) (m n : ℕ) (s t : State) → m ≤ length bytes → n ≤ length bytes → Says s bytes m → Says t bytes n → KeepsLimit s m → KeepsLimit t n → (s ≡ t) × (m ≡ n)
+one_end bytes m n Cut Cut h k x y a b = (refl, a ∙ sym b)
+one_end bytes m n Cut More h k x y a b = let l = y.0 in absurd (omega arith)
+one_end bytes m n Cut Whole h k x y a b = absurd (x.1 n (subst IsBody (sym (take-take n m bytes (omega arith))) y))
+one_end bytes m n Cut Misframed h k x y a b = absurd (y.2 (go_within bytes n m (omega arith) x.0))
+one_end bytes m n More Cut h k x y a b = let l = x.0 in absurd (omega arith)
+one_end bytes m n Whole Cut h k x y a b = absurd (y.1 m (subst IsBody (sym (take-take m n bytes (omega arith))) x))
+one_end bytes m n Misframed Cut h k x y a b = absurd (x.2 (go_within bytes m n (omega arith) y.0))
+one_end bytes m n More More h k x y a b = one_state bytes m n More More h k (λ e. cc) (λ e. cc) x y
+one_end bytes m n More Whole h k x y a b = one_state bytes m n More Whole h k (λ e. cc) (λ e. cc) x y
+one_end bytes m n More Misframed h k x y a b = one_state bytes m n More Misframed h k (λ e. cc) (λ e. cc) x y
+one_end bytes m n Whole More h k x y a b = one_state bytes m n Whole More h k (λ e. cc) (λ e. cc) x y
+one_end bytes m n Whole Whole h k x y a b = one_state bytes m n Whole Whole h k (λ e. cc) (λ e. cc) x y
+one_end bytes m n Whole Misframed h k x y a b = one_state bytes m n Whole Misframed h k (λ e. cc) (λ e. cc) x y
+one_end bytes m n Misframed More h k x y a b = one_state bytes m n Misframed More h k (λ e. cc) (λ e. cc) x y
+one_end bytes m n Misframed Whole h k x y a b = one_state bytes m n Misframed Whole h k (λ e. cc) (λ e. cc) x y
+one_end bytes m n Misframed Misframed h k x y a b = one_state bytes m n Misframed Misframed h k (λ e. cc) (λ e. cc) x y

@@ -5,3 +5,5 @@ pub mod StepLemmas
 pub mod ElementLemmas
 pub mod BodyLemmas
 pub mod RuleLemmas
+mod PassLemmas
+mod ExtractLemmas

@@ -1,6 +1,6 @@
 -- A chunked body as a list of elements: size lines, data bytes, the CRLF after each chunk's data, trailer lines and the last
 -- empty line (RFC 9112, section 7.1). All but the data bytes are lines, told apart by the place where they stand.
-use Rattle.std.specs.Prelude.{◌≡◌, ℕ, suc, List, [], ◌∷◌, ◌++◌, IsTrue}
+use Rattle.std.specs.Prelude.{◌≡◌, ℕ, suc, List, [], ◌∷◌, ◌++◌, flat_map, IsTrue}
 use Rattle.px_framing.specs.declared.places.Place.{Place}
 use Rattle.px_framing.specs.declared.places.Place.TheVariants.{Data}
 use Rattle.px_framing.specs.Lines.{crlf, may_stand, after, data_place}
@@ -27,3 +27,11 @@ Follows place (byte b) next = (left : ℕ) × (place ≡ Data (suc left)) × (ne
 abbrev pub Leads : Place → List Element → Place → Type 0
 Leads place [] next = next ≡ place
 Leads place (e ∷ es) next = (mid : Place) × Follows place e mid × Leads mid es next
+
+-- these bytes are whole elements that may stand here one after another, and these are their data
+pub record AreWhole (place : Place) (bytes data_bytes : List ℕ) : Type 0 where
+  pub elements : List Element
+  pub next : Place
+  pub leads : Leads place elements next
+  pub bytes_are : bytes ≡ flat_map print elements
+  pub data_is : data_bytes ≡ flat_map data_of elements

@@ -2,18 +2,26 @@
 //! any pieces.
 #![tactic(auto)]
 
+mod advances;
+mod extracts;
 mod laws;
 mod lines;
+mod passes;
 mod places;
 mod readers;
 mod rules;
-mod runs;
 mod stages;
 #[cfg(test)]
 mod tests;
 
-pub use laws::{cuts_agree, raw_is_whole};
+pub use laws::{body_is_one, body_is_read, cuts_agree, raw_is_whole, read_is_said};
 pub use places::{Place, State};
-pub use readers::{BODY_LIMIT, BodyReader, Fed};
+pub use readers::{BodyReader, Fed, Passed};
 pub use rules::{BodyFault, BodyRule, request_body, response_body};
 pub use stages::Stage;
+
+/// The most bytes of a body: of a stated length, and of one whose length isn't stated.
+pub const BODY_LIMIT: u64 = 9_223_372_036_854_775_807;
+
+/// The most bytes of a line of a chunked body, with its CRLF.
+pub const LINE_LIMIT: usize = 8_192;

@@ -7,19 +7,19 @@ ghost use Rattle.px_base.specs.Blanks.{is_blank};
 ghost use Rattle.px_framing.specs.Lines.{after, behind_while, crlf, front_while, is_extension, is_hex, is_plain, may_stand, size_from, size_of, IsOpen};
 ghost use Rattle.px_framing.specs.Reading.{ends_in_cr, verdict_of};
 
+use crate::LINE_LIMIT;
 use crate::places::{Place, Verdict};
 use memchr::memchr;
 use px_base::is_blank;
 
-/// The most bytes of a size line's text, of a trailer line's text, and of all trailer lines, without the last CRLF.
+/// The most bytes of a size line's text: 256 with its CRLF.
 const SIZE_TEXT: usize = 254;
 
+/// The most bytes of a trailer line's text: `LINE_LIMIT` with its CRLF.
 const TRAILER_TEXT: usize = 8_190;
 
+/// The most bytes of all trailer lines without the last CRLF: two more with it.
 const TRAILERS: usize = 65_534;
-
-/// The most bytes of a line with its CRLF.
-const LINE: u64 = 8_192;
 
 /// The value of a hexadecimal digit.
 fn hex_digit(byte: u8) -> Option<u64>
@@ -101,7 +101,7 @@ fn read_size(text: &[u8]) -> Option<u64>
 
 /// What comes after the line, if it may stand there.
 #[tactic(auto, unfolding(crate::specs::Lines::may_stand, crate::specs::Lines::after))]
-fn next_place(place: Place, text: &[u8]) -> Option<Place>
+pub fn next_place(place: Place, text: &[u8]) -> Option<Place>
     ensures { MatchOption result (may_stand place text.now ≡ false) (λ next. IsTrue (may_stand place text.now) × (next ≡ after place text.now)) }
 {
     match place {
@@ -225,7 +225,7 @@ pub fn line_at(place: Place, bytes: &[u8]) -> Option<Line>
     ensures stands { IfSome result (λ line. IsTrue (may_stand place (take line.text_len bytes.now))) }
     ensures next { IfSome result (λ line. line.next ≡ after place (take line.text_len bytes.now)) }
 {
-    match memchr(b'\n', front(bytes, LINE)) {
+    match memchr(b'\n', front(bytes, LINE_LIMIT as u64)) {
         Some(at) => {
             if at == 0 || bytes[at - 1] != b'\r' {
                 return None;

@@ -3,6 +3,7 @@ ghost use Rattle.std.specs.Prelude.{◌≡◌};
 ghost use Rattle.px_framing.specs.Rules.{are_chunked, codings_name, codings_of, end_chunked, fault_name, fault_number, is_bodiless as is_bodiless_spec, items_of, length_rule, lengths, lengths_name, request_rule, response_rule, same_word as same_word_spec, stands as stands_spec, values};
 ghost use Rattle.px_framing.specs.Seen.{by_lengths as by_lengths_spec, field_seen, length_field, length_seen, seen_all, seen_one};
 
+use crate::BODY_LIMIT;
 use px_base::{cut, read_decimal, trim};
 use px_head::{Field, ResponseHead};
 use std::error::Error;
@@ -73,9 +74,6 @@ impl fmt::Display for BodyFault {
 }
 
 impl Error for BodyFault {}
-
-/// The greatest length of a body.
-const GREATEST_LENGTH: u64 = 9_223_372_036_854_775_807;
 
 /// By which rule a request's body is read (RFC 9112, section 6.3). It takes no memory.
 ///
@@ -245,7 +243,7 @@ fn read_length(field: &Field, seen: Lengths) -> Option<Lengths>
     ensures { result ≡ length_field seen field.now }
 {
     if same_word(field.name.as_bytes(), b"Content-Length") {
-        match read_decimal(field.value.as_bytes(), GREATEST_LENGTH) {
+        match read_decimal(field.value.as_bytes(), BODY_LIMIT) {
             None => None,
             Some(length) => Some(add_length(length, seen)),
         }

@@ -57,6 +57,45 @@ fn fed(
     }
 }
 
+/// Passes the bytes in pieces that end at the cuts, and answers with the raw bytes, how many were used, and the state.
+fn passed(rt: &impl Abort, alloc: Global, bytes: &[u8], cuts: &[usize], ends: bool) -> Got {
+    let mut reader = BodyReader::new(alloc, BodyRule::Chunked);
+    let mut raw = Text::new(alloc);
+    let mut used = 0usize;
+    let mut state = reader.state();
+    let mut at = 0usize;
+    for cut in cuts {
+        if at <= *cut && *cut <= bytes.len() {
+            let piece = &bytes[at..*cut];
+            let took = reader.pass(piece, &mut raw).expect(rt, "memory");
+            if took.whole <= piece.len() {
+                raw.push_all(&piece[..took.whole]).expect(rt, "memory");
+            }
+            used = used.saturating_add(took.used);
+            state = took.state;
+            at = *cut;
+        }
+    }
+    if at <= bytes.len() {
+        let piece = &bytes[at..];
+        let took = reader.pass(piece, &mut raw).expect(rt, "memory");
+        if took.whole <= piece.len() {
+            raw.push_all(&piece[..took.whole]).expect(rt, "memory");
+        }
+        used = used.saturating_add(took.used);
+        state = took.state;
+    }
+    if ends {
+        state = reader.end();
+    }
+    Got {
+        raw,
+        plain: Text::new(alloc),
+        used,
+        state,
+    }
+}
+
 #[derive(Drop)]
 struct Row<'a> {
     bytes: &'a [u8],
@@ -89,6 +128,12 @@ fn check_row(rt: &impl Abort, alloc: Global, row: Row<'_>) {
             row.ends,
         );
         assert!(rt; is_row(&got, &row));
+        let other = passed(rt, alloc, row.bytes, one.as_slice(), row.ends);
+        assert!(rt;
+            other.raw.as_bytes() == got.raw.as_bytes()
+                && other.used == got.used
+                && other.state == got.state
+        );
         all.push(i).expect(rt, "memory");
     }
     let got = fed(
@@ -100,6 +145,12 @@ fn check_row(rt: &impl Abort, alloc: Global, row: Row<'_>) {
         row.ends,
     );
     assert!(rt; is_row(&got, &row));
+    let other = passed(rt, alloc, row.bytes, all.as_slice(), row.ends);
+    assert!(rt;
+        other.raw.as_bytes() == got.raw.as_bytes()
+            && other.used == got.used
+            && other.state == got.state
+    );
 }
 
 #[test]

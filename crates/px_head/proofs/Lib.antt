@@ -1,5 +1,6 @@
 mod Cutting
 pub mod LineLemmas
+mod PrintLemmas
 pub mod BlockLemmas
 pub mod SearchLemmas
 pub mod GrammarBlocks

@@ -33,15 +33,12 @@ pub fn copy_fields(alloc: Global, block: &[u8], spans: &[HeaderSpan]) -> Result<
     requires { All (IsHeaderWithin (length block.now)) spans.now }
     ensures { IfOk result (λ fields. fields ≡ map (field_at block.now) spans.now) }
 {
-    let mut fields = List::new(alloc);
+    let mut fields = List::with_capacity(alloc, spans.len())?;
     for span in spans {
-        let field = Field {
+        fields.add(Field {
             name: Text::from_bytes(alloc, span.name.of(block))?,
             value: Text::from_bytes(alloc, span.value.of(block))?,
-        };
-        if fields.push(field).is_err() {
-            return Err(Mem);
-        }
+        })?;
     }
     Ok(fields)
 }

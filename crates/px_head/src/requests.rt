@@ -14,6 +14,9 @@ use httparse::spans::{HeaderSpan, RequestSpans, parse_request};
 use px_base::{List, Mem, Text};
 use std::alloc::Global;
 
+/// Room for two spaces and the version in a request line.
+const VERSION_ROOM: usize = 12;
+
 /// The head of a request of HTTP/1.0 or 1.1.
 #[derive(Drop)]
 pub struct RequestHead {
@@ -56,11 +59,13 @@ impl RequestHead {
     pub fn first_line(&self, alloc: Global) -> Result<Text, Mem>
         ensures { IfOk result (λ line. line ≡ request_line self.now) }
     {
-        let mut line = Text::from_bytes(alloc, self.method.as_bytes())?;
+        let room = self.method.len().saturating_add(self.target.len());
+        let mut line = Text::with_capacity(alloc, room.saturating_add(VERSION_ROOM))?;
+        line.push_all(self.method.as_bytes())?;
         line.push(b' ')?;
         line.push_all(self.target.as_bytes())?;
         line.push(b' ')?;
-        push_version(alloc, &mut line, self.minor)?;
+        push_version(&mut line, self.minor)?;
         Ok(line)
     }
 }

@@ -14,6 +14,9 @@ use httparse::spans::{HeaderSpan, ResponseSpans, parse_response};
 use px_base::{List, Mem, Text};
 use std::alloc::Global;
 
+/// Room for the version, the status and two spaces in a status line.
+const STATUS_ROOM: usize = 17;
+
 /// The head of a response of HTTP/1.0 or 1.1.
 #[derive(Drop)]
 pub struct ResponseHead {
@@ -58,10 +61,11 @@ impl ResponseHead {
     pub fn first_line(&self, alloc: Global) -> Result<Text, Mem>
         ensures { IfOk result (λ line. line ≡ status_line self.now) }
     {
-        let mut line = Text::new(alloc);
-        push_version(alloc, &mut line, self.minor)?;
+        let room = self.reason.len().saturating_add(STATUS_ROOM);
+        let mut line = Text::with_capacity(alloc, room)?;
+        push_version(&mut line, self.minor)?;
         line.push(b' ')?;
-        push_status(alloc, &mut line, self.status)?;
+        push_status(&mut line, self.status)?;
         push_reason(&mut line, self.reason.as_bytes())?;
         Ok(line)
     }

@@ -1,7 +1,7 @@
 //! Heads found, read and printed.
 use crate::{
-    FIELD_LIMIT, Field, HEAD_LIMIT, HeadEnd, HeadFault, HeadSearch, RequestHead, ResponseHead,
-    TOO_LONG_NAME, TOO_LONG_NUMBER, find_head, first_field, has_field, is_connection_word,
+    Field, HEAD_LIMIT, HeadEnd, HeadFault, HeadSearch, RequestHead, ResponseHead, TOO_LONG_NAME,
+    TOO_LONG_NUMBER, find_head, first_field, has_field, is_connection_word,
     is_held_back_of_request, is_held_back_of_response, print_head, read_field_line,
 };
 use px_base::Text;
@@ -113,11 +113,11 @@ fn long_head(rt: &impl Abort, alloc: Global, len: usize) -> Text {
 
 #[test]
 fn a_head_may_end_with_the_last_byte_of_the_limit(rt: HostRuntime) {
-    let head = long_head(&rt, rt.alloc(), HEAD_LIMIT);
+    let head = long_head(&rt, rt.alloc(), 65_536);
     assert_eq!(rt; head.len(), 65_536);
     assert_eq!(rt; find_head(head.as_bytes(), HEAD_LIMIT), HeadEnd::At(65_536));
     assert!(rt; RequestHead::read(rt.alloc(), head.as_bytes()).is_ok());
-    let longer = long_head(&rt, rt.alloc(), HEAD_LIMIT + 1);
+    let longer = long_head(&rt, rt.alloc(), 65_537);
     assert_eq!(rt; find_head(longer.as_bytes(), HEAD_LIMIT), HeadEnd::Over);
 }
 
@@ -133,7 +133,7 @@ fn head_with(rt: &impl Abort, alloc: Global, first_line: &[u8], fields: usize) -
 
 #[test]
 fn up_to_128_fields_are_read(rt: HostRuntime) {
-    for (fields, fault) in [(FIELD_LIMIT, None), (129, Some(HeadFault::TooManyFields))] {
+    for (fields, fault) in [(128, None), (129, Some(HeadFault::TooManyFields))] {
         let request = head_with(&rt, rt.alloc(), b"GET / HTTP/1.1", fields);
         assert_eq!(rt;
             RequestHead::read(rt.alloc(), request.as_bytes()).err(),
@@ -147,27 +147,68 @@ fn up_to_128_fields_are_read(rt: HostRuntime) {
     }
 }
 
+/// What stands behind a first line so that no whole head is read.
+const MALFORMED_REST: [&[u8]; 8] = [
+    b"",
+    b"\r\n",
+    b"\r\nA: b\r\n",
+    b"\r\nA B\r\n\r\n",
+    b"\r\nA : b\r\n\r\n",
+    b"\r\n: b\r\n\r\n",
+    b"\r\nA: \0\r\n\r\n",
+    b"\r\n\r\nA: b",
+];
+
+fn with_rest(rt: &impl Abort, alloc: Global, first_line: &[u8], rest: &[u8]) -> Text {
+    let mut block = Text::from_bytes(alloc, first_line).expect(rt, "memory");
+    block.push_all(rest).expect(rt, "memory");
+    block
+}
+
 #[test]
-fn what_is_no_whole_head_is_malformed(rt: HostRuntime) {
-    let rows: [&[u8]; 7] = [
-        b"",
-        b"GET http://a.test/ HTTP/1.1\r\nA B\r\n\r\n",
-        b"GET http://a.test/ HTTP/1.1\r\nA: \0\r\n\r\n",
-        b"GET http://a.test/ HTTP/1.1\r\n",
-        b"GET http://a.test/ HTTP/1.1\r\n\r\nGET",
-        b"GET http://a.test/ HTTP/2.0\r\n\r\n",
-        b"HTTP/1.1 20 OK\r\n\r\n",
+fn a_request_that_is_no_whole_head_is_malformed(rt: HostRuntime) {
+    let lines: [&[u8]; 6] = [
+        b"GET / HTTP/2.0\r\n\r\n",
+        b"GET /\r\n\r\n",
+        b"GET  / HTTP/1.1\r\n\r\n",
+        b"G(T / HTTP/1.1\r\n\r\n",
+        b"GET / HTTP/1.1 \r\n\r\n",
+        b"HTTP/1.1 200 OK\r\n\r\n",
     ];
-    for block in rows {
-        assert_eq!(rt;
-            RequestHead::read(rt.alloc(), block).err(),
-            Some(HeadFault::Malformed)
-        );
-        assert_eq!(rt;
-            ResponseHead::read(rt.alloc(), block).err(),
-            Some(HeadFault::Malformed)
-        );
+    for block in lines {
+        let fault = RequestHead::read(rt.alloc(), block).err();
+        assert_eq!(rt; fault, Some(HeadFault::Malformed));
     }
+    for rest in MALFORMED_REST {
+        let block = with_rest(&rt, rt.alloc(), b"GET / HTTP/1.1", rest);
+        let fault = RequestHead::read(rt.alloc(), block.as_bytes()).err();
+        assert_eq!(rt; fault, Some(HeadFault::Malformed));
+    }
+}
+
+#[test]
+fn a_response_that_is_no_whole_head_is_malformed(rt: HostRuntime) {
+    let lines: [&[u8]; 6] = [
+        b"HTTP/1.1 20 OK\r\n\r\n",
+        b"HTTP/1.1 2000 OK\r\n\r\n",
+        b"HTTP/2.0 200 OK\r\n\r\n",
+        b"HTTP/1.1  200 OK\r\n\r\n",
+        b"HTTP/1.1 200 O\0K\r\n\r\n",
+        b"GET / HTTP/1.1\r\n\r\n",
+    ];
+    for block in lines {
+        let fault = ResponseHead::read(rt.alloc(), block).err();
+        assert_eq!(rt; fault, Some(HeadFault::Malformed));
+    }
+    for rest in MALFORMED_REST {
+        let block = with_rest(&rt, rt.alloc(), b"HTTP/1.1 200 OK", rest);
+        let fault = ResponseHead::read(rt.alloc(), block.as_bytes()).err();
+        assert_eq!(rt; fault, Some(HeadFault::Malformed));
+    }
+}
+
+#[test]
+fn refusals_have_their_numbers_and_names(rt: HostRuntime) {
     assert!(rt; HeadFault::Malformed.number() == 34 && HeadFault::TooManyFields.number() == 35);
     assert_eq!(rt; HeadFault::Malformed.name(), "Malformed");
     assert_eq!(rt; HeadFault::TooManyFields.name(), "TooManyFields");

@@ -1,24 +1,63 @@
-use Rattle.std.proofs.Common.{◌++◌, subst}
-use Rattle.px_framing.specs.Reading.{Advances, Steps, first, added}
+use Rattle.std.proofs.Common.{◌≡◌, ℕ, List, ◌++◌, sym, ◌∙◌, ap, subst}
+use Rattle.px_framing.specs.Reading.{Steps, first, added, IsSettled, Reading}
+use Rattle.px_framing.specs.Passing.{settled, data_in}
 use Rattle.px_framing.proofs.BodyLemmas.{body-of}
-use Rattle.px_framing.proofs.StepLemmas.{steps-of, steps-on}
+use Rattle.px_framing.proofs.StepLemmas.{added-is, steps-on}
+use Rattle.px_framing.proofs.PassLemmas.{data-put, due-steps, steps-passed}
 use Rattle.px_framing.proofs.readers.BodyReader.feed.Goals as goal
 
--- the bytes of raw and plain before and behind
-advances : (c : goal.After-state_of) → Advances c.self.inside.stage c.self.inside.kept.items c.args.piece.now c.args.raw.now c.from_vec.result c.args.plain.now c.from_vec-2.result c.in-Ok.progress.used c.in-Ok.progress.stage c.advance-advanced.new.kept.items
-advances c =
-    rw (c.from_vec.ensures, c.from_vec-2.ensures, ← c.replace.ensures.value, ← c.replace-2.ensures.value, ← c.into_vec-raw_bytes.ensures, ← c.into_vec-plain_bytes.ensures) c.in-Ok.ensures.advances
+before : goal.After-state_of → Reading
+before c = record { stage = c.self.inside.stage; kept = c.self.inside.kept.items }
+
+after : goal.After-state_of → Reading
+after c = record { stage = c.in-Ok.far.stage; kept = c.advance-advanced.new.kept.items }
+
+settled-before : (c : goal.After-state_of) → IsSettled (before c)
+unfolding before
+settled-before c = record { settled = c.self.invariant.settled; short = c.self.invariant.short }
+
+settled-after : (c : goal.After-state_of) → IsSettled (after c)
+unfolding after
+settled-after c = record { settled = c.in-Ok.ensures.passes.settled_stage; short = c.in-Ok.ensures.passes.short }
+
+put : goal.After-state_of → List ℕ
+put c = settled c.self.inside.kept.items c.args.piece.now c.in-Ok.far.whole
+
+raw-is : (c : goal.After-state_of) → c.from_vec.result ≡ c.args.raw.now ++ put c
+unfolding put
+raw-is c = rw (c.from_vec.ensures, ← c.replace.ensures.value, ← c.into_vec-raw_bytes.ensures) c.in-Ok.ensures.raw
+
+plain-is : (c : goal.After-state_of) → c.from_vec-2.result ≡ c.args.plain.now ++ data_in (before c) c.args.piece.now
+unfolding before after put
+plain-is c =
+    let is = c.in-Ok.ensures.plain (data_in (before c) c.args.piece.now) (data-put (before c) (after c) c.args.piece.now (put c) c.in-Ok.far.used c.in-Ok.ensures.passes.passes (settled-before c) (settled-after c)) in
+    rw (c.from_vec-2.ensures, ← c.replace-2.ensures.value, ← c.into_vec-plain_bytes.ensures) is
+
+pub returns-in-Ok-clause-plain : goal.returns-in-Ok-clause-plain
+returns-in-Ok-clause-plain c = plain-is c ∙ ap (λ (w : List ℕ). c.args.plain.now ++ w) (sym (added-is c.args.plain.now c.from_vec-2.result _ (plain-is c)))
 
 pub returns-in-Ok-clause-steps : goal.returns-in-Ok-clause-steps
+unfolding before after put
 returns-in-Ok-clause-steps c =
-    subst (λ old. Steps old c.args.piece.now (added c.args.raw.now c.from_vec.result) (added c.args.plain.now c.from_vec-2.result) c.in-Ok.progress.used (record { stage = c.in-Ok.progress.stage; kept = c.advance-advanced.new.kept.items })) c.self.view_is
-    (steps-of (record { stage = c.self.inside.stage; kept = c.self.inside.kept.items }) (record { stage = c.in-Ok.progress.stage; kept = c.advance-advanced.new.kept.items }) c.args.piece.now _ _ _ _ _ (advances c))
+    let piece = c.args.piece.now in
+    let used = c.in-Ok.far.used in
+    let raw_put = added c.args.raw.now c.from_vec.result in
+    let plain_put = added c.args.plain.now c.from_vec-2.result in
+    subst (λ (r : Reading). Steps r piece raw_put plain_put used (after c)) c.self.view_is
+    (subst (λ (w : List ℕ). Steps (before c) piece raw_put w used (after c)) (sym (added-is c.args.plain.now c.from_vec-2.result _ (plain-is c)))
+    (subst (λ (w : List ℕ). Steps (before c) piece w (data_in (before c) piece) used (after c)) (sym (added-is c.args.raw.now c.from_vec.result _ (raw-is c)))
+    (steps-passed (before c) (after c) piece (put c) used c.in-Ok.ensures.passes.passes (settled-after c))))
 
 pub returns-in-Ok-clause-after : goal.returns-in-Ok-clause-after
-returns-in-Ok-clause-after c rule bytes raw_put plain_put count after =
-    steps-on (first rule) c.args.self.now (record { stage = c.in-Ok.progress.stage; kept = c.advance-advanced.new.kept.items }) bytes c.args.piece.now raw_put _ plain_put _ count c.in-Ok.progress.used after (returns-in-Ok-clause-steps c)
+unfolding after
+returns-in-Ok-clause-after c rule bytes raw_put plain_put count history =
+    steps-on (first rule) c.args.self.now (after c) bytes c.args.piece.now raw_put _ plain_put _ count c.in-Ok.far.used history (returns-in-Ok-clause-steps c)
 
 pub returns-in-Ok-clause-body : goal.returns-in-Ok-clause-body
-returns-in-Ok-clause-body c rule bytes raw_put plain_put count after =
-    body-of rule (bytes ++ c.args.piece.now) _ _ _ (record { stage = c.in-Ok.progress.stage; kept = c.advance-advanced.new.kept.items }) c.state_of.result
-    (returns-in-Ok-clause-after c rule bytes raw_put plain_put count after) (record { settled = c.in-Ok.ensures.settled; short = c.in-Ok.ensures.short }) c.state_of.ensures
+unfolding after
+returns-in-Ok-clause-body c rule bytes raw_put plain_put count history =
+    body-of rule (bytes ++ c.args.piece.now) _ _ _ (after c) c.state_of.result (returns-in-Ok-clause-after c rule bytes raw_put plain_put count history) (settled-after c) c.state_of.ensures
+
+pub returns-in-Ok-clause-due : goal.returns-in-Ok-clause-due
+unfolding after
+returns-in-Ok-clause-due c rest = due-steps c.args.self.now (after c) c.args.piece.now _ _ c.in-Ok.far.used (returns-in-Ok-clause-steps c) (settled-after c) rest

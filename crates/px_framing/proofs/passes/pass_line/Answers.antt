@@ -1,0 +1,20 @@
+use Rattle.std.proofs.Common.{◌≡◌, ℕ, List, ◌+◌, [], ◌++◌, take, refl, sym, ap, subst, arith}
+use Rattle.std.proofs.lemmas.List.{nil_from_length}
+use Rattle.std.proofs.lemmas.Bool.Decides.{nat_tests}
+use Rattle.px_framing.specs.Passing.{Goes}
+use Rattle.px_framing.proofs.HeldLemmas.{held-after, moves-line}
+use Rattle.px_framing.proofs.PassLemmas.{goes-of}
+use Rattle.px_framing.proofs.passes.pass_line.Goals as goal
+
+pub returns-in-Some-clause-held : goal.returns-in-Some-clause-held
+returns-in-Some-clause-held c =
+    let none : c.args.kept.now.items ≡ [] = nil_from_length _ (grind (arith, nat_tests)) in
+    held-after c.args.place c.in-Some.line.next _ c.args.kept.now.items c.in-Some.ensures.next none
+
+pub returns-in-Some-clause-goes : goal.returns-in-Some-clause-goes
+returns-in-Some-clause-goes c =
+    let none : c.args.kept.now.items ≡ [] = nil_from_length _ (grind (arith, nat_tests)) in
+    let k = c.args.kept.now.items in
+    let bytes = take (c.in-Some.line.text_len + 2) c.args.rest.now in
+    subst (λ (w : List ℕ). Goes c.args.place k bytes w c.in-Some.line.next k) (ap (λ (w : List ℕ). w ++ bytes) (sym none))
+    (goes-of c.args.place c.in-Some.line.next k bytes bytes [] k (moves-line c.args.place c.in-Some.line.next k k _ bytes [] bytes c.requires.line c.in-Some.ensures.stands none none c.in-Some.ensures.bytes refl c.in-Some.ensures.next))

@@ -1,0 +1,115 @@
+// The data of whole elements.
+ghost use Rattle.std.specs.Prelude.{◌≡◌, ◌+◌, ◌++◌, ◌<◌, ◌≤◌, length, take, drop, IfSome, Some, None, IsTrue, true, List, ℕ};
+ghost use Rattle.px_framing.specs.Elements.{AreWhole};
+ghost use Rattle.px_framing.specs.Extracts.{Divides};
+ghost use Rattle.px_framing.specs.Lines.{after, crlf, may_stand};
+ghost use Rattle.px_framing.specs.Reading.{is_line};
+
+use crate::lines::{Line, next_place};
+use crate::places::Place;
+use px_base::place;
+
+/// A line, or some bytes of data, at the front of whole elements.
+#[derive(Clone, Copy)]
+pub struct Run {
+    pub len: usize,
+    /// How many bytes at its front are data: all or none.
+    pub data_len: usize,
+    pub next: Place,
+}
+
+/// The line at the front of whole elements: no text of a line holds a CR.
+fn whole_line(before: Place, bytes: &[u8]) -> Option<Line>
+    ensures within { IfSome result (λ line. line.text_len + 2 ≤ length bytes.now) }
+    ensures line { (text more : List ℕ) → IsTrue (may_stand before text) → bytes.now ≡ (text ++ crlf) ++ more
+        → result ≡ Some (record { text_len = length text; next = after before text }) }
+{
+    match place(bytes, b'\r') {
+        Some(at) => {
+            if bytes.len() - at < 2 {
+                return None;
+            }
+            match next_place(before, &bytes[..at]) {
+                Some(next) => Some(Line { text_len: at, next }),
+                None => None,
+            }
+        }
+        None => None,
+    }
+}
+
+fn line_run(before: Place, bytes: &[u8]) -> Option<Run>
+    ensures len { IfSome result (λ run. (0 < run.len) × (run.len ≤ length bytes.now) × (run.data_len ≤ run.len)) }
+    ensures divides { (data_bytes : List ℕ) → 0 < length bytes.now → is_line before ≡ true → AreWhole before bytes.now data_bytes → Divides bytes.now data_bytes result }
+{
+    match whole_line(before, bytes) {
+        Some(line) => Some(Run {
+            len: line.text_len + 2,
+            data_len: 0,
+            next: line.next,
+        }),
+        None => None,
+    }
+}
+
+fn data_run(left: u64, bytes: &[u8]) -> Option<Run>
+    requires some { 0 < length bytes.now }
+    ensures len { IfSome result (λ run. (0 < run.len) × (run.len ≤ length bytes.now) × (run.data_len ≤ run.len)) }
+    ensures divides { (data_bytes : List ℕ) → AreWhole (Place.Data left) bytes.now data_bytes → Divides bytes.now data_bytes result }
+{
+    if left == 0 {
+        None
+    } else if left <= bytes.len() as u64 {
+        Some(Run {
+            len: left as usize,
+            data_len: left as usize,
+            next: Place::Gap,
+        })
+    } else {
+        Some(Run {
+            len: bytes.len(),
+            data_len: bytes.len(),
+            next: Place::Data(left - bytes.len() as u64),
+        })
+    }
+}
+
+fn next_run(before: Place, bytes: &[u8]) -> Option<Run>
+    requires some { 0 < length bytes.now }
+    ensures len { IfSome result (λ run. (0 < run.len) × (run.len ≤ length bytes.now) × (run.data_len ≤ run.len)) }
+    ensures divides { (data_bytes : List ℕ) → AreWhole before bytes.now data_bytes → Divides bytes.now data_bytes result }
+{
+    match before {
+        Place::Data(left) => data_run(left, bytes),
+        Place::Size => line_run(before, bytes),
+        Place::Gap => line_run(before, bytes),
+        Place::Trailers(_) => line_run(before, bytes),
+        Place::Done => None,
+        Place::Wrong => None,
+    }
+}
+
+/// Moves the data of the whole elements behind the first `from` bytes to their front, in order, and answers where they end. It
+/// takes no memory.
+pub fn gather(start: Place, bytes: &mut [u8], from: usize) -> usize
+    requires { from ≤ length bytes.old }
+    ensures within { result ≤ length bytes.new }
+    ensures len { length bytes.new ≡ length bytes.old }
+    ensures data_bytes { (data_bytes : List ℕ) → AreWhole start (drop from bytes.old) data_bytes → take result bytes.new ≡ take from bytes.old ++ data_bytes }
+{
+    let mut before = start;
+    let mut at = from;
+    let mut to = from;
+    'runs: while at < bytes.len() {
+        match next_run(before, &bytes[at..]) {
+            Some(run) => {
+                bytes.copy_within(at..at + run.data_len, to);
+                to += run.data_len;
+                at += run.len;
+                before = run.next;
+            }
+            None => return to,
+        }
+    }
+    to
+}

@@ -1,0 +1,195 @@
+// Passes a chunked body on: how far whole elements reach in a piece, without a copy of their bytes.
+ghost use Rattle.std.specs.Prelude.{◌≡◌, ◌+◌, ◌∷◌, ◌++◌, [], ◌<◌, ◌≤◌, length, take, min, true, false, vec_len, vec_capacity, if◌then◌else◌};
+ghost use Rattle.px_framing.specs.Lines.{IsOpen};
+ghost use Rattle.px_framing.specs.Reading.{is_last, is_line, IsHeld, Room};
+ghost use Rattle.px_framing.specs.Passing.{Goes, settled};
+
+use crate::advances::append;
+use crate::lines::{judge, line_at};
+use crate::places::{Place, Verdict};
+
+/// A step in a piece: how many bytes it took, whether a whole element ends with them, and what comes next.
+#[derive(Clone, Copy)]
+pub struct Gone {
+    pub used: usize,
+    pub ends: bool,
+    pub next: Place,
+}
+
+/// Passes a run of data.
+fn pass_data(left: u64, rest: &[u8]) -> Gone
+    requires some { 0 < length rest.now }
+    requires left { 0 < left }
+    ensures used { (0 < result.used) × (result.used ≤ length rest.now) }
+    ensures ends { result.ends ≡ true }
+    ensures held { IsHeld result.next [] }
+    ensures goes { Goes (Place.Data left) [] (take result.used rest.now) (take result.used rest.now) result.next [] }
+{
+    if left <= rest.len() as u64 {
+        Gone {
+            used: left as usize,
+            ends: true,
+            next: Place::Gap,
+        }
+    } else {
+        Gone {
+            used: rest.len(),
+            ends: true,
+            next: Place::Data(left - rest.len() as u64),
+        }
+    }
+}
+
+/// Passes a byte of a line.
+fn pass_byte(place: Place, kept: &mut Vec<u8>, byte: u8) -> Gone
+    requires line { is_line place ≡ true }
+    requires held { IsOpen place kept.old.items }
+    requires kept { Room kept.old 1 }
+    ensures used { result.used ≡ 1 }
+    ensures held { IsHeld result.next kept.new.items }
+    ensures goes { Goes place kept.old.items (byte ∷ []) (if result.ends then kept.old.items ++ byte ∷ [] else []) result.next kept.new.items }
+    ensures fresh { result.ends ≡ true → kept.new.items ≡ [] }
+    ensures grows { result.ends ≡ false → is_last result.next ≡ false → kept.new.items ≡ kept.old.items ++ byte ∷ [] }
+    ensures kept_room { vec_capacity kept.old ≤ vec_capacity kept.new }
+{
+    let len = kept.len();
+    append(kept, &[byte]);
+    match judge(place, &kept[..len], byte, &kept[..]) {
+        Verdict::Open => Gone {
+            used: 1,
+            ends: false,
+            next: place,
+        },
+        Verdict::Line(next) => {
+            kept.clear();
+            Gone {
+                used: 1,
+                ends: true,
+                next,
+            }
+        }
+        Verdict::Wrong => {
+            kept.clear();
+            Gone {
+                used: 1,
+                ends: false,
+                next: Place::Wrong,
+            }
+        }
+    }
+}
+
+/// Passes a whole line or a byte of one.
+fn pass_line(place: Place, kept: &mut Vec<u8>, rest: &[u8]) -> Gone
+    requires some { 0 < length rest.now }
+    requires line { is_line place ≡ true }
+    requires held { IsOpen place kept.old.items }
+    requires kept { Room kept.old 1 }
+    ensures used { (0 < result.used) × (result.used ≤ length rest.now) }
+    ensures held { IsHeld result.next kept.new.items }
+    ensures goes { Goes place kept.old.items (take result.used rest.now) (if result.ends then kept.old.items ++ take result.used rest.now else []) result.next kept.new.items }
+    ensures fresh { result.ends ≡ true → kept.new.items ≡ [] }
+    ensures grows { result.ends ≡ false → is_last result.next ≡ false → kept.new.items ≡ kept.old.items ++ take result.used rest.now }
+    ensures kept_room { vec_capacity kept.old ≤ vec_capacity kept.new }
+{
+    if kept.is_empty() {
+        match line_at(place, rest) {
+            Some(line) => {
+                return Gone {
+                    used: line.text_len + 2,
+                    ends: true,
+                    next: line.next,
+                };
+            }
+            None => {}
+        }
+    }
+    pass_byte(place, kept, rest[0])
+}
+
+/// Passes a run of data, a whole line or a byte of one.
+fn pass_some(place: Place, kept: &mut Vec<u8>, rest: &[u8]) -> Gone
+    requires some { 0 < length rest.now }
+    requires more { is_last place ≡ false }
+    requires held { IsHeld place kept.old.items }
+    requires kept { Room kept.old 1 }
+    ensures used { (0 < result.used) × (result.used ≤ length rest.now) }
+    ensures held { IsHeld result.next kept.new.items }
+    ensures goes { Goes place kept.old.items (take result.used rest.now) (if result.ends then kept.old.items ++ take result.used rest.now else []) result.next kept.new.items }
+    ensures fresh { result.ends ≡ true → kept.new.items ≡ [] }
+    ensures grows { result.ends ≡ false → is_last result.next ≡ false → kept.new.items ≡ kept.old.items ++ take result.used rest.now }
+    ensures kept_room { vec_capacity kept.old ≤ vec_capacity kept.new }
+{
+    match place {
+        Place::Data(left) => pass_data(left, rest),
+        Place::Size => pass_line(place, kept, rest),
+        Place::Gap => pass_line(place, kept, rest),
+        Place::Trailers(_) => pass_line(place, kept, rest),
+        Place::Done => unreachable!(),
+        Place::Wrong => unreachable!(),
+    }
+}
+
+fn farther(ends: bool, at: usize, whole: usize) -> usize
+    ensures { result ≡ (if ends then at else whole) }
+{
+    if ends { at } else { whole }
+}
+
+/// How far a piece was passed.
+#[derive(Clone, Copy)]
+pub struct Reach {
+    /// How many bytes at its front end with a whole element.
+    pub whole: usize,
+    pub used: usize,
+    pub next: Place,
+}
+
+/// Passes a piece up to the end of the body.
+pub fn pass_piece(start: Place, kept: &mut Vec<u8>, piece: &[u8]) -> Reach
+    requires more { is_last start ≡ false }
+    requires held { IsHeld start kept.old.items }
+    requires kept { min 8192 (length kept.old.items + length piece.now) ≤ vec_capacity kept.old }
+    ensures whole { result.whole ≤ result.used }
+    ensures used { result.used ≤ length piece.now }
+    ensures all { is_last result.next ≡ false → result.used ≡ length piece.now }
+    ensures held { IsHeld result.next kept.new.items }
+    ensures short { length kept.new.items ≤ 8192 }
+    ensures goes { Goes start kept.old.items (take result.used piece.now) (settled kept.old.items piece.now result.whole) result.next kept.new.items }
+{
+    let mut place = start;
+    let mut at = 0;
+    let mut whole = 0;
+    while at < piece.len() {
+        let gone = pass_some(place, kept, &piece[at..]);
+        at += gone.used;
+        place = gone.next;
+        whole = farther(gone.ends, at, whole);
+        if is_last_place(place) {
+            return Reach {
+                whole,
+                used: at,
+                next: place,
+            };
+        }
+    }
+    Reach {
+        whole,
+        used: at,
+        next: place,
+    }
+}
+
+/// Nothing comes after this place.
+fn is_last_place(place: Place) -> bool
+    ensures { result ≡ is_last place }
+{
+    match place {
+        Place::Done => true,
+        Place::Wrong => true,
+        Place::Size => false,
+        Place::Data(_) => false,
+        Place::Gap => false,
+        Place::Trailers(_) => false,
+    }
+}
