@@ -10,3 +10,4 @@ pub mod UrlLemmas
 pub mod Crossing
 pub mod UrlLaws
 pub mod EndLabelLemmas
+mod SlashLemmas

@@ -77,6 +77,18 @@ fn in_range(byte: u8, range: &ClassRange) -> bool
 }
 
 impl LabelPattern {
+    ghost use Rattle.px_patterns.specs.Hosts.{plain_text};
+
+    /// Its text, where it is a label without `*`, `?` and `[`.
+    pub fn plain(&self) -> Option<&[u8]>
+        ensures { option_copied result ≡ plain_text self.now }
+    {
+        match self {
+            LabelPattern::Plain(text) => Some(text.as_bytes()),
+            LabelPattern::Glob(_) => None,
+        }
+    }
+
     /// Whether the pattern matches a label. It takes no memory, and time in proportion to the label's length where there
     /// is at most one `*`.
     pub fn matches(&self, label: &[u8]) -> bool

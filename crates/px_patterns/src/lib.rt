@@ -5,6 +5,7 @@ mod expressions;
 mod faults;
 mod host_readings;
 mod hosts;
+mod kept;
 mod label_readings;
 mod labels;
 mod pattern_readings;
@@ -17,7 +18,8 @@ mod urls;
 
 pub use expressions::Expression;
 pub use faults::{PatternFault, UrlFault};
-pub use hosts::{Bucket, HostLabels, HostPattern};
+pub use hosts::{Bucket, HostLabels, HostPart, HostPattern, without_last_dot};
+pub use kept::Kept;
 pub use labels::{ClassRange, Item, LabelPattern};
 pub use patterns::{TagPattern, UrlPattern};
 pub use urls::Url;
