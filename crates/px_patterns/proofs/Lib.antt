@@ -11,3 +11,4 @@ pub mod Crossing
 pub mod UrlLaws
 pub mod EndLabelLemmas
 mod SlashLemmas
+pub mod UnionLemmas

@@ -40,9 +40,8 @@ some_first [] = false
 some_first (p ∷ ps) = is_slash p.0 || some_first ps
 
 or_parts : (a b : Bool) → (a || b) ≡ false → (a ≡ false) × (b ≡ false)
-or_parts true b no = cc
-or_parts false true no = cc
-or_parts false false no = (refl, refl)
+or_parts true b neither = cc
+or_parts false b neither = (refl, neither)
 
 image-none : (ps : List (ℕ × ℕ)) (rs : List Range) (c : ℕ) → ((k : ℕ) → in_ranges rs k ≡ is_slash k) → some_first ps ≡ false → in_image ps rs c ≡ false
 unfolding in_image some_first
@@ -120,13 +119,13 @@ first_place : (hay : List ℕ) → find front_slash hay 0 ≡ first_from (attemp
 unfolding find
 first_place hay = let count : length hay + 1 - 0 ≡ suc (length hay) = omega arith in ap (λ n. first_from (attempt hay front_slash accept) n 0) count
 
+none_there : is_some (first_from (attempt [] front_slash accept) (suc 0) 0) ≡ false
+unfolding first_from attempt holds holds_between byte_before
+none_there = refl
+
 found_first : (hay : List ℕ) → is_some (find front_slash hay 0) ≡ (slice_index hay 0 == 47)
 unfolding first_from
 found_first [] = ap is_some (first_place []) ∙ none_there
-  where
-    none_there : is_some (first_from (attempt [] front_slash accept) 1 0) ≡ false
-    unfolding first_from attempt holds holds_between byte_before
-    none_there = refl
 found_first (b ∷ rest) =
     ap is_some (first_place (b ∷ rest))
     ∙ rw (attempt_first b rest, in_slash b, none_later (b ∷ rest) (length (b ∷ rest)) (0 + 1) (omega arith) (omega arith)) (once (b == 47) _ _)

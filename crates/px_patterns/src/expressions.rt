@@ -1,8 +1,7 @@
 // Expressions without case.
-ghost use Rattle.std.specs.Prelude.{◌≡◌, ◌≢◌, ◌==◌, ◌↔◌, Ok, IfErr, IfOk, IfSome, IsOk, IsTrue, codes, slice_index};
-ghost use Rattle.regex.specs.Bytes.{regex_pattern};
+ghost use Rattle.std.specs.Prelude.{◌≡◌, ◌==◌, ◌↔◌, Ok, IfErr, IfOk, IsOk, IsTrue, MatchOption, codes, slice_index};
 ghost use Rattle.px_patterns.specs.Expressions.{IsBuiltFrom, expression_of, finds};
-ghost use Rattle.px_patterns.specs.Searches.{FindsAs};
+ghost use Rattle.px_patterns.specs.Searches.{SearchesFor};
 ghost use Rattle.px_patterns.specs.Faults.{IsPatternRefusal};
 
 use crate::{PatternFault, SLASH};
@@ -62,19 +61,18 @@ impl Expression {
         ensures value { IfOk result (λ yes. yes ≡ finds self.now bytes.now) }
         ensures no_memory { self.now ≡ codes "^/" → IsOk result }
     {
-        match &self.search {
-            Search::FirstSlash => Ok(begins_with_slash(bytes)),
-            Search::Built(regex) => {
+        match self.regex() {
+            Some(regex) => {
                 let mut matcher = regex.matcher(alloc)?;
                 Ok(matcher.is_match(bytes))
             }
+            None => Ok(begins_with_slash(bytes)),
         }
     }
 
     /// What the library made of it, unless it is `^/`.
     pub(crate) fn regex(&self) -> Option<&Regex>
-        ensures finds { IfSome result (λ regex. FindsAs self.now (regex_pattern regex.now)) }
-        ensures other { IfSome result (λ _. self.now ≢ codes "^/") }
+        ensures { MatchOption result (self.now ≡ codes "^/") (λ regex. SearchesFor self.now regex.now) }
     {
         match &self.search {
             Search::FirstSlash => None,

@@ -8,7 +8,7 @@ ghost use Rattle.px_patterns.specs.declared.labels.LabelPattern.TheVariants.{Pla
 
 use crate::{DOT, LabelPattern};
 use memchr::memrchr;
-use px_base::{List, Text, cut};
+use px_base::{List, Text, cut, same_without_case};
 
 /// The labels of a host pattern.
 #[derive(Drop)]
@@ -73,8 +73,22 @@ impl HostPattern {
     {
         match self {
             HostPattern::Always => true,
-            HostPattern::Address(text) => text.as_bytes().eq_ignore_ascii_case(host),
+            HostPattern::Address(text) => same_without_case(text.as_bytes(), host),
             HostPattern::Labels(labels) => labels.matches(without_last_dot(host)),
+        }
+    }
+
+    /// Its labels, none for an address or every host. Each host that it matches has each of them that is a plain text. It takes
+    /// no memory.
+    #[tactic(auto, using(crate::proofs::HostLemmas::keeps_each))]
+    pub fn labels(&self) -> &[LabelPattern]
+        ensures labels { result.now ≡ labels_within self.now }
+        ensures keeps { HasEachPlain self.now result.now }
+    {
+        match self {
+            HostPattern::Always => &[],
+            HostPattern::Address(_) => &[],
+            HostPattern::Labels(labels) => labels.labels.as_slice(),
         }
     }
 

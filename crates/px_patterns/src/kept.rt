@@ -1,10 +1,11 @@
 // Expressions that keep what searches for them.
 ghost use Rattle.std.specs.Prelude.{◌≡◌, IfOk, IsOk, codes};
+ghost use Rattle.regex.specs.Bytes.{matcher_pattern, regex_pattern};
 ghost use Rattle.px_patterns.specs.Expressions.{finds};
 
 use crate::Expression;
 use px_base::Mem;
-use regex::bytes::Matcher;
+use regex::bytes::{Matcher, Regex};
 use std::alloc::Global;
 use std::marker::Model;
 
@@ -52,9 +53,17 @@ impl<'r> Kept<'r> {
         let Some(regex) = expression.regex() else {
             return expression.finds(alloc, bytes);
         };
-        let mut matcher = Box::new(alloc, regex.matcher(alloc)?)?;
+        let mut matcher = boxed_matcher(alloc, regex)?;
         let found = matcher.is_match(bytes);
         self.matcher = Some(matcher);
         Ok(found)
     }
+}
+
+/// What searches for what the library made.
+fn boxed_matcher<'r>(alloc: Global, regex: &'r Regex) -> Result<Box<Matcher<'r>>, Mem>
+    ensures { IfOk result (λ matcher. matcher_pattern matcher.value ≡ regex_pattern regex.now) }
+{
+    let matcher = regex.matcher(alloc)?;
+    Ok(Box::new(alloc, matcher)?)
 }

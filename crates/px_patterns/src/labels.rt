@@ -3,7 +3,7 @@ ghost use Rattle.std.specs.Prelude.{◌≡◌, ◌≤◌, ◌↔◌, ◌++◌, f
 ghost use Rattle.px_patterns.specs.Globs.{CanBeCut, glob_matches, in_class, in_range, items_in, label_matches, some_tail, takes};
 ghost use Rattle.px_patterns.specs.Runs.{behind_first, behind_run, has_run, is_run, takes_front};
 
-use px_base::{List, Text};
+use px_base::{List, Text, same_without_case};
 
 /// Bytes from `first` to `last`, both of them included.
 #[derive(Clone, Copy, Debug, PartialEq, Eq)]
@@ -96,7 +96,7 @@ impl LabelPattern {
         ensures cut { IsTrue result ↔ CanBeCut (items_in self.now) label.now }
     {
         match self {
-            LabelPattern::Plain(text) => text.as_bytes().eq_ignore_ascii_case(label),
+            LabelPattern::Plain(text) => same_without_case(text.as_bytes(), label),
             LabelPattern::Glob(items) => glob_matches(items.as_slice(), label),
         }
     }

@@ -62,8 +62,7 @@ impl UrlPattern {
         ensures ticks { steps.new ≡ steps.old + 1 }
         ensures no_memory { NeedsNoSearch self.now.path → IsOk result }
     {
-        steps.tick();
-        if !self.is_met(url) {
+        if !self.is_met(url, steps) {
             return Ok(false);
         }
         match &self.path {
@@ -87,17 +86,18 @@ impl UrlPattern {
         ensures same { kept.new ≡ kept.old }
         ensures no_memory { NeedsNoSearch self.now.path → IsOk result }
     {
-        steps.tick();
-        if !self.is_met(url) {
+        if !self.is_met(url, steps) {
             return Ok(false);
         }
         kept.finds(alloc, url.path.as_bytes())
     }
 
-    /// Whether host and port match.
-    fn is_met(&self, url: &Url) -> bool
-        ensures { result ≡ (host_part_matches self.now.host url.now.host && ports_match self.now.ports url.now.port) }
+    /// Whether host and port match. It adds one to the steps.
+    fn is_met<L: Ledger>(&self, url: &Url, steps: &mut Steps<L>) -> bool
+        ensures value { result ≡ (host_part_matches self.now.host url.now.host && ports_match self.now.ports url.now.port) }
+        ensures ticks { steps.new ≡ steps.old + 1 }
     {
+        steps.tick();
         self.host.matches(url.host.as_bytes()) && allow(&self.ports, url.port)
     }
 }
