@@ -1,6 +1,6 @@
 -- What a built regex says of the expression of its text, and what a refusal says.
-use Rattle.std.proofs.Common.{◌≡◌, ◌<◌, ◌≤◌, ℕ, true, false, List, Option, None, Some, chars, inl, inr, refl, ap, sym, length, ◌∙◌}
-use Rattle.std.specs.Prelude.{◌≢◌, IsSomeAnd, IfSome, nat_le, if◌then◌else◌, is_some, option_and_then, Err, Ok, slice_index}
+use Rattle.std.proofs.Common.{◌≡◌, ◌<◌, ◌≤◌, ℕ, true, false, List, Option, None, Some, chars, inl, inr, refl, ap, sym, subst, length, ◌∙◌}
+use Rattle.std.specs.Prelude.{◌≢◌, IsSomeAnd, IfSome, nat_le, if◌then◌else◌, is_some, option_and_then, Err, Ok, codes, slice_index}
 use Rattle.std.proofs.lemmas.Bool.{le-leb, lt-leb}
 use Rattle.regex_hir.specs.declared.hir.Hir.{Hir}
 use Rattle.regex_hir.specs.Find.{find}
@@ -14,9 +14,13 @@ use Rattle.regex_syntax.specs.declared.Config.{Config}
 use Rattle.regex_syntax.specs.declared.error.ErrorKind.{ErrorKind}
 use Rattle.regex_syntax.specs.declared.error.ErrorKind.TheVariants.{OutOfMemory}
 use Rattle.regex.proofs.ForCallers.{is_match_alike}
+use Rattle.regex.specs.Bytes.{regex_pattern, regex_source}
+use Rattle.regex.specs.Names.{names_of}
+use Rattle.regex.specs.declared.bytes.regex.Regex.{Regex}
 use Rattle.regex.specs.declared.builder.RegexBuilder.{RegexBuilder}
 use Rattle.px_patterns.specs.declared.faults.PatternFault.TheVariants.{BadRegex}
-use Rattle.px_patterns.specs.Expressions.{expression, expression_of, finds, options}
+use Rattle.px_patterns.specs.Expressions.{IsBuilt, IsBuiltFrom, expression, expression_of, finds, options}
+use Rattle.px_patterns.specs.Searches.{FindsAs, SearchesFor}
 
 -- an expression that nests within the limit
 abbrev within_limit : Option (Nested Re × Names) → Option Re
@@ -68,3 +72,19 @@ unfolding finds
 finds_from_reads text bytes config hir names is_config reads fits =
     let built = expression_from_reads text config text hir names is_config refl reads in
     is_match_alike built.2 bytes fits false 0 ∙ sym (ap (λ (o : Option Re). is_some (option_and_then (λ re. find re bytes 0) o)) built.1)
+
+-- what the library made of a text searches for the expression of that text
+pub finds_as_built : (regex : Regex) → IsBuilt regex → FindsAs (regex_source regex) (regex_pattern regex)
+finds_as_built regex built = λ bytes fits.
+    finds_from_reads _ bytes regex.pattern.config regex.pattern.program.hir (names_of regex.pattern.names.items) built.0 built.1 fits
+
+-- what the library made of a text, by the text that it is kept for
+pub searches_as_built : (text : List ℕ) (regex : Regex) → IsBuilt regex × (regex_source regex ≢ codes "^/") → regex_source regex ≡ text → SearchesFor text regex
+searches_as_built text regex built is = record {
+  finds = subst (λ t. FindsAs t (regex_pattern regex)) is (finds_as_built regex built.0);
+  other = λ same. built.1 (is ∙ same);
+}
+
+pub reads_as_built : (text : List ℕ) (regex : Regex) → IsBuiltFrom text regex → expression_of text ≡ Ok (regex_source regex)
+reads_as_built text regex built =
+    expression_of-reads text _ regex.pattern.config _ regex.pattern.program.hir (names_of regex.pattern.names.items) built.1.0 built.0 built.0 built.1.1

@@ -1,6 +1,6 @@
 -- Labels of hosts: from the front, from the end, and between.
-use Rattle.std.proofs.Common.{◌≡◌, ℕ, ◌+◌, ◌-◌, ◌<◌, ◌≤◌, ◌⊎◌, ◌↔◌, Bool, true, false, ◌&&◌, ◌||◌, IsTrue, List, [], ◌∷◌, ◌++◌, length, take, drop, refl, ap, sym, ◌∙◌, subst, arith, inl, inr, Option, None, Some, append-nil, append_assoc, All}
-use Rattle.std.specs.Prelude.{◌==◌, slice_index, slice_index_or}
+use Rattle.std.proofs.Common.{◌≡◌, ℕ, ◌+◌, ◌-◌, ◌<◌, ◌≤◌, ◌⊎◌, ◌↔◌, Bool, true, false, ◌&&◌, ◌||◌, IsTrue, List, [], ◌∷◌, ◌++◌, length, zero, suc, take, drop, refl, ap, sym, ◌∙◌, subst, arith, inl, inr, Option, None, Some, append-nil, append_assoc, All}
+use Rattle.std.specs.Prelude.{◌==◌, slice_get, slice_index, slice_index_or}
 use Rattle.std.specs.List.{list_any, onto_first}
 use Rattle.std.specs.Str.{str_eq_ignore_ascii_case}
 use Rattle.std.proofs.lemmas.Bool.{and_from, both_ways, and_parts, cases_Bool, eqb-true, false≢true}
@@ -15,7 +15,7 @@ use Rattle.px_patterns.specs.declared.labels.Item.{Item}
 use Rattle.px_patterns.specs.declared.labels.LabelPattern.{LabelPattern}
 use Rattle.px_patterns.specs.declared.labels.LabelPattern.TheVariants.{Glob, Plain}
 use Rattle.px_patterns.specs.Globs.{label_matches, some_tail}
-use Rattle.px_patterns.specs.Hosts.{EachFits, HostFits, LabelsFit, fitting_labels, host_labels, host_matches, labels_in, labels_match, last_plain, later_or, without_last_dot}
+use Rattle.px_patterns.specs.Hosts.{EachFits, HasEachPlain, HostFits, LabelsFit, fitting_labels, host_labels, has_last_plain, host_matches, is_candidate, labels_in, labels_match, labels_within, last_plain, later_or, without_last_dot}
 use Rattle.px_patterns.proofs.GlobLemmas.{label-cut, some_tail-at, tail_of-some}
 
 -- ---- from the end
@@ -234,6 +234,52 @@ plain_kept pattern labels text fits plain =
           (any-append (str_eq_ignore_ascii_case text) found.0 found.1 (has_plain pattern.open_end pattern.labels found.1 text found.3 plain))
       | inr fails ↦ has_plain pattern.open_end pattern.labels labels text (rw fails at fits) plain
     ]
+
+-- each plain label stands in each list of labels that the patterns match
+has_each : (more : Bool) (patterns : List LabelPattern) (labels : List (List ℕ)) (at : ℕ) (text : List ℕ) → labels_match more patterns labels ≡ true → slice_get patterns at ≡ Some (Plain text) →
+    list_any (str_eq_ignore_ascii_case text) labels ≡ true
+unfolding labels_match
+has_each more [] labels at text matches is = cc
+has_each more (pattern ∷ patterns) [] at text matches is = absurd (false≢true matches)
+has_each more (pattern ∷ patterns) (label ∷ labels) zero text matches is =
+    let both = and_parts (label_matches pattern label) (labels_match more patterns labels) matches in
+    let here : pattern ≡ Plain text = cc in
+    or_left (str_eq_ignore_ascii_case text label) (list_any (str_eq_ignore_ascii_case text) labels) (ap (λ p. label_matches p label) (sym here) ∙ both.0)
+has_each more (pattern ∷ patterns) (label ∷ labels) (suc at) text matches is =
+    let both = and_parts (label_matches pattern label) (labels_match more patterns labels) matches in
+    or_right (str_eq_ignore_ascii_case text label) (list_any (str_eq_ignore_ascii_case text) labels) (has_each more patterns labels at text both.1 is)
+
+each_kept : (pattern : HostLabels) (labels : List (List ℕ)) (at : ℕ) (text : List ℕ) → fitting_labels pattern labels ≡ true → slice_get pattern.labels at ≡ Some (Plain text) →
+    list_any (str_eq_ignore_ascii_case text) labels ≡ true
+each_kept pattern labels at text fits is =
+    elim (cases_Bool pattern.open_front) [
+      | inl does ↦
+          let found = tail_of-some (labels_match pattern.open_end pattern.labels) labels (rw does at fits) in
+          subst (λ (l : List (List ℕ)). list_any (str_eq_ignore_ascii_case text) l ≡ true) (sym found.2)
+          (any-append (str_eq_ignore_ascii_case text) found.0 found.1 (has_each pattern.open_end pattern.labels found.1 at text found.3 is))
+      | inr fails ↦ has_each pattern.open_end pattern.labels labels at text (rw fails at fits) is
+    ]
+
+-- a host that a pattern matches has each plain label of the pattern
+each_within : (pattern : HostPattern) → HasEachPlain pattern (labels_within pattern)
+unfolding host_matches
+each_within Always at text host is matches = cc
+each_within (Address shown) at text host is matches = cc
+each_within (Labels labels) at text host is matches = each_kept labels (host_labels host) at text matches is
+
+pub keeps_each : (pattern : HostPattern) (labels : List LabelPattern) → labels ≡ labels_within pattern → HasEachPlain pattern labels
+keeps_each pattern labels is = subst (HasEachPlain pattern) (sym is) (each_within pattern)
+
+-- a host that labels match has the last plain one
+last_kept : (labels : HostLabels) (host : List ℕ) (last : Option (List ℕ)) → last_plain labels.labels ≡ last → fitting_labels labels (host_labels host) ≡ true → has_last_plain last host ≡ true
+last_kept labels host None is fits = refl
+last_kept labels host (Some text) is fits = plain_kept labels (host_labels host) text fits is
+
+pub candidate-from : (pattern : HostPattern) (labels : HostLabels) (host shown : List ℕ) (r : Bool) → pattern ≡ Labels labels → shown ≡ without_last_dot host → r ≡ fitting_labels labels (labels_in shown) →
+    IsTrue r → IsTrue (is_candidate pattern host)
+candidate-from pattern labels host shown r is without value holds =
+    subst (λ (p : HostPattern). is_candidate p host ≡ true) (sym is)
+    (last_kept labels host (last_plain labels.labels) refl (sym (value ∙ ap (λ l. fitting_labels labels (labels_in l)) without) ∙ holds))
 
 -- ---- what a match means
 

@@ -10,3 +10,5 @@ pub mod UrlLemmas
 pub mod Crossing
 pub mod UrlLaws
 pub mod EndLabelLemmas
+mod SlashLemmas
+pub mod UnionLemmas

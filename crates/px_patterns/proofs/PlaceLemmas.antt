@@ -1,16 +1,13 @@
 -- The first byte of a list that passes a test.
-use Rattle.std.proofs.Common.{◌≡◌, ◌≢◌, ℕ, zero, suc, ◌+◌, ◌-◌, ◌<◌, ◌≤◌, ◌↔◌, Bool, true, false, IsTrue, List, [], ◌∷◌, length, take, drop, map, min, refl, ap, sym, ◌∙◌, arith, inl, inr, Option, None, Some}
-use Rattle.std.specs.Prelude.{◌==◌, MatchOption, Result, Ok, Err, is_ok, MatchResult, slice_index}
-use Rattle.std.specs.Char.{to_ascii_lowercase}
-use Rattle.std.specs.List.{after_first, before_first, list_any, position_or_len}
-use Rattle.std.specs.Str.{IsUtf8, is_utf8, str_eq_ignore_ascii_case}
-use Rattle.std.proofs.lemmas.Bool.{cases_Bool, eq-eqb, ne_eqb}
+use Rattle.std.proofs.Common.{◌≡◌, ◌≢◌, ℕ, zero, suc, ◌+◌, ◌-◌, ◌<◌, ◌≤◌, Bool, true, false, cond, ltb, List, [], ◌∷◌, length, take, drop, min, refl, ap, sym, subst, ◌∙◌, arith, inl, inr, Option, None, Some}
+use Rattle.std.specs.Prelude.{◌==◌, MatchOption, slice_index}
+use Rattle.std.specs.List.{after_first, before_first, list_any, position, position_or_len}
+use Rattle.std.specs.Str.{str_eq_ignore_ascii_case}
+use Rattle.std.proofs.lemmas.Bool.{cases_Bool, eq-eqb, ltb-false, ltb-true, ne_eqb}
+use Rattle.std.proofs.lemmas.List.Sums.{passes_at_first}
 use Rattle.std.proofs.lemmas.List.{drop-drop, length-take-le, take_all, take_min, take_rest}
-use Rattle.std.proofs.lemmas.Str.{IsUtf8-from_is_utf8, is_utf8-from_IsUtf8}
-use Rattle.memchr.specs.Find.{IsFirstByte}
 use Rattle.px_patterns.specs.Places.{BeginsWith, HasPlace, IsCut, LacksPlace}
 use Rattle.px_patterns.specs.Urls.{begins_with}
-use Rattle.px_patterns.proofs.GlobLemmas.{same_text-from}
 
 -- no byte of the list below this place passes
 abbrev NonePasses : (ℕ → Bool) → List ℕ → ℕ → Type 0
@@ -72,10 +69,19 @@ lacks_place test bytes none =
     let is = position-none test bytes none in
     record { none = none-from_position test bytes is; whole = take_all (position_or_len test bytes) bytes (omega (arith, is)) }
 
--- what a search for the first byte found
-pub place-of : (test : ℕ → Bool) (bytes : List ℕ) (r : Option ℕ) → IsFirstByte test bytes r → MatchOption r (LacksPlace test bytes) (HasPlace test bytes)
-place-of test bytes None none = lacks_place test bytes none
-place-of test bytes (Some at) found = has_place test bytes at found.0.high found.1 found.0.before
+pub cut-no : (test : ℕ → Bool) (bytes : List ℕ) → position_or_len test bytes ≡ length bytes → LacksPlace test bytes
+cut-no test bytes none = record { none = none-from_position test bytes none; whole = take_all (position_or_len test bytes) bytes (omega (arith, none)) }
+
+-- what the first place says
+pub place-of : (test : ℕ → Bool) (bytes : List ℕ) (r : Option ℕ) → r ≡ position test bytes → MatchOption r (LacksPlace test bytes) (HasPlace test bytes)
+place-of test bytes r is =
+    subst (λ (o : Option ℕ). MatchOption o (LacksPlace test bytes) (HasPlace test bytes)) (sym is) (by (ltb (position_or_len test bytes) (length bytes)) refl)
+  where
+    by : (b : Bool) → ltb (position_or_len test bytes) (length bytes) ≡ b → MatchOption (cond b (Some (position_or_len test bytes)) None) (LacksPlace test bytes) (HasPlace test bytes)
+    by true e =
+        let within = ltb-true _ _ e in
+        record { within = within; passes = passes_at_first test bytes 0 within; some = any-from_position test bytes within; front = refl; back = refl }
+    by false e = cut-no test bytes (omega (arith, ltb-false _ _ e, position-within test bytes))
 
 -- the length of what stands before the first place
 pub length-before_first : (test : ℕ → Bool) (bytes : List ℕ) → length (before_first test bytes) ≡ position_or_len test bytes
@@ -102,16 +108,11 @@ pub after_first-rest : (test : ℕ → Bool) (bytes rest : List ℕ) (at : ℕ) 
 after_first-rest test bytes rest at place is = take_rest rest 1 ∙ (ap (drop 1) is ∙ (drop-drop 1 at bytes ∙ sym place.back))
 
 -- a front that is compared without case
-pub begins-from : (r : Bool) (text front shown : List ℕ) (end : ℕ) → end ≡ min (length front) (length text) → shown ≡ take end text → (IsTrue r ↔ (map to_ascii_lowercase shown ≡ map to_ascii_lowercase front)) →
+pub begins-from : (r : Bool) (text front shown : List ℕ) (end : ℕ) → end ≡ min (length front) (length text) → shown ≡ take end text → r ≡ str_eq_ignore_ascii_case shown front →
     r ≡ begins_with text front
 begins-from r text front shown end is cut same =
-    same_text-from r shown front same
+    same
     ∙ ap (λ l. str_eq_ignore_ascii_case l front) (cut ∙ ap (λ n. take n text) is ∙ take_min (length front) text)
-
--- a text that is read as UTF-8 passes the test
-pub is_text-from : {T E : Type 0} (r : Result T E) (bytes : List ℕ) → MatchResult r (λ _. IsUtf8 bytes) (λ _. ¬ (IsUtf8 bytes)) → is_ok r ≡ is_utf8 bytes
-is_text-from (Ok x) bytes read = sym (is_utf8-from_IsUtf8 bytes read)
-is_text-from (Err e) bytes refused = elim (cases_Bool (is_utf8 bytes)) [ inl does ↦ absurd (refused (IsUtf8-from_is_utf8 bytes does)) | inr fails ↦ sym fails ]
 
 -- a text without its first character
 pub begins-yes : (byte : ℕ) (bytes rest : List ℕ) → bytes ≡ byte ∷ rest → BeginsWith byte bytes rest
@@ -124,6 +125,3 @@ begins-no byte (b ∷ bytes) some other = ne_eqb b byte (λ e. other bytes (ap (
 -- a text that is cut once, and one that can't be
 pub cut-yes : (test : ℕ → Bool) (bytes front back : List ℕ) → (position_or_len test bytes < length bytes) × (front ≡ before_first test bytes) × (back ≡ after_first test bytes) → IsCut test bytes front back
 cut-yes test bytes front back cut = record { some = any-from_position test bytes cut.0; before = cut.1; behind = cut.2 }
-
-pub cut-no : (test : ℕ → Bool) (bytes : List ℕ) → position_or_len test bytes ≡ length bytes → LacksPlace test bytes
-cut-no test bytes none = record { none = none-from_position test bytes none; whole = take_all (position_or_len test bytes) bytes (omega (arith, none)) }

@@ -1,10 +1,12 @@
 -- Expressions without case, in the words of the library that reads them.
-use Rattle.std.specs.Prelude.{ℕ, Bool, true, false, nat_le, if◌then◌else◌, List, Option, None, Some, chars, option_and_then, is_some, Result, Ok, Err}
+use Rattle.std.specs.Prelude.{◌≡◌, ℕ, Bool, true, false, nat_le, if◌then◌else◌, List, Option, None, Some, chars, option_and_then, is_some, Result, Ok, Err}
 use Rattle.regex_hir.specs.Re.{Re}
 use Rattle.regex_hir.specs.Find.{find}
 use Rattle.regex_syntax.specs.Grammar.{read}
 use Rattle.regex_syntax.specs.Verdict.{default_config, default_flags}
 use Rattle.regex_syntax.specs.declared.Config.{Config}
+use Rattle.regex.specs.Bytes.{regex_config, regex_source, IsReadFromSource}
+use Rattle.regex.specs.declared.bytes.regex.Regex.{Regex}
 use Rattle.px_patterns.specs.declared.faults.PatternFault.{PatternFault}
 use Rattle.px_patterns.specs.declared.faults.PatternFault.TheVariants.{BadRegex}
 
@@ -26,3 +28,10 @@ finds text bytes = is_some (option_and_then (λ re. find re bytes 0) (expression
 -- the text of an expression, or its refusal
 abbrev pub expression_of : List ℕ → Result (List ℕ) PatternFault
 expression_of text = if is_expression text then Ok text else Err BadRegex
+
+-- the library read it with these options
+abbrev pub IsBuilt : Regex → Type 0
+IsBuilt regex = (regex_config regex ≡ options) × IsReadFromSource regex
+
+abbrev pub IsBuiltFrom : List ℕ → Regex → Type 0
+IsBuiltFrom text regex = (regex_source regex ≡ text) × IsBuilt regex

@@ -1,5 +1,5 @@
 -- Host patterns: what their texts stand for, and which hosts they match.
-use Rattle.std.specs.Prelude.{◌≡◌, ℕ, ◌-◌, ◌==◌, ◌&&◌, ◌||◌, not, Bool, true, false, if◌then◌else◌, IsTrue, List, [], ◌∷◌, ◌++◌, length, take, drop, slice_index, Option, None, Some, Result, Ok, Err, option_map}
+use Rattle.std.specs.Prelude.{◌≡◌, ℕ, ◌-◌, ◌==◌, ◌&&◌, ◌||◌, not, Bool, true, false, if◌then◌else◌, IsTrue, List, [], ◌∷◌, ◌++◌, length, take, drop, slice_get, slice_index, Option, None, Some, Result, Ok, Err, option_map}
 use Rattle.std.specs.Char.{eq_ignore_ascii_case}
 use Rattle.std.specs.List.{list_any, slice_split}
 use Rattle.std.specs.Str.{str_eq_ignore_ascii_case}
@@ -10,6 +10,8 @@ use Rattle.px_patterns.specs.declared.faults.PatternFault.TheVariants.{BadClass,
 use Rattle.px_patterns.specs.declared.hosts.Bucket.{Bucket}
 use Rattle.px_patterns.specs.declared.hosts.Bucket.TheVariants as bucket
 use Rattle.px_patterns.specs.declared.hosts.HostLabels.{HostLabels}
+use Rattle.px_patterns.specs.declared.hosts.HostPart.{HostPart}
+use Rattle.px_patterns.specs.declared.hosts.HostPart.TheVariants as part
 use Rattle.px_patterns.specs.declared.hosts.HostPattern.{HostPattern}
 use Rattle.px_patterns.specs.declared.hosts.HostPattern.TheVariants.{Address, Always, Labels}
 use Rattle.px_patterns.specs.declared.labels.LabelPattern.{LabelPattern}
@@ -111,6 +113,9 @@ host_matches Always host = true
 host_matches (Address text) host = str_eq_ignore_ascii_case text host
 host_matches (Labels pattern) host = fitting_labels pattern (host_labels host)
 
+abbrev pub host_part_matches : HostPart → List ℕ → Bool
+host_part_matches (part.Pattern pattern) host = host_matches pattern host
+
 -- ---- the first and the last label of a host
 
 -- the pattern matches the first label, and this stands behind its dot
@@ -152,6 +157,26 @@ is_label (a ∷ text) (b ∷ bytes) = is_in_label a b && is_label text bytes
 
 -- ---- under what an index keeps a pattern
 
+-- a host has a label, without case
+abbrev pub has_label : List ℕ → List ℕ → Bool
+has_label host text = list_any (str_eq_ignore_ascii_case text) (host_labels host)
+
+-- the labels of a pattern
+abbrev pub labels_within : HostPattern → List LabelPattern
+labels_within Always = []
+labels_within (Address text) = []
+labels_within (Labels pattern) = pattern.labels
+
+-- each host that the pattern matches has each of the labels that is a plain text
+abbrev pub HasEachPlain : HostPattern → List LabelPattern → Type 0
+HasEachPlain pattern labels =
+    (at : ℕ) (text host : List ℕ) → slice_get labels at ≡ Some (Plain text) → host_matches pattern host ≡ true → has_label host text ≡ true
+
+-- the text of a label without `*`, `?` and `[`
+abbrev pub plain_text : LabelPattern → Option (List ℕ)
+plain_text (Plain text) = Some text
+plain_text (Glob items) = None
+
 -- the text of the last label without `*`, `?` and `[`
 abbrev pub later_or : Option (List ℕ) → LabelPattern → Option (List ℕ)
 later_or (Some text) pattern = Some text
@@ -173,9 +198,19 @@ IsBucket pattern other = ⊥
 -- whether a host has a bucket's label, or is its address
 abbrev pub is_in_bucket : Bucket → List ℕ → Bool
 is_in_bucket bucket.Always host = true
-is_in_bucket (bucket.Label shown) host = list_any (str_eq_ignore_ascii_case shown.now) (host_labels host)
+is_in_bucket (bucket.Label shown) host = has_label host shown.now
 is_in_bucket (bucket.Address shown) host = str_eq_ignore_ascii_case shown.now host
 
 -- each host that the pattern matches is in the bucket
 abbrev pub KeepsTo : HostPattern → Bucket → Type 0
 KeepsTo pattern shown = (host : List ℕ) → host_matches pattern host ≡ true → is_in_bucket shown host ≡ true
+
+-- whether a host has the last plain label of the pattern, or is its address; every host may match where there is neither
+abbrev pub has_last_plain : Option (List ℕ) → List ℕ → Bool
+has_last_plain None host = true
+has_last_plain (Some text) host = has_label host text
+
+abbrev pub is_candidate : HostPattern → List ℕ → Bool
+is_candidate Always host = true
+is_candidate (Address text) host = str_eq_ignore_ascii_case text host
+is_candidate (Labels pattern) host = has_last_plain (last_plain pattern.labels) host

@@ -1,5 +1,6 @@
 pub mod Results
 pub mod Expressions
+pub mod Searches
 pub mod Globs
 pub mod Runs
 pub mod Hosts

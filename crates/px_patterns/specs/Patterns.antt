@@ -1,5 +1,5 @@
 -- URL patterns and tag patterns: what their texts stand for, and what they match.
-use Rattle.std.specs.Prelude.{ℕ, ◌==◌, ◌&&◌, ◌||◌, Bool, true, if◌then◌else◌, List, ◌∷◌, length, drop, slice_index, Option, None, Some, Result, Ok, Err, codes}
+use Rattle.std.specs.Prelude.{◌≡◌, ℕ, ◌==◌, ◌&&◌, ◌||◌, Bool, true, if◌then◌else◌, List, ◌∷◌, length, drop, slice_index, Option, None, Some, Result, Ok, Err, codes}
 use Rattle.std.specs.List.{after_first, before_first, list_any}
 use Rattle.px_patterns.specs.Results.{result_map}
 use Rattle.px_base.specs.Ports.{allows, port_list}
@@ -7,13 +7,14 @@ use Rattle.px_base.specs.declared.ports.PortRange.{PortRange}
 use Rattle.px_patterns.specs.declared.TheConstants.{ADDRESS_BEGIN, ADDRESS_END, CARET, COLON, SLASH}
 use Rattle.px_patterns.specs.declared.faults.PatternFault.{PatternFault}
 use Rattle.px_patterns.specs.declared.faults.PatternFault.TheVariants.{BadAddress, BadPort, HasProtocol}
+use Rattle.px_patterns.specs.declared.hosts.HostPart.TheVariants.{Pattern}
 use Rattle.px_patterns.specs.declared.hosts.HostPattern.{HostPattern}
 use Rattle.px_patterns.specs.declared.hosts.HostPattern.TheVariants.{Address}
 use Rattle.px_patterns.specs.declared.patterns.UrlPattern.{UrlPattern}
 use Rattle.px_patterns.specs.declared.patterns.TagPattern.{TagPattern}
 use Rattle.px_patterns.specs.declared.urls.Url.{Url}
 use Rattle.px_patterns.specs.Expressions.{expression_of, finds}
-use Rattle.px_patterns.specs.Hosts.{host_matches, host_pattern}
+use Rattle.px_patterns.specs.Hosts.{host_part_matches, host_pattern}
 use Rattle.px_patterns.specs.Urls.{begins_with, is_address}
 
 -- ---- what a text stands for
@@ -61,7 +62,7 @@ path_of (Some pattern) = result_map (λ text. Some text) (expression_of (CARET �
 -- the refusals of the parts in their order: the ports, the host, the path
 abbrev pub with_path : HostPattern → Option (List PortRange) → Result (Option (List ℕ)) PatternFault → Result UrlPattern PatternFault
 with_path host ports (Err fault) = Err fault
-with_path host ports (Ok path) = Ok record { host = host; ports = ports; path = path }
+with_path host ports (Ok path) = Ok record { host = Pattern host; ports = ports; path = path }
 
 abbrev pub with_host : Option (List PortRange) → Result HostPattern PatternFault → Option (List ℕ) → Result UrlPattern PatternFault
 with_host ports (Err fault) path = Err fault
@@ -114,7 +115,12 @@ path_matches (Some expression) path = finds expression path
 
 -- a URL pattern matches a URL where host, port and path match
 unfoldable pub url_matches : UrlPattern → Url → Bool
-url_matches pattern url = (host_matches pattern.host url.host && ports_match pattern.ports url.port) && path_matches pattern.path url.path
+url_matches pattern url = (host_part_matches pattern.host url.host && ports_match pattern.ports url.port) && path_matches pattern.path url.path
+
+-- no search is needed without a path pattern, and for `/`
+abbrev pub NeedsNoSearch : Option (List ℕ) → Type 0
+NeedsNoSearch None = Unit {0}
+NeedsNoSearch (Some expression) = expression ≡ codes "^/"
 
 -- a tag pattern matches a tag where its expression has a match somewhere in it
 abbrev pub tag_matches : TagPattern → List ℕ → Bool

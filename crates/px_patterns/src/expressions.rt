@@ -1,9 +1,10 @@
 // Expressions without case.
-ghost use Rattle.std.specs.Prelude.{◌≡◌, Ok, IfErr, IfOk};
-ghost use Rattle.px_patterns.specs.Expressions.{expression_of, finds};
+ghost use Rattle.std.specs.Prelude.{◌≡◌, ◌==◌, ◌↔◌, Ok, IfErr, IfOk, IsOk, IsTrue, MatchOption, codes, slice_index};
+ghost use Rattle.px_patterns.specs.Expressions.{IsBuiltFrom, expression_of, finds};
+ghost use Rattle.px_patterns.specs.Searches.{SearchesFor};
 ghost use Rattle.px_patterns.specs.Faults.{IsPatternRefusal};
 
-use crate::PatternFault;
+use crate::{PatternFault, SLASH};
 use px_base::Mem;
 use regex::bytes::Regex;
 use regex::{Error, RegexBuilder};
@@ -13,19 +14,28 @@ use std::marker::Model;
 /// An expression without case, seen as its text.
 #[derive(Drop)]
 pub struct Expression {
-    regex: Regex,
+    search: Search,
+}
+
+/// How an expression is searched.
+#[derive(Drop)]
+pub(crate) enum Search {
+    /// `^/`, of the path pattern `/`: by a look at the first byte.
+    FirstSlash,
+    /// Every other one: by what the library makes of it.
+    Built(Box<Regex>),
 }
 
 impl Model for Expression {
-    ghost use Rattle.std.specs.Prelude.{List, ℕ, ◌≡◌};
-    ghost use Rattle.regex.specs.Bytes.{regex_config, regex_source, IsReadFromSource};
-    ghost use Rattle.px_patterns.specs.Expressions.{options};
+    ghost use Rattle.std.specs.Prelude.{List, ℕ};
 
     ghost Value = { List ℕ };
 
-    ghost view = { λ e. regex_source e.regex };
+    ghost use Rattle.px_patterns.specs.Searches.{IsSearch, searched_text};
 
-    ghost invariant = { λ e. (regex_config e.regex ≡ options) × IsReadFromSource e.regex };
+    ghost view = { λ e. searched_text e.search };
+
+    ghost invariant = { λ e. IsSearch e.search };
 }
 
 impl Expression {
@@ -35,21 +45,77 @@ impl Expression {
         ensures text { IfOk result (λ e. expression_of text.now ≡ Ok e) }
         ensures refused { IfErr result (IsPatternRefusal (expression_of text.now)) }
     {
-        match RegexBuilder::new(text)
-            .case_insensitive(true)
-            .build_bytes(alloc)
-        {
-            Ok(regex) => Ok(Expression { regex }),
-            Err(Error::Syntax(_)) => Err(PatternFault::BadRegex),
-            Err(_) => Err(PatternFault::Mem),
+        if is_first_slash(text) {
+            return Ok(Expression {
+                search: Search::FirstSlash,
+            });
+        }
+        let regex = build(alloc, text)?;
+        Ok(Expression {
+            search: Search::Built(regex),
+        })
+    }
+
+    /// Whether the expression has a match somewhere in some bytes. For `^/` it takes no memory.
+    pub fn finds(&self, alloc: Global, bytes: &[u8]) -> Result<bool, Mem>
+        ensures value { IfOk result (λ yes. yes ≡ finds self.now bytes.now) }
+        ensures no_memory { self.now ≡ codes "^/" → IsOk result }
+    {
+        match self.regex() {
+            Some(regex) => {
+                let mut matcher = regex.matcher(alloc)?;
+                Ok(matcher.is_match(bytes))
+            }
+            None => Ok(begins_with_slash(bytes)),
         }
     }
 
-    /// Whether the expression has a match somewhere in some bytes.
-    pub fn finds(&self, alloc: Global, bytes: &[u8]) -> Result<bool, Mem>
-        ensures { IfOk result (λ yes. yes ≡ finds self.now bytes.now) }
+    /// What the library made of it, unless it is `^/`.
+    pub(crate) fn regex(&self) -> Option<&Regex>
+        ensures { MatchOption result (self.now ≡ codes "^/") (λ regex. SearchesFor self.now regex.now) }
     {
-        let mut matcher = self.regex.matcher(alloc)?;
-        Ok(matcher.is_match(bytes))
+        match &self.search {
+            Search::FirstSlash => None,
+            Search::Built(regex) => Some(regex),
+        }
+    }
+
+    /// The expression's text.
+    pub(crate) fn text(&self) -> &str
+        ensures { result.now ≡ self.now }
+    {
+        match &self.search {
+            Search::FirstSlash => "^/",
+            Search::Built(regex) => regex.as_str(),
+        }
+    }
+}
+
+/// Whether a text is the expression of the path pattern `/`.
+fn is_first_slash(text: &str) -> bool
+    ensures { IsTrue result ↔ (text.now ≡ codes "^/") }
+{
+    text == "^/"
+}
+
+/// Whether a slash stands first.
+fn begins_with_slash(bytes: &[u8]) -> bool
+    ensures { result ≡ (slice_index bytes.now 0 == SLASH) }
+{
+    !bytes.is_empty() && bytes[0] == SLASH
+}
+
+/// What the library makes of a text, without case. It stays where it was made.
+pub(crate) fn build(alloc: Global, text: &str) -> Result<Box<Regex>, PatternFault>
+    ensures built { IfOk result (λ regex. IsBuiltFrom text.now regex.value) }
+    ensures refused { IfErr result (IsPatternRefusal (expression_of text.now)) }
+{
+    match RegexBuilder::new(text)
+        .case_insensitive(true)
+        .build_bytes(alloc)
+    {
+        Ok(regex) => Ok(Box::new(alloc, regex)?),
+        Err(Error::Syntax(_)) => Err(PatternFault::BadRegex),
+        Err(_) => Err(PatternFault::Mem),
     }
 }

@@ -5,7 +5,7 @@ ghost use Rattle.px_patterns.specs.Faults.{IsClassRefusal, IsPatternRefusal};
 ghost use Rattle.px_patterns.specs.Hosts.{begins_with_dot, ends_with_dot, host_pattern, is_every_host, labels_in, labels_of, without_first_dot};
 
 use crate::hosts::without_last_dot;
-use crate::label_readings::{push, read_label};
+use crate::label_readings::read_label;
 use crate::{DOT, HostLabels, HostPattern, LabelPattern, PatternFault};
 use px_base::{List, cut};
 use std::alloc::Global;
@@ -87,7 +87,7 @@ fn read_labels(alloc: Global, text: &[u8]) -> Result<List<LabelPattern>, Pattern
     'reads: loop {
         let (label, behind) = cut(rest, DOT);
         let label = read_label(alloc, label)?;
-        push(&mut labels, label)?;
+        labels.add(label)?;
         match behind {
             Some(more) => rest = more,
             None => return Ok(labels),

@@ -1,13 +1,14 @@
 // Host patterns.
-ghost use Rattle.std.specs.Prelude.{◌≡◌, ◌↔◌, ◌++◌, ◌∷◌, [], true, false, IsTrue, MatchOption, length, option_copied};
+ghost use Rattle.std.specs.Prelude.{◌≡◌, ◌↔◌, ◌==◌, ◌++◌, ◌∷◌, [], true, false, IsTrue, MatchOption, length, option_copied};
+ghost use Rattle.std.specs.List.{slice_split};
 ghost use Rattle.px_base.specs.Cuts.{parts_of};
 ghost use Rattle.px_patterns.specs.Globs.{some_tail};
-ghost use Rattle.px_patterns.specs.Hosts.{HasFirst, HasLast, LacksFirst, LacksLast, is_in_label, is_label, labels_in, labels_match, last_plain, without_last_dot};
+ghost use Rattle.px_patterns.specs.Hosts.{HasFirst, HasLast, LacksFirst, LacksLast, host_labels, is_in_label, is_label, labels_in, labels_match, last_plain, without_last_dot};
 ghost use Rattle.px_patterns.specs.declared.labels.LabelPattern.TheVariants.{Plain};
 
 use crate::{DOT, LabelPattern};
 use memchr::memrchr;
-use px_base::{List, Text, cut};
+use px_base::{List, Text, cut, same_without_case};
 
 /// The labels of a host pattern.
 #[derive(Drop)]
@@ -30,6 +31,12 @@ pub enum HostPattern {
     Labels(HostLabels),
 }
 
+/// The host part of a URL pattern.
+#[derive(Drop)]
+pub enum HostPart {
+    Pattern(HostPattern),
+}
+
 /// Under what an index keeps a host pattern: hosts that the pattern matches have this label, or are this address.
 #[derive(Clone, Copy, Debug, PartialEq, Eq)]
 pub enum Bucket<'a> {
@@ -41,19 +48,47 @@ pub enum Bucket<'a> {
     Address(&'a [u8]),
 }
 
+impl HostPart {
+    ghost use Rattle.px_patterns.specs.Hosts.{host_part_matches};
+
+    /// Whether it matches a host. It takes no memory.
+    pub fn matches(&self, host: &[u8]) -> bool
+        ensures { result ≡ host_part_matches self.now host.now }
+    {
+        match self {
+            HostPart::Pattern(pattern) => pattern.matches(host),
+        }
+    }
+}
+
 impl HostPattern {
-    ghost use Rattle.px_patterns.specs.Hosts.{HostFits, IsBucket, KeepsTo, host_matches, host_pattern};
+    ghost use Rattle.px_patterns.specs.Hosts.{HasEachPlain, HostFits, IsBucket, KeepsTo, host_matches, is_candidate, labels_within};
 
     /// Whether the pattern matches a host. The host loses one dot at its end. It takes no memory.
     #[tactic(auto, unfolding(crate::specs::Hosts::host_matches))]
     pub fn matches(&self, host: &[u8]) -> bool
         ensures value { result ≡ host_matches self.now host.now }
         ensures fits { IsTrue result ↔ HostFits self.now host.now }
+        ensures candidate { IsTrue result → IsTrue (is_candidate self.now host.now) }
     {
         match self {
             HostPattern::Always => true,
-            HostPattern::Address(text) => text.as_bytes().eq_ignore_ascii_case(host),
+            HostPattern::Address(text) => same_without_case(text.as_bytes(), host),
             HostPattern::Labels(labels) => labels.matches(without_last_dot(host)),
+        }
+    }
+
+    /// Its labels, none for an address or every host. Each host that it matches has each of them that is a plain text. It takes
+    /// no memory.
+    #[tactic(auto, using(crate::proofs::HostLemmas::keeps_each))]
+    pub fn labels(&self) -> &[LabelPattern]
+        ensures labels { result.now ≡ labels_within self.now }
+        ensures keeps { HasEachPlain self.now result.now }
+    {
+        match self {
+            HostPattern::Always => &[],
+            HostPattern::Address(_) => &[],
+            HostPattern::Labels(labels) => labels.labels.as_slice(),
         }
     }
 
@@ -252,9 +287,10 @@ fn cut_last(bytes: &[u8]) -> (Option<&[u8]>, &[u8])
     }
 }
 
-/// The bytes without a dot at their end.
+/// The bytes without a dot at their end. What is left of a URL's host has its labels between dots.
 pub fn without_last_dot(bytes: &[u8]) -> &[u8]
-    ensures { result.now ≡ without_last_dot bytes.now }
+    ensures text { result.now ≡ without_last_dot bytes.now }
+    ensures labels { slice_split (λ b. b == 46) result.now ≡ host_labels bytes.now }
 {
     if bytes.ends_with(&[DOT]) {
         &bytes[..bytes.len() - 1]

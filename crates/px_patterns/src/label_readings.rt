@@ -1,5 +1,5 @@
 // Reads labels of host patterns.
-ghost use Rattle.std.specs.Prelude.{◌≡◌, ◌++◌, ◌∷◌, [], ◌<◌, None, Some, IfErr, IfOk, OnOk, length};
+ghost use Rattle.std.specs.Prelude.{◌≡◌, ◌<◌, None, Some, IfErr, IfOk, length};
 ghost use Rattle.std.specs.List.{list_any};
 ghost use Rattle.px_patterns.specs.Faults.{IsClassRefusal};
 ghost use Rattle.px_patterns.specs.Globs.{class_of, is_wild, item_of, items_from, label_of, ranges_of, with_range};
@@ -8,7 +8,7 @@ use crate::{
     CLASS_BEGIN, CLASS_END, ClassRange, DASH, Item, LabelPattern, PatternFault, QUESTION_MARK, STAR,
 };
 use memchr::memchr;
-use px_base::{List, Mem, Text};
+use px_base::{List, Text};
 use std::alloc::Global;
 
 /// Reads a label; of refusals only `BadClass` comes.
@@ -52,13 +52,13 @@ fn read_items(alloc: Global, text: &[u8]) -> Result<List<Item>, PatternFault>
                 Some(at) => {
                     let (content, after) = behind.split_at(at);
                     let class = read_class(alloc, content)?;
-                    push(&mut items, class)?;
+                    items.add(class)?;
                     rest = &after[1..];
                 }
                 None => return Err(PatternFault::BadClass),
             }
         } else {
-            push(&mut items, item_of(first))?;
+            items.add(item_of(first))?;
             rest = behind;
         }
     }
@@ -102,7 +102,7 @@ fn read_ranges(alloc: Global, bytes: &[u8]) -> Result<List<ClassRange>, PatternF
         if range.last < range.first {
             return Err(PatternFault::BadClass);
         }
-        push(&mut ranges, range)?;
+        ranges.add(range)?;
         rest = behind;
     }
     Ok(ranges)
@@ -120,14 +120,4 @@ fn first_range(bytes: &[u8]) -> (ClassRange, &[u8])
         return (ClassRange { first, last }, &bytes[3..]);
     }
     (ClassRange { first, last: first }, &bytes[1..])
-}
-
-/// Adds an item at the end of a list.
-pub fn push<T: Drop>(list: &mut List<T>, item: T) -> Result<(), Mem>
-    ensures { OnOk result (list.new ≡ list.old ++ item ∷ []) }
-{
-    match list.push(item) {
-        Ok(()) => Ok(()),
-        Err(_) => Err(Mem),
-    }
 }

@@ -3,7 +3,7 @@ ghost use Rattle.std.specs.Prelude.{◌≡◌, ◌≤◌, ◌↔◌, ◌++◌, f
 ghost use Rattle.px_patterns.specs.Globs.{CanBeCut, glob_matches, in_class, in_range, items_in, label_matches, some_tail, takes};
 ghost use Rattle.px_patterns.specs.Runs.{behind_first, behind_run, has_run, is_run, takes_front};
 
-use px_base::{List, Text};
+use px_base::{List, Text, same_without_case};
 
 /// Bytes from `first` to `last`, both of them included.
 #[derive(Clone, Copy, Debug, PartialEq, Eq)]
@@ -77,6 +77,18 @@ fn in_range(byte: u8, range: &ClassRange) -> bool
 }
 
 impl LabelPattern {
+    ghost use Rattle.px_patterns.specs.Hosts.{plain_text};
+
+    /// Its text, where it is a label without `*`, `?` and `[`.
+    pub fn plain(&self) -> Option<&[u8]>
+        ensures { option_copied result ≡ plain_text self.now }
+    {
+        match self {
+            LabelPattern::Plain(text) => Some(text.as_bytes()),
+            LabelPattern::Glob(_) => None,
+        }
+    }
+
     /// Whether the pattern matches a label. It takes no memory, and time in proportion to the label's length where there
     /// is at most one `*`.
     pub fn matches(&self, label: &[u8]) -> bool
@@ -84,7 +96,7 @@ impl LabelPattern {
         ensures cut { IsTrue result ↔ CanBeCut (items_in self.now) label.now }
     {
         match self {
-            LabelPattern::Plain(text) => text.as_bytes().eq_ignore_ascii_case(label),
+            LabelPattern::Plain(text) => same_without_case(text.as_bytes(), label),
             LabelPattern::Glob(items) => glob_matches(items.as_slice(), label),
         }
     }

@@ -1,10 +1,13 @@
 //! URLs, and patterns that match URLs and tags.
 #![tactic(auto)]
 
+ghost use Rattle.std.specs.Prelude.{◌≡◌};
+
 mod expressions;
 mod faults;
 mod host_readings;
 mod hosts;
+mod kept;
 mod label_readings;
 mod labels;
 mod pattern_readings;
@@ -12,14 +15,17 @@ mod patterns;
 mod places;
 #[cfg(test)]
 mod tests;
+mod unions;
 mod url_readings;
 mod urls;
 
 pub use expressions::Expression;
 pub use faults::{PatternFault, UrlFault};
-pub use hosts::{Bucket, HostLabels, HostPattern};
+pub use hosts::{Bucket, HostLabels, HostPart, HostPattern, without_last_dot};
+pub use kept::Kept;
 pub use labels::{ClassRange, Item, LabelPattern};
 pub use patterns::{TagPattern, UrlPattern};
+pub use unions::{KeptUnion, Union, UnionBuilder};
 pub use urls::Url;
 
 /// The port of a URL without one.
@@ -54,3 +60,23 @@ const QUESTION_MARK: u8 = b'?';
 const SLASH: u8 = b'/';
 
 const STAR: u8 = b'*';
+
+/// The bytes and the port of the rules.
+pub fn constants()
+    ensures default_port { DEFAULT_PORT ≡ 80 }
+    ensures address_begin { ADDRESS_BEGIN ≡ 60 }
+    ensures address_end { ADDRESS_END ≡ 62 }
+    ensures at { AT ≡ 64 }
+    ensures bracket_begin { BRACKET_BEGIN ≡ 91 }
+    ensures bracket_end { BRACKET_END ≡ 93 }
+    ensures caret { CARET ≡ 94 }
+    ensures class_begin { CLASS_BEGIN ≡ 91 }
+    ensures class_end { CLASS_END ≡ 93 }
+    ensures colon { COLON ≡ 58 }
+    ensures dash { DASH ≡ 45 }
+    ensures dot { DOT ≡ 46 }
+    ensures hash { HASH ≡ 35 }
+    ensures question_mark { QUESTION_MARK ≡ 63 }
+    ensures slash { SLASH ≡ 47 }
+    ensures star { STAR ≡ 42 }
+{}

@@ -8,7 +8,7 @@ ghost use Rattle.px_patterns.specs.Patterns.{addressed_pattern, behind_slash, ha
 
 use crate::host_readings::read_host;
 use crate::places::{begins_with, behind_first, is_address, split_at};
-use crate::{CARET, Expression, HostPattern, PatternFault, SLASH, UrlPattern};
+use crate::{CARET, Expression, HostPart, HostPattern, PatternFault, SLASH, UrlPattern};
 use px_base::{Ports, PortsFault, Text};
 use std::alloc::Global;
 
@@ -122,6 +122,7 @@ fn with_path(
     ensures pattern { IfOk result (λ pattern. with_path host ports (path_of (behind_slash (option_copied path.entry))) ≡ Ok pattern) }
     ensures refused { IfErr result (IsPatternRefusal (with_path host ports (path_of (behind_slash (option_copied path.entry))))) }
 {
+    let host = HostPart::Pattern(host);
     match path {
         Some(path) => {
             let expression = read_path(alloc, path)?;

@@ -1,10 +1,10 @@
 // URL patterns and tag patterns.
-ghost use Rattle.std.specs.Prelude.{◌≡◌, ◌+◌, Ok, IfErr, IfOk, IsNone, IsOk};
-ghost use Rattle.px_patterns.specs.Patterns.{ports_match};
+ghost use Rattle.std.specs.Prelude.{◌≡◌, ◌+◌, ◌&&◌, Ok, Some, IfErr, IfOk, IsOk};
+ghost use Rattle.px_patterns.specs.Patterns.{NeedsNoSearch, ports_match};
 
 use crate::pattern_readings::{has_protocol, read_parts};
 use crate::places::split_at;
-use crate::{Expression, HostPattern, PatternFault, Url};
+use crate::{Expression, HostPart, HostPattern, Kept, PatternFault, Url};
 use px_base::{Mem, Ports, Steps};
 use std::alloc::Global;
 use std::sync::ledger::Ledger;
@@ -13,7 +13,7 @@ use std::sync::ledger::Ledger;
 /// "Patterns to Match Requests".
 #[derive(Drop)]
 pub struct UrlPattern {
-    pub host: HostPattern,
+    pub host: HostPart,
     /// The ports that match; all where no port stands.
     pub ports: Option<Ports>,
     /// `^` and the path pattern; every path matches where none stands.
@@ -22,6 +22,7 @@ pub struct UrlPattern {
 
 impl UrlPattern {
     ghost use Rattle.px_patterns.specs.Faults.{IsPatternRefusal};
+    ghost use Rattle.px_patterns.specs.Hosts.{host_part_matches};
     ghost use Rattle.px_patterns.specs.Patterns.{url_matches, url_pattern};
 
     /// Reads a pattern. The first refusal is answered, in the order `HasProtocol`, `BadAddress`, `BadPort`, `EmptyLabel`,
@@ -39,14 +40,18 @@ impl UrlPattern {
         }
     }
 
+    /// The pattern of its host part.
     pub fn host(&self) -> &HostPattern
-        ensures { result.now ≡ self.now.host }
+        ensures { self.now.host ≡ HostPart.Pattern result.now }
     {
-        &self.host
+        match &self.host {
+            HostPart::Pattern(pattern) => pattern,
+        }
     }
 
+    /// Whether host, port and path match. It adds one to the steps. Without a path pattern, and for the path pattern `/`, it
+    /// takes no memory.
     #[tactic(auto, unfolding(crate::specs::Patterns::url_matches))]
-    /// Whether host, port and path match. It adds one to the steps. Without a path pattern it takes no memory.
     pub fn matches<L: Ledger>(
         &self,
         alloc: Global,
@@ -55,19 +60,45 @@ impl UrlPattern {
     ) -> Result<bool, Mem>
         ensures value { IfOk result (λ yes. yes ≡ url_matches self.now url.now) }
         ensures ticks { steps.new ≡ steps.old + 1 }
-        ensures no_memory { IsNone self.now.path → IsOk result }
+        ensures no_memory { NeedsNoSearch self.now.path → IsOk result }
     {
-        steps.tick();
-        if !self.host.matches(url.host.as_bytes()) {
-            return Ok(false);
-        }
-        if !allow(&self.ports, url.port) {
+        if !self.is_met(url, steps) {
             return Ok(false);
         }
         match &self.path {
             Some(expression) => expression.finds(alloc, url.path.as_bytes()),
             None => Ok(true),
         }
+    }
+
+    /// The same with the expression of the path pattern and what it keeps.
+    #[tactic(auto, unfolding(crate::specs::Patterns::url_matches))]
+    pub fn matches_with<L: Ledger>(
+        &self,
+        alloc: Global,
+        kept: &mut Kept<'_>,
+        url: &Url,
+        steps: &mut Steps<L>,
+    ) -> Result<bool, Mem>
+        requires { self.now.path ≡ Some kept.old }
+        ensures value { IfOk result (λ yes. yes ≡ url_matches self.now url.now) }
+        ensures ticks { steps.new ≡ steps.old + 1 }
+        ensures same { kept.new ≡ kept.old }
+        ensures no_memory { NeedsNoSearch self.now.path → IsOk result }
+    {
+        if !self.is_met(url, steps) {
+            return Ok(false);
+        }
+        kept.finds(alloc, url.path.as_bytes())
+    }
+
+    /// Whether host and port match. It adds one to the steps.
+    fn is_met<L: Ledger>(&self, url: &Url, steps: &mut Steps<L>) -> bool
+        ensures value { result ≡ (host_part_matches self.now.host url.now.host && ports_match self.now.ports url.now.port) }
+        ensures ticks { steps.new ≡ steps.old + 1 }
+    {
+        steps.tick();
+        self.host.matches(url.host.as_bytes()) && allow(&self.ports, url.port)
     }
 }
 
@@ -105,5 +136,13 @@ impl TagPattern {
         ensures { IfOk result (λ yes. yes ≡ tag_matches self.now tag.now) }
     {
         self.expression.finds(alloc, tag)
+    }
+    /// The same with its expression and what it keeps.
+    pub fn matches_with(&self, alloc: Global, kept: &mut Kept<'_>, tag: &[u8]) -> Result<bool, Mem>
+        requires { self.now.expression ≡ kept.old }
+        ensures value { IfOk result (λ yes. yes ≡ tag_matches self.now tag.now) }
+        ensures same { kept.new ≡ kept.old }
+    {
+        kept.finds(alloc, tag)
     }
 }

@@ -5,13 +5,14 @@ ghost use Rattle.px_patterns.specs.Places.{BeginsWith, HasPlace, IsCut, LacksPla
 ghost use Rattle.px_patterns.specs.Urls.{begins_with, ends_host, is_address, is_address_byte};
 
 use crate::{COLON, DOT, HASH, QUESTION_MARK, SLASH};
-use memchr::{memchr, memchr3};
+use memchr::memchr3;
+use px_base::same_without_case;
 
 /// The place of the first byte that equals `stop`.
 pub fn place(stop: u8, bytes: &[u8]) -> Option<usize>
     ensures { MatchOption result (LacksPlace (λ b. b == stop) bytes.now) (HasPlace (λ b. b == stop) bytes.now) }
 {
-    memchr(stop, bytes)
+    px_base::place(bytes, stop)
 }
 
 /// Where the host part of a URL ends: before the first `/`, `?` or `#`, or at the text's end.
@@ -58,7 +59,7 @@ pub fn begins_with(text: &[u8], front: &[u8]) -> bool
     ensures { result ≡ begins_with text.now front.now }
 {
     let end = front.len().min(text.len());
-    text[..end].eq_ignore_ascii_case(front)
+    same_without_case(&text[..end], front)
 }
 
 /// Whether a text is one or more hexadecimal digits, colons and dots.

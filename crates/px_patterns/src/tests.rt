@@ -1,4 +1,4 @@
-ghost use Rattle.std.specs.Prelude.{◌≡◌, ◌<◌};
+ghost use Rattle.std.specs.Prelude.{◌≡◌, ◌<◌, Some};
 
 use crate::*;
 use px_base::Steps;
@@ -56,6 +56,33 @@ const PATTERNS: &[(&str, &[&str], &[&str])] = &[
         &["http://a.test:81/", "http://a.test:65535/x"],
         &["http://a.test/"],
     ),
+    (
+        "a.test:-",
+        &["http://a.test:1/", "http://a.test:65535/"],
+        &["http://b.test/"],
+    ),
+    (":81", &["http://b.test:81/"], &["http://b.test/"]),
+    (".", &["http://a.test/", "http://b/"], &[]),
+    (
+        "a?.test",
+        &["http://ab.test/", "http://A7.test/"],
+        &["http://a.test/", "http://abc.test/"],
+    ),
+    (
+        "[-a].[b-]",
+        &["http://-.b/", "http://A.-/"],
+        &["http://b.b/", "http://a.a/"],
+    ),
+    (
+        ".a.b.",
+        &["http://x.a.b.y/", "http://a.b/", "http://a.a.b/"],
+        &["http://a.x.b/", "http://xa.b/", "http://b.a/"],
+    ),
+    (
+        "<::1>:81",
+        &["http://[::1]:81/"],
+        &["http://[::1]/", "http://[::2]:81/"],
+    ),
     ("/", &["http://a.test/", "http://b.test:81/?x"], &[]),
 ];
 
@@ -112,6 +139,72 @@ fn patterns_match_what_the_manual_says(rt: HostRuntime) -> Result<(), Fail> {
     Ok(())
 }
 
+/// What a pattern answers twice in a row with its expression and what that keeps.
+fn answers_kept<L: Ledger>(
+    alloc: Global,
+    pattern: &UrlPattern,
+    kept: &mut Kept<'_>,
+    url: &Url,
+    blank: Blank,
+) -> Option<(bool, bool)>
+    requires name { blank.name ≡ L.name }
+    requires parts { blank.parts ≡ L.parts }
+    requires some { 0 < L.parts }
+    requires kept { pattern.now.path ≡ Some kept.old }
+{
+    let mut steps: Steps<L> = Steps::begin(blank);
+    let Ok(first) = pattern.matches_with(alloc, kept, url, &mut steps) else {
+        return None;
+    };
+    let Ok(second) = pattern.matches_with(alloc, kept, url, &mut steps) else {
+        return None;
+    };
+    Some((first, second))
+}
+
+fn kept_matches(alloc: Global, pattern: &UrlPattern, url: &Url) -> Option<(bool, bool)> {
+    match &pattern.path {
+        Some(expression) => {
+            let mut kept = Kept::new(expression);
+            answers_kept::<Brand>(alloc, pattern, &mut kept, url, Blank::new(1))
+        }
+        None => None,
+    }
+}
+
+#[test]
+fn kept_expressions_answer_as_fresh_ones(rt: HostRuntime) -> Result<(), Fail> {
+    let alloc = rt.alloc();
+    for (text, url, wanted) in [
+        ("/a|b", "http://a.test/xb", true),
+        ("/a|b", "http://a.test/x", false),
+        ("/", "http://a.test/x", true),
+        ("b.test/x", "http://a.test/x", false),
+    ] {
+        let Ok(pattern) = UrlPattern::read(alloc, text) else {
+            panic!(rt; "{text} isn't read");
+        };
+        assert_eq!(rt;
+            kept_matches(alloc, &pattern, &url_of(alloc, url)?),
+            Some((wanted, wanted)),
+            "{url} at {text}"
+        );
+    }
+    Ok(())
+}
+
+#[test]
+fn ports_are_from_one_on(rt: HostRuntime) -> Result<(), Fail> {
+    let alloc = rt.alloc();
+    let Ok(pattern) = UrlPattern::read(alloc, "a.test:-") else {
+        panic!(rt; "no pattern");
+    };
+    let mut url = url_of(alloc, "http://a.test/")?;
+    url.port = 0;
+    assert_eq!(rt; matches(alloc, &pattern, &url), Some(false));
+    Ok(())
+}
+
 #[test]
 fn patterns_are_refused_by_their_number(rt: HostRuntime) -> Result<(), Fail> {
     for (text, wanted) in [
@@ -125,6 +218,12 @@ fn patterns_are_refused_by_their_number(rt: HostRuntime) -> Result<(), Fail> {
         ("[].test", 5),
         ("[a.test", 5),
         ("<::1>x", 42),
+        ("https://a.test:0", 3),
+        ("<x>:0", 42),
+        ("<x:0", 42),
+        ("a..b:0", 4),
+        ("[z-a]..b", 7),
+        ("[z-a]/(", 5),
     ] {
         match UrlPattern::read(rt.alloc(), text) {
             Err(PatternFault::Mem) => panic!(rt; "no memory for {text}"),
@@ -144,6 +243,7 @@ fn urls_are_read_and_printed(rt: HostRuntime) -> Result<(), Fail> {
         ("http://A.test", "A.test", 80, "/", "http://A.test/"),
         ("HTTP://a.test:/?q", "a.test", 80, "/?q", "http://a.test/?q"),
         ("http://[::1]:81/x", "::1", 81, "/x", "http://[::1]:81/x"),
+        ("http://a.test#x", "a.test", 80, "/#x", "http://a.test/#x"),
     ] {
         let url = url_of(alloc, text)?;
         assert_eq!(rt; url.host.as_bytes(), host.as_bytes(), "{text}");
@@ -169,6 +269,10 @@ fn urls_are_refused_by_their_number(rt: HostRuntime) {
         ("http://a.test:70000/", 11),
         ("http://a.test/a b", 43),
         ("ftp://a.test/", 8),
+        ("https://a.test/", 8),
+        ("ftp://a b/", 43),
+        ("http://u@:0/", 10),
+        ("http://:0/", 9),
     ] {
         match Url::read(rt.alloc(), text.as_bytes()) {
             Err(UrlFault::Mem) => panic!(rt; "no memory for {text}"),
@@ -205,8 +309,8 @@ fn tag_patterns_search_anywhere_in_a_tag(rt: HostRuntime) {
     for (text, tag, wanted) in [
         ("^Xx$", "Xx", true),
         ("^Xx$", "xX", true),
-        ("^Xx$", "Xxx", false),
-        ("Xx", "aXxb", true),
+        ("^Xx$", "xxx", false),
+        ("Xx", "aXXb", true),
         ("Xx", "Yy", false),
     ] {
         match TagPattern::read(alloc, text) {
@@ -218,6 +322,57 @@ fn tag_patterns_search_anywhere_in_a_tag(rt: HostRuntime) {
         }
     }
     assert!(rt; matches!(TagPattern::read(alloc, "("), Err(PatternFault::BadRegex)));
+}
+
+#[test]
+fn kept_tag_patterns_answer_as_fresh_ones(rt: HostRuntime) {
+    let alloc = rt.alloc();
+    match TagPattern::read(alloc, "^Xx$") {
+        Ok(pattern) => {
+            let mut kept = Kept::new(&pattern.expression);
+            match pattern.matches_with(alloc, &mut kept, b"xX") {
+                Ok(found) => assert!(rt; found),
+                Err(_) => panic!(rt; "no memory"),
+            }
+        }
+        Err(_) => panic!(rt; "not read"),
+    }
+}
+
+/// Whether one of three expressions finds something in a path, asked twice in a row.
+fn finds_any_of(alloc: Global, texts: [&str; 3], path: &str) -> Option<(bool, bool)> {
+    let mut builder = UnionBuilder::new(alloc);
+    for text in texts {
+        let Ok(expression) = Expression::read(alloc, text) else {
+            return None;
+        };
+        let Ok(()) = builder.add(alloc, &expression) else {
+            return None;
+        };
+    }
+    let union = builder.build();
+    let mut kept = KeptUnion::new(&union);
+    let Ok(first) = kept.finds_any(alloc, path.as_bytes()) else {
+        return None;
+    };
+    let Ok(second) = kept.finds_any(alloc, path.as_bytes()) else {
+        return None;
+    };
+    Some((first, second))
+}
+
+#[test]
+fn a_union_finds_what_one_of_its_expressions_finds(rt: HostRuntime) {
+    for (path, wanted) in [
+        ("/ADS/1", true),
+        ("/x/ads", false),
+        ("/b7", true),
+        ("/b", false),
+        ("/x.gif", true),
+    ] {
+        let found = finds_any_of(rt.alloc(), ["^/ads", "^/b[0-9]", r"\.gif$"], path);
+        assert_eq!(rt; found, Some((wanted, wanted)), "{path}");
+    }
 }
 
 #[test]
@@ -233,6 +388,21 @@ fn buckets_are_the_last_plain_label_or_the_address(rt: HostRuntime) {
             Err(_) => panic!(rt; "{text} isn't read"),
         }
     }
+}
+
+#[test]
+fn labels_of_patterns_and_hosts(rt: HostRuntime) {
+    match UrlPattern::read(rt.alloc(), ".doubleclick.n*") {
+        Ok(pattern) => {
+            let labels = pattern.host().labels();
+            assert_eq!(rt; labels.len(), 2);
+            for (label, wanted) in labels.iter().zip([Some(b"doubleclick".as_slice()), None]) {
+                assert!(rt; label.plain() == wanted);
+            }
+        }
+        Err(_) => panic!(rt; "not read"),
+    }
+    assert_eq!(rt; without_last_dot(b"a.test."), b"a.test".as_slice());
 }
 
 fn shared<T: Send + Sync>(_value: &T) {}

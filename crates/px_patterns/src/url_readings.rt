@@ -1,14 +1,12 @@
 // Reads URLs.
 ghost use Rattle.std.specs.Prelude.{◌≡◌, None, Some, Ok, IfErr, IfOk, MatchOption};
 ghost use Rattle.std.specs.List.{list_any};
-ghost use Rattle.std.specs.Str.{is_utf8};
-ghost use Rattle.px_base.specs.Ports.{port};
 ghost use Rattle.px_patterns.specs.Faults.{IsUrlRefusal};
 ghost use Rattle.px_patterns.specs.Urls.{bracketed_host, has_bad_byte, host_of, is_bad, named_host, path_of, port_of, url_of_part};
 
 use crate::places::{is_address, name_end, place};
 use crate::{AT, BRACKET_BEGIN, BRACKET_END, COLON, DEFAULT_PORT, SLASH, Url, UrlFault};
-use px_base::{Mem, Text, read_decimal};
+use px_base::{Mem, Text, is_text, read_port};
 use std::alloc::Global;
 
 /// Whether a text isn't UTF-8, or has a byte that no URL holds.
@@ -23,12 +21,6 @@ fn has_bad(text: &[u8]) -> bool
     ensures { result ≡ list_any is_bad text.now }
 {
     text.iter().any(|byte| is_bad(*byte))
-}
-
-fn is_text(text: &[u8]) -> bool
-    ensures { result ≡ is_utf8 text.now }
-{
-    str::from_utf8(text).is_ok()
 }
 
 fn is_bad(byte: u8) -> bool
@@ -112,21 +104,6 @@ fn port_of(needed: bool, behind: &[u8]) -> Option<u16>
         return read_port(&behind[1..]);
     }
     None
-}
-
-/// A port: a number from 1 to 65,535.
-#[tactic(auto, unfolding(px_base::specs::Ports::port))]
-fn read_port(digits: &[u8]) -> Option<u16>
-    ensures { result ≡ port digits.now }
-{
-    match read_decimal(digits, 65_535) {
-        Some(number) => if number == 0 {
-            None
-        } else {
-            Some(number as u16)
-        },
-        None => None,
-    }
 }
 
 /// The path of what stands behind a host part, with a slash put before it where it begins with none.

@@ -23,11 +23,6 @@ first_from_empty lines text no_lines no_text = record {
   fault = λ rest. rw no_text (ap (earlier (first_not_text 1 rest)) (first_too_long-own 1 rest));
 }
 
--- a text that is read as UTF-8 passes the test
-pub is_text-from : {T E : Type 0} (r : Result T E) (bytes : List ℕ) → MatchResult r (λ _. IsUtf8 bytes) (λ _. ¬ (IsUtf8 bytes)) → is_ok r ≡ is_utf8 bytes
-is_text-from (Ok x) bytes read = sym (is_utf8-from_IsUtf8 bytes read)
-is_text-from (Err e) bytes refused = elim (cases_Bool (is_utf8 bytes)) [ inl does ↦ absurd (refused (IsUtf8-from_is_utf8 bytes does)) | inr fails ↦ sym fails ]
-
 -- a joined line that is kept, and one that isn't
 pub kept_line-empty : (number : ℕ) (text shown : List ℕ) → shown ≡ trimmed text → (length shown == 0) ≡ true → kept_line number text ≡ []
 unfolding kept

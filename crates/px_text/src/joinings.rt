@@ -3,9 +3,9 @@ ghost use Rattle.std.specs.Prelude.{◌≡◌, ◌+◌, ◌++◌, ◌∷◌, [],
 ghost use Rattle.px_text.specs.Faults.{IsReported};
 ghost use Rattle.px_text.specs.Joinings.{Adds, IsFirst, IsJoining, IsLater, IsNoted, Refuses, after_line, fault_after, kept_line, lines_after, with_note};
 
-use crate::parts::{is_text, push_part, split_continuation};
+use crate::parts::{push_part, split_continuation};
 use crate::{LINE_LIMIT, Line, TextFault};
-use px_base::{List, Mem, Text, trim};
+use px_base::{List, Mem, Text, is_text, trim};
 use std::alloc::Global;
 
 /// The lines that are whole, and the one that is being joined.

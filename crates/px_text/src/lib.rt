@@ -1,6 +1,8 @@
 //! The lines of a file: comments cut, continued lines joined, white space at the ends dropped.
 #![tactic(auto)]
 
+ghost use Rattle.std.specs.Prelude.{◌≡◌, ◌∷◌, []};
+
 mod faults;
 mod joinings;
 mod lines;
@@ -25,6 +27,12 @@ const HASH: u8 = b'#';
 
 const LINE_FEED: u8 = b'\n';
 
-const SPACE: u8 = b' ';
-
-const TAB: u8 = b'\t';
+/// The bytes and the limit of the rules.
+pub fn constants()
+    ensures line_limit { LINE_LIMIT ≡ 8192 }
+    ensures byte_order_mark { BYTE_ORDER_MARK ≡ 239 ∷ 187 ∷ 191 ∷ [] }
+    ensures backslash { BACKSLASH ≡ 92 }
+    ensures carriage_return { CARRIAGE_RETURN ≡ 13 }
+    ensures hash { HASH ≡ 35 }
+    ensures line_feed { LINE_FEED ≡ 10 }
+{}

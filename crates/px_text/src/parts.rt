@@ -1,6 +1,5 @@
 // One physical line of a file: where it ends, and what it adds to its joined line.
 ghost use Rattle.std.specs.Prelude.{◌≡◌, ◌++◌, ◌∷◌, ◌<◌, length, OnOk};
-ghost use Rattle.std.specs.Str.{is_utf8};
 ghost use Rattle.std.specs.Str.Lines.{lines, strip_carriage_return};
 ghost use Rattle.px_text.specs.Lines.{is_continued, uncommented, unescaped, without_continuation, without_mark};
 
@@ -52,13 +51,6 @@ pub fn split_continuation(line: &[u8]) -> (&[u8], bool)
     } else {
         (line, false)
     }
-}
-
-/// Whether a line is UTF-8.
-pub fn is_text(line: &[u8]) -> bool
-    ensures { result ≡ is_utf8 line.now }
-{
-    str::from_utf8(line).is_ok()
 }
 
 /// Adds to the joined line what a physical line holds: its bytes up to a comment, with each `\#` as `#`.

@@ -1,5 +1,4 @@
-use crate::{Line, TextFault, logical_lines};
-use px_base::List;
+use crate::{TextFault, logical_lines};
 use std::alloc::Global;
 use std::test::Fail;
 
@@ -32,56 +31,71 @@ fn comments_are_cut_and_continued_lines_joined(rt: HostRuntime) -> Result<(), Fa
     Ok(())
 }
 
-/// Adds a physical line of `a`s to a file.
-fn push_line(file: &mut Vec<u8>, count: usize, end: &[u8]) -> Result<(), Fail> {
-    for _ in 0..count {
-        file.push(b'a')?;
+/// Files of long lines, each as runs of `a`s with what follows them, and their refusals.
+const LONG_FILES: &[(&[(usize, &[u8])], Option<TextFault>, &str)] = &[
+    (&[(8192, b"\n")], None, "8,192 bytes"),
+    (
+        &[(8192, b" \n")],
+        Some(TextFault::TooLong { line: 1 }),
+        "white space counts",
+    ),
+    (
+        &[(1, b"#"), (9000, b"\n")],
+        None,
+        "a comment doesn't count",
+    ),
+    (
+        &[(8191, b" b\n\xff\n")],
+        Some(TextFault::TooLong { line: 1 }),
+        "8,193 bytes before a line that isn't text",
+    ),
+    (
+        &[(0, b"\na\\\n\xff\\\n"), (8192, b"\n")],
+        Some(TextFault::TooLong { line: 2 }),
+        "a joined line that is too long, and whose second line isn't text",
+    ),
+    (
+        &[(0, b"\xff\\\n"), (8192, b"\n")],
+        Some(TextFault::NotText { line: 1 }),
+        "a joined line that is too long, and whose first line isn't text",
+    ),
+    (
+        &[(0, b"a\n\\\nb\xff")],
+        Some(TextFault::NotText { line: 3 }),
+        "the third line isn't text",
+    ),
+];
+
+/// A file of runs of `a`s with what follows each.
+fn file_of(alloc: Global, runs: &[(usize, &[u8])]) -> Result<Vec<u8>, Fail> {
+    let mut file = Vec::new(alloc);
+    for (count, end) in runs {
+        for _ in 0..*count {
+            file.push(b'a')?;
+        }
+        file.extend_from_slice(end)?;
     }
-    file.extend_from_slice(end)?;
-    Ok(())
+    Ok(file)
 }
 
-/// Reads the lines of a short file.
-fn read(alloc: Global, file: &[u8]) -> Result<List<Line>, TextFault> {
-    if file.len() <= 100_000 {
-        logical_lines(alloc, file)
-    } else {
-        Err(TextFault::Mem)
+/// The refusal of a short file.
+fn refusal(alloc: Global, file: &[u8]) -> Option<TextFault> {
+    if file.len() > 100_000 {
+        return Some(TextFault::Mem);
+    }
+    match logical_lines(alloc, file) {
+        Ok(_) => None,
+        Err(fault) => Some(fault),
     }
 }
 
 #[test]
 fn the_refusal_at_the_smallest_line_is_answered(rt: HostRuntime) -> Result<(), Fail> {
     let alloc = rt.alloc();
-    let mut file = Vec::new(alloc);
-    push_line(&mut file, 8192, b"\n")?;
-    assert!(rt; read(alloc, file.as_slice()).is_ok(), "8,192 bytes");
-    file.clear();
-    push_line(&mut file, 8191, b" b\n\xff\n")?;
-    assert!(rt;
-        matches!(
-            read(alloc, file.as_slice()),
-            Err(TextFault::TooLong { line: 1 })
-        ),
-        "8,193 bytes before a line that isn't text"
-    );
-    file.clear();
-    push_line(&mut file, 0, b"\na\\\n\xff\\\n")?;
-    push_line(&mut file, 8192, b"\n")?;
-    assert!(rt;
-        matches!(
-            read(alloc, file.as_slice()),
-            Err(TextFault::TooLong { line: 2 })
-        ),
-        "a joined line that is too long, and whose second line isn't text"
-    );
-    assert!(rt;
-        matches!(
-            logical_lines(alloc, b"a\n\\\nb\xff"),
-            Err(TextFault::NotText { line: 3 })
-        ),
-        "the third line isn't text"
-    );
+    for (runs, wanted, what) in LONG_FILES {
+        let file = file_of(alloc, runs)?;
+        assert_eq!(rt; refusal(alloc, file.as_slice()), *wanted, "{what}");
+    }
     Ok(())
 }
 

@@ -16,11 +16,11 @@ returns-in_err-label-clause-refused c =
 
 pub returns-in-None-clause-labels : goal.returns-in-None-clause-labels
 returns-in-None-clause-labels c =
-    labels_done c.reads.labels c.push.new.list c.args.text.now c.reads.rest.now c.cut.result.0.now c.in_ok-label.label c.reads.invariant (rw c.in-None.is at c.cut.ensures.parts) c.in_ok-label.ensures.label
-    c.in_ok-push.ensures
+    labels_done c.reads.labels c.add.new.self c.args.text.now c.reads.rest.now c.cut.result.0.now c.in_ok-label.label c.reads.invariant (rw c.in-None.is at c.cut.ensures.parts) c.in_ok-label.ensures.label
+    c.in_ok-add.ensures.ok
 
 pub reads-preserved : goal.reads-preserved
 reads-preserved c =
     c.reads.invariant
-    ∙ next_label c.reads.labels c.push.new.list c.reads.rest.now c.cut.result.0.now (option_copied c.cut.result.1) c.in_ok-label.label c.cut.ensures.parts c.in_ok-label.ensures.label c.in_ok-push.ensures
+    ∙ next_label c.reads.labels c.add.new.self c.reads.rest.now c.cut.result.0.now (option_copied c.cut.result.1) c.in_ok-label.label c.cut.ensures.parts c.in_ok-label.ensures.label c.in_ok-add.ensures.ok
     ∙ rw c.in-Some.is refl

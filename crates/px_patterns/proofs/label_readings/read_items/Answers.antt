@@ -17,9 +17,9 @@ returns-in_err-class-in-Some-clause-refused c =
 pub reads-preserved-in-Some : goal.reads-preserved-in-Some
 reads-preserved-in-Some c =
     c.reads.invariant
-    ∙ next_class c.reads.items c.push.new.list c.reads.rest.now c.split_at.result.0.now c.split_at.result.1.now c.in-Some.at c.in_ok-class-in-Some.class (sym c.is_empty.ensures ∙ c.reads-test.true)
+    ∙ next_class c.reads.items c.add.new.self c.reads.rest.now c.split_at.result.0.now c.split_at.result.1.now c.in-Some.at c.in_ok-class-in-Some.class (sym c.is_empty.ensures ∙ c.reads-test.true)
     c.if-first-eq-CLASS_BEGIN.true c.in-Some.ensures.0.high c.in-Some.ensures.1 c.in-Some.ensures.0.before c.split_at.ensures.front c.split_at.ensures.back c.in_ok-class-in-Some.ensures.class
-    c.in_ok-push-in-Some.ensures
+    c.in_ok-add-in-Some.ensures.ok
 
 pub returns-in-None-clause-refused : goal.returns-in-None-clause-refused
 returns-in-None-clause-refused c =
@@ -28,8 +28,8 @@ returns-in-None-clause-refused c =
 pub reads-preserved : goal.reads-preserved
 reads-preserved c =
     c.reads.invariant
-    ∙ next_item c.reads.items c.push-else-first-eq-CLASS_BEGIN.new.list c.reads.rest.now c.item_of.result (sym c.is_empty.ensures ∙ c.reads-test.true) c.if-first-eq-CLASS_BEGIN.false c.item_of.ensures
-    c.in_ok-push.ensures
+    ∙ next_item c.reads.items c.add-else-first-eq-CLASS_BEGIN.new.self c.reads.rest.now c.item_of.result (sym c.is_empty.ensures ∙ c.reads-test.true) c.if-first-eq-CLASS_BEGIN.false c.item_of.ensures
+    c.in_ok-add.ensures.ok
 
 pub returns-clause-items : goal.returns-clause-items
 returns-clause-items c = items_done c.args.text.now c.reads.rest.now c.reads.items c.reads.invariant (sym c.is_empty.ensures ∙ c.reads-test.false)

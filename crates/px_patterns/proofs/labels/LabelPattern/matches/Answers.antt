@@ -3,13 +3,13 @@ use Rattle.std.specs.Str.{str_eq_ignore_ascii_case}
 use Rattle.px_patterns.specs.declared.labels.Item.{Item}
 use Rattle.px_patterns.specs.declared.labels.LabelPattern.{LabelPattern}
 use Rattle.px_patterns.specs.Globs.{CanBeCut, glob_matches, items_in, label_matches}
-use Rattle.px_patterns.proofs.GlobLemmas.{label-cut, same_text-from}
+use Rattle.px_patterns.proofs.GlobLemmas.{label-cut}
 use Rattle.px_patterns.proofs.labels.LabelPattern.matches.Goals as goal
 
 pub returns-in-Plain-clause-cut : goal.returns-in-Plain-clause-cut
 returns-in-Plain-clause-cut c =
-    let value : c.eq_ignore_ascii_case.result ≡ label_matches c.args.self.now c.args.label.now =
-    same_text-from c.eq_ignore_ascii_case.result c.as_bytes.result.now c.args.label.now c.eq_ignore_ascii_case.ensures.test
+    let value : c.same_without_case.result ≡ label_matches c.args.self.now c.args.label.now =
+    c.same_without_case.ensures
     ∙ ap (λ (text : List ℕ). str_eq_ignore_ascii_case text c.args.label.now) c.as_bytes.ensures
     ∙ ap (λ (p : LabelPattern). label_matches p c.args.label.now) (sym c.in-Plain.is) in
     subst (λ (t : Bool). IsTrue t ↔ CanBeCut (items_in c.args.self.now) c.args.label.now) (sym value) (label-cut c.args.self.now c.args.label.now)
