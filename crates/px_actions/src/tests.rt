@@ -1,6 +1,6 @@
 // The tables of words, and sets that are printed and copied.
 use crate::*;
-use px_base::Text;
+use px_base::{Text, as_text};
 use std::alloc::Global;
 use std::test::Fail;
 
@@ -341,31 +341,6 @@ fn braces_balance_but_behind_a_backslash(rt: HostRuntime) {
         ("\\}}", true),
     ] {
         assert_eq!(rt; is_closed(text.as_bytes()), wanted, "{text}");
-    }
-}
-
-/// Texts, and the names and values of the field lines that they are.
-const FIELDS: &[(&[u8], Option<(&[u8], &[u8])>)] = &[
-    (b"X:   2 ", Some((b"X", b"2"))),
-    (b"X-A:", Some((b"X-A", b""))),
-    (b"X : 2", None),
-    (b": 2", None),
-    (b"X: a\r", None),
-    (b"X", None),
-];
-
-#[test]
-fn fields_are_read(rt: HostRuntime) {
-    for (text, wanted) in FIELDS {
-        let field = read_field_line(text).map(|field| (field.name, field.value));
-        assert_eq!(rt; field, *wanted);
-    }
-    for (name, held) in [
-        ("hOST", true),
-        ("Proxy-Authorization", true),
-        ("X-Host", false),
-    ] {
-        assert_eq!(rt; is_held_back(name.as_bytes()), held, "{name}");
     }
 }
 
