@@ -328,7 +328,10 @@ impl Kind {
         } else {
             name
         };
-        KINDS.iter().copied().find(|kind| same_without_case(kind.spelling().as_bytes(), name))
+        KINDS
+            .iter()
+            .copied()
+            .find(|kind| same_without_case(kind.spelling().as_bytes(), name))
     }
 
     /// The name, by which `by_name` finds the kind.
