@@ -1,16 +1,16 @@
 -- What action sets keep.
-use Rattle.std.proofs.Common.{◌≡◌, ◌≢◌, ℕ, ◌<◌, Bool, true, false, List, [], ◌∷◌, ◌++◌, length, filter, Some, None, Ok, Err, refl, sym, ap, subst, ◌∙◌, inl, inr, ◌⊎◌, arith, length-set}
+use Rattle.std.proofs.Common.{◌≡◌, ◌≢◌, ℕ, ◌<◌, Bool, true, false, List, [], ◌∷◌, ◌++◌, length, filter, Some, None, Ok, Err, refl, sym, ap, subst, ◌∙◌, inl, inr, ◌⊎◌, arith, length-set, ◌+◌, take, get_or}
 use Rattle.std.specs.Prelude.{◌&&◌, ◌||◌, not, if◌then◌else◌, slice_index_or, slice_set, Result, OnOk, OnErr}
 use Rattle.std.specs.List.{list_all}
 use Rattle.std.specs.Str.{bytes_eq}
-use Rattle.std.proofs.lemmas.List.{get_or_default, get_or-map, get_or-set_same, get_or-set_other}
+use Rattle.std.proofs.lemmas.List.{take_more, get_or_default, get_or-map, get_or-set_same, get_or-set_other}
 use Rattle.std.proofs.lemmas.Bool.{cases_eq}
 use Rattle.std.proofs.lemmas.Bool.Decides.{nat_tests}
 use Rattle.px_actions.specs.Kinds.{entry_of}
 use Rattle.px_actions.specs.Rules.{keeps}
 use Rattle.px_actions.specs.Shapes.{fits_by, fits}
-use Rattle.px_actions.specs.Sets.{is_among, changed, setting_of, empty_setting, empty_set, is_distinct, fits_setting, IsSound}
-use Rattle.px_actions.proofs.Table.{kinds-place, place_within, same_place}
+use Rattle.px_actions.specs.Sets.{updated, updated_all, is_among, changed, setting_of, empty_setting, empty_set, is_distinct, fits_setting, IsSound}
+use Rattle.px_actions.proofs.Table.{kinds_place, place_within, same_place}
 use Rattle.px_actions.specs.declared.kinds.TheConstants.{KINDS}
 use Rattle.px_actions.specs.declared.kinds.Kind.{Kind}
 use Rattle.px_actions.specs.declared.kinds.Rule.{Rule}
@@ -18,6 +18,7 @@ use Rattle.px_actions.specs.declared.kinds.Shape.{Shape}
 use Rattle.px_actions.specs.declared.kinds.Shape.TheVariants as shape
 use Rattle.px_actions.specs.declared.changes.Change.{Change}
 use Rattle.px_actions.specs.declared.changes.Change.TheVariants as change
+use Rattle.px_actions.specs.declared.updates.Update.{Update}
 use Rattle.px_actions.specs.declared.settings.Setting.{Setting}
 use Rattle.px_actions.specs.declared.settings.Setting.TheVariants as setting
 
@@ -31,7 +32,7 @@ setting_of-empty : (k : Kind) → setting_of empty_set k ≡ empty_setting (entr
 unfolding empty_set
 setting_of-empty k =
     get_or-map (λ kind. empty_setting (entry_of kind).shape) KINDS (entry_of k).place k (setting.Flag false) (place_within k)
-    ∙ ap (λ kind. empty_setting (entry_of kind).shape) (kinds-place k k)
+    ∙ ap (λ kind. empty_setting (entry_of kind).shape) (kinds_place k k)
 
 pub length-empty_set : length empty_set ≡ 41
 unfolding empty_set
@@ -136,3 +137,14 @@ sound_after set k old new change (Err e) h is_old ok err fit = sound-set set k n
 -- what is read of a sound set at a kind's place
 pub read_at : (set : List Setting) (k : Kind) (at : ℕ) (d : Setting) → IsSound set → at ≡ (entry_of k).place → slice_index_or set at d ≡ setting_of set k
 read_at set k at d h e = rw e (get_or_default set (entry_of k).place d (setting.Flag false) (rw h.len (place_within k)))
+
+-- one update more
+pub updated_all_push : (set : List Setting) (updates : List Update) (u : Update) → updated_all set (updates ++ u ∷ []) ≡ updated (updated_all set updates) u.kind u.change
+updated_all_push set [] u = refl
+updated_all_push set (v ∷ updates) u = updated_all_push (updated set v.kind v.change) updates u
+
+pub updated_all_step : (set : List Setting) (updates : List Update) (i : ℕ) (u d : Update) → i < length updates → u ≡ get_or updates i d
+    → updated_all set (take (i + 1) updates) ≡ updated (updated_all set (take i updates)) u.kind u.change
+updated_all_step set updates i u d within is =
+    ap (updated_all set) (take_more updates i d within)
+    ∙ rw (← is) (updated_all_push set (take i updates) u)

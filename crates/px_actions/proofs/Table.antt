@@ -51,95 +51,61 @@ kind_named-name kind.SessionCookiesOnly = refl
 kind_named-name kind.SetImageBlocker = refl
 kind_named-name kind.SuppressTag = refl
 
--- each kind has its place among the kinds
-pub kinds-place : (k d : Kind) → slice_index_or KINDS (entry_of k).place d ≡ k
+-- a kind stands at its place
+pub record IsAtPlace (k : Kind) (other : Kind) : Type 0 where
+  pub within : (entry_of k).place < 41
+  pub kind : slice_index_or KINDS (entry_of k).place other ≡ k
+
+at_place : (k other : Kind) → IsAtPlace k other
 unfolding entry_of
-kinds-place kind.AddHeader d = refl
-kinds-place kind.Block d = refl
-kinds-place kind.ChangeXForwardedFor d = refl
-kinds-place kind.ClientBodyFilter d = refl
-kinds-place kind.ClientBodyTagger d = refl
-kinds-place kind.ClientHeaderFilter d = refl
-kinds-place kind.ClientHeaderTagger d = refl
-kinds-place kind.ContentTypeOverwrite d = refl
-kinds-place kind.CrunchClientHeader d = refl
-kinds-place kind.CrunchIfNoneMatch d = refl
-kinds-place kind.CrunchIncomingCookies d = refl
-kinds-place kind.CrunchOutgoingCookies d = refl
-kinds-place kind.CrunchServerHeader d = refl
-kinds-place kind.DeanimateGifs d = refl
-kinds-place kind.DelayResponse d = refl
-kinds-place kind.DowngradeHttpVersion d = refl
-kinds-place kind.ExternalFilter d = refl
-kinds-place kind.FastRedirects d = refl
-kinds-place kind.Filter d = refl
-kinds-place kind.ForceTextMode d = refl
-kinds-place kind.ForwardOverride d = refl
-kinds-place kind.HandleAsEmptyDocument d = refl
-kinds-place kind.HandleAsImage d = refl
-kinds-place kind.HideAcceptLanguage d = refl
-kinds-place kind.HideContentDisposition d = refl
-kinds-place kind.HideFromHeader d = refl
-kinds-place kind.HideIfModifiedSince d = refl
-kinds-place kind.HideReferrer d = refl
-kinds-place kind.HideUserAgent d = refl
-kinds-place kind.HttpsInspection d = refl
-kinds-place kind.IgnoreCertificateErrors d = refl
-kinds-place kind.LimitConnect d = refl
-kinds-place kind.LimitCookieLifetime d = refl
-kinds-place kind.OverwriteLastModified d = refl
-kinds-place kind.PreventCompression d = refl
-kinds-place kind.Redirect d = refl
-kinds-place kind.ServerHeaderFilter d = refl
-kinds-place kind.ServerHeaderTagger d = refl
-kinds-place kind.SessionCookiesOnly d = refl
-kinds-place kind.SetImageBlocker d = refl
-kinds-place kind.SuppressTag d = refl
+at_place kind.AddHeader other = record { within = lit< tt; kind = refl }
+at_place kind.Block other = record { within = lit< tt; kind = refl }
+at_place kind.ChangeXForwardedFor other = record { within = lit< tt; kind = refl }
+at_place kind.ClientBodyFilter other = record { within = lit< tt; kind = refl }
+at_place kind.ClientBodyTagger other = record { within = lit< tt; kind = refl }
+at_place kind.ClientHeaderFilter other = record { within = lit< tt; kind = refl }
+at_place kind.ClientHeaderTagger other = record { within = lit< tt; kind = refl }
+at_place kind.ContentTypeOverwrite other = record { within = lit< tt; kind = refl }
+at_place kind.CrunchClientHeader other = record { within = lit< tt; kind = refl }
+at_place kind.CrunchIfNoneMatch other = record { within = lit< tt; kind = refl }
+at_place kind.CrunchIncomingCookies other = record { within = lit< tt; kind = refl }
+at_place kind.CrunchOutgoingCookies other = record { within = lit< tt; kind = refl }
+at_place kind.CrunchServerHeader other = record { within = lit< tt; kind = refl }
+at_place kind.DeanimateGifs other = record { within = lit< tt; kind = refl }
+at_place kind.DelayResponse other = record { within = lit< tt; kind = refl }
+at_place kind.DowngradeHttpVersion other = record { within = lit< tt; kind = refl }
+at_place kind.ExternalFilter other = record { within = lit< tt; kind = refl }
+at_place kind.FastRedirects other = record { within = lit< tt; kind = refl }
+at_place kind.Filter other = record { within = lit< tt; kind = refl }
+at_place kind.ForceTextMode other = record { within = lit< tt; kind = refl }
+at_place kind.ForwardOverride other = record { within = lit< tt; kind = refl }
+at_place kind.HandleAsEmptyDocument other = record { within = lit< tt; kind = refl }
+at_place kind.HandleAsImage other = record { within = lit< tt; kind = refl }
+at_place kind.HideAcceptLanguage other = record { within = lit< tt; kind = refl }
+at_place kind.HideContentDisposition other = record { within = lit< tt; kind = refl }
+at_place kind.HideFromHeader other = record { within = lit< tt; kind = refl }
+at_place kind.HideIfModifiedSince other = record { within = lit< tt; kind = refl }
+at_place kind.HideReferrer other = record { within = lit< tt; kind = refl }
+at_place kind.HideUserAgent other = record { within = lit< tt; kind = refl }
+at_place kind.HttpsInspection other = record { within = lit< tt; kind = refl }
+at_place kind.IgnoreCertificateErrors other = record { within = lit< tt; kind = refl }
+at_place kind.LimitConnect other = record { within = lit< tt; kind = refl }
+at_place kind.LimitCookieLifetime other = record { within = lit< tt; kind = refl }
+at_place kind.OverwriteLastModified other = record { within = lit< tt; kind = refl }
+at_place kind.PreventCompression other = record { within = lit< tt; kind = refl }
+at_place kind.Redirect other = record { within = lit< tt; kind = refl }
+at_place kind.ServerHeaderFilter other = record { within = lit< tt; kind = refl }
+at_place kind.ServerHeaderTagger other = record { within = lit< tt; kind = refl }
+at_place kind.SessionCookiesOnly other = record { within = lit< tt; kind = refl }
+at_place kind.SetImageBlocker other = record { within = lit< tt; kind = refl }
+at_place kind.SuppressTag other = record { within = lit< tt; kind = refl }
+
+pub kinds_place : (k d : Kind) → slice_index_or KINDS (entry_of k).place d ≡ k
+kinds_place k d = (at_place k d).kind
 
 pub place_within : (k : Kind) → (entry_of k).place < 41
-unfolding entry_of
-place_within kind.AddHeader = lit< tt
-place_within kind.Block = lit< tt
-place_within kind.ChangeXForwardedFor = lit< tt
-place_within kind.ClientBodyFilter = lit< tt
-place_within kind.ClientBodyTagger = lit< tt
-place_within kind.ClientHeaderFilter = lit< tt
-place_within kind.ClientHeaderTagger = lit< tt
-place_within kind.ContentTypeOverwrite = lit< tt
-place_within kind.CrunchClientHeader = lit< tt
-place_within kind.CrunchIfNoneMatch = lit< tt
-place_within kind.CrunchIncomingCookies = lit< tt
-place_within kind.CrunchOutgoingCookies = lit< tt
-place_within kind.CrunchServerHeader = lit< tt
-place_within kind.DeanimateGifs = lit< tt
-place_within kind.DelayResponse = lit< tt
-place_within kind.DowngradeHttpVersion = lit< tt
-place_within kind.ExternalFilter = lit< tt
-place_within kind.FastRedirects = lit< tt
-place_within kind.Filter = lit< tt
-place_within kind.ForceTextMode = lit< tt
-place_within kind.ForwardOverride = lit< tt
-place_within kind.HandleAsEmptyDocument = lit< tt
-place_within kind.HandleAsImage = lit< tt
-place_within kind.HideAcceptLanguage = lit< tt
-place_within kind.HideContentDisposition = lit< tt
-place_within kind.HideFromHeader = lit< tt
-place_within kind.HideIfModifiedSince = lit< tt
-place_within kind.HideReferrer = lit< tt
-place_within kind.HideUserAgent = lit< tt
-place_within kind.HttpsInspection = lit< tt
-place_within kind.IgnoreCertificateErrors = lit< tt
-place_within kind.LimitConnect = lit< tt
-place_within kind.LimitCookieLifetime = lit< tt
-place_within kind.OverwriteLastModified = lit< tt
-place_within kind.PreventCompression = lit< tt
-place_within kind.Redirect = lit< tt
-place_within kind.ServerHeaderFilter = lit< tt
-place_within kind.ServerHeaderTagger = lit< tt
-place_within kind.SessionCookiesOnly = lit< tt
-place_within kind.SetImageBlocker = lit< tt
-place_within kind.SuppressTag = lit< tt
+place_within k = (at_place k k).within
 
 -- two kinds at one place are the same
 pub same_place : (j k : Kind) → (entry_of j).place ≡ (entry_of k).place → j ≡ k
-same_place j k e = sym (kinds-place j j) ∙ (ap (λ at. slice_index_or KINDS at j) e ∙ kinds-place k j)
+same_place j k e = sym (kinds_place j j) ∙ (ap (λ at. slice_index_or KINDS at j) e ∙ kinds_place k j)

@@ -8,6 +8,8 @@ use Rattle.px_actions.specs.declared.kinds.Shape.{Shape}
 use Rattle.px_actions.specs.declared.kinds.Shape.TheVariants as shape
 use Rattle.px_actions.specs.declared.changes.Change.{Change}
 use Rattle.px_actions.specs.declared.changes.Change.TheVariants as change
+use Rattle.px_actions.specs.declared.updates.Sign.{Sign}
+use Rattle.px_actions.specs.declared.updates.Sign.TheVariants.{Plus, Minus}
 
 has_parameter-kept : (rule : Rule) (behind : List ℕ) → has_parameter rule behind ≡ true → keeps rule (parameter_of behind) ≡ true
 unfolding has_parameter
@@ -21,16 +23,16 @@ by_parameter rule behind true made shape c h fit e =
     rw (← same) (fit (parameter_of behind) (has_parameter-kept rule behind h))
 by_parameter rule behind false made shape c h fit e = let refused = rw h at e in absurd (cc)
 
-pub changes_fit : (shape : Shape) (rule : Rule) (plus : Bool) (behind : Option (List ℕ)) (c : Change)
-    → shape_change shape rule plus behind ≡ Ok c → fits_by shape rule c ≡ true
-changes_fit shape.Flag rule plus (Some behind) c e = absurd (cc)
-changes_fit shape.Flag rule true None c e = grind arith
-changes_fit shape.Flag rule false None c e = grind arith
-changes_fit shape.Single rule false (Some behind) c e = absurd (cc)
-changes_fit shape.Single rule false None c e = grind arith
-changes_fit shape.Single rule true None c e = absurd (cc)
-changes_fit shape.Single rule true (Some behind) c e = by_parameter rule behind (has_parameter rule behind) change.Set shape.Single c refl (λ p k. k) e
-changes_fit shape.Multi rule true None c e = absurd (cc)
-changes_fit shape.Multi rule false None c e = grind arith
-changes_fit shape.Multi rule true (Some behind) c e = by_parameter rule behind (has_parameter rule behind) change.Add shape.Multi c refl (λ p k. k) e
-changes_fit shape.Multi rule false (Some behind) c e = by_parameter rule behind (has_parameter rule behind) change.Remove shape.Multi c refl (λ p k. k) e
+pub changes_fit : (shape : Shape) (rule : Rule) (sign : Sign) (behind : Option (List ℕ)) (c : Change)
+    → shape_change shape rule sign behind ≡ Ok c → fits_by shape rule c ≡ true
+changes_fit shape.Flag rule sign (Some behind) c e = absurd (cc)
+changes_fit shape.Flag rule Plus None c e = grind arith
+changes_fit shape.Flag rule Minus None c e = grind arith
+changes_fit shape.Single rule Minus (Some behind) c e = absurd (cc)
+changes_fit shape.Single rule Minus None c e = grind arith
+changes_fit shape.Single rule Plus None c e = absurd (cc)
+changes_fit shape.Single rule Plus (Some behind) c e = by_parameter rule behind (has_parameter rule behind) change.Set shape.Single c refl (λ p k. k) e
+changes_fit shape.Multi rule Plus None c e = absurd (cc)
+changes_fit shape.Multi rule Minus None c e = grind arith
+changes_fit shape.Multi rule Plus (Some behind) c e = by_parameter rule behind (has_parameter rule behind) change.Add shape.Multi c refl (λ p k. k) e
+changes_fit shape.Multi rule Minus (Some behind) c e = by_parameter rule behind (has_parameter rule behind) change.Remove shape.Multi c refl (λ p k. k) e

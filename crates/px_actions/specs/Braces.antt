@@ -1,16 +1,16 @@
 -- Braces that balance, and the words of a line (the manual's chapter on actions files).
 use Rattle.std.specs.Prelude.{ℕ, ◌+◌, ◌-◌, ◌==◌, ◌&&◌, ◌||◌, Bool, false, not, if◌then◌else◌, List, [], ◌∷◌, length, filter}
 use Rattle.std.specs.List.{onto_first}
+use Rattle.std.specs.Str.{byte}
 use Rattle.px_base.specs.Blanks.{is_blank}
-use Rattle.px_actions.specs.declared.braces.TheConstants.{OPEN, CLOSE, BACKSLASH}
 
 -- a byte as it counts: a backslash and the byte behind it count as no brace
 abbrev pub counted_byte : Bool → ℕ → ℕ
-counted_byte behind b = if behind || b == BACKSLASH then 0 else b
+counted_byte behind b = if behind || b == byte "\\" then 0 else b
 
 -- whether what comes next stands behind a backslash
 abbrev pub is_behind : Bool → ℕ → Bool
-is_behind behind b = not behind && b == BACKSLASH
+is_behind behind b = not behind && b == byte "\\"
 
 -- the bytes of a text as they count
 abbrev pub counted : Bool → List ℕ → List ℕ
@@ -19,12 +19,12 @@ counted behind (b ∷ rest) = counted_byte behind b ∷ counted (is_behind behin
 
 -- how many braces are open after a byte, where so many are open before it
 abbrev pub open_after : ℕ → ℕ → ℕ
-open_after opened b = if b == OPEN then opened + 1 else (if b == CLOSE then opened - 1 else opened)
+open_after opened b = if b == byte "{" then opened + 1 else (if b == byte "}" then opened - 1 else opened)
 
 -- no brace closes that isn't open, and at the end none is open
 abbrev pub closes_all : ℕ → List ℕ → Bool
 closes_all opened [] = opened == 0
-closes_all opened (b ∷ rest) = not (b == CLOSE && opened == 0) && closes_all (open_after opened b) rest
+closes_all opened (b ∷ rest) = not (b == byte "}" && opened == 0) && closes_all (open_after opened b) rest
 
 -- the first of so many open braces is closed by the last byte
 abbrev pub closes_at_end : ℕ → List ℕ → Bool

@@ -2,9 +2,8 @@
 use Rattle.std.specs.Prelude.{ℕ, ◌==◌, ◌&&◌, ◌||◌, Bool, not, nat_lt, if◌then◌else◌, List, [], ◌∷◌, length, drop, Option, Some, None, codes, option_map}
 use Rattle.std.specs.Char.{is_ascii_alphanumeric, is_ascii_hexdigit}
 use Rattle.std.specs.List.{position_or_len, before_first, after_first, list_all}
-use Rattle.std.specs.Str.{bytes_eq}
+use Rattle.std.specs.Str.{byte, bytes_eq}
 use Rattle.px_base.specs.Ports.{port}
-use Rattle.px_actions.specs.declared.hops.TheConstants.{PARENT_PORT}
 use Rattle.px_actions.specs.declared.hops.Hop.{Hop}
 use Rattle.px_actions.specs.declared.hops.Hop.TheVariants as seen
 
@@ -15,27 +14,30 @@ pub data NextHop : Type 0 where
 
 -- a byte of a host: a letter, a digit, a dot, a hyphen or an underscore
 unfoldable pub is_host_byte : ℕ → Bool
-is_host_byte b = is_ascii_alphanumeric b || (b == 46 || (b == 45 || b == 95))
+is_host_byte b = is_ascii_alphanumeric b || (b == byte "." || (b == byte "-" || b == byte "_"))
 
 -- a byte of an address in brackets: a hexadecimal digit, a colon or a dot
 unfoldable pub is_address_byte : ℕ → Bool
-is_address_byte b = is_ascii_hexdigit b || (b == 58 || b == 46)
+is_address_byte b = is_ascii_hexdigit b || (b == byte ":" || b == byte ".")
+
+-- one or more such bytes
+abbrev pub is_made_of : (ℕ → Bool) → List ℕ → Bool
+is_made_of is_byte text = not (length text == 0) && list_all is_byte text
 
 -- the port of what stands behind a host: a colon and a port, or nothing
 abbrev pub port_behind : List ℕ → Option ℕ
-port_behind [] = Some PARENT_PORT
-port_behind (b ∷ rest) = if b == 58 then port rest else None
+port_behind [] = Some 8000
+port_behind (b ∷ rest) = if b == byte ":" then port rest else None
 
--- a host of one or more such bytes, and what stands behind it
+-- a host of such bytes, and what stands behind it
 abbrev pub parent_of : (ℕ → Bool) → List ℕ → List ℕ → Option NextHop
-parent_of is_byte host behind =
-    if not (length host == 0) && list_all is_byte host then option_map (λ p. parent host p) (port_behind behind) else None
+parent_of is_byte host behind = if is_made_of is_byte host then option_map (λ p. parent host p) (port_behind behind) else None
 
 abbrev pub is_bracket : ℕ → Bool
-is_bracket b = b == 93
+is_bracket b = b == byte "]"
 
 abbrev pub is_colon : ℕ → Bool
-is_colon b = b == 58
+is_colon b = b == byte ":"
 
 -- what stands behind an opening bracket: an address, the closing bracket, and the port
 abbrev pub bracketed : List ℕ → Option NextHop
@@ -47,7 +49,7 @@ by_name text = parent_of is_host_byte (before_first is_colon text) (drop (positi
 
 abbrev pub host_and_port : List ℕ → Option NextHop
 host_and_port [] = None
-host_and_port (b ∷ rest) = if b == 91 then bracketed rest else by_name (b ∷ rest)
+host_and_port (b ∷ rest) = if b == byte "[" then bracketed rest else by_name (b ∷ rest)
 
 -- a dot stands for the origin itself
 unfoldable pub next_hop : List ℕ → Option NextHop

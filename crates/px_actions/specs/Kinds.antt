@@ -1,6 +1,8 @@
 -- The kinds of actions (the manual's chapter on actions files).
-use Rattle.std.specs.Prelude.{ℕ, if◌then◌else◌, List, Option, codes}
+use Rattle.std.specs.Prelude.{ℕ, ◌&&◌, Bool, true, if◌then◌else◌, List, [], ◌∷◌, Option, codes}
+use Rattle.std.specs.Cmp.Lexicographic.{slice_cmp}
 use Rattle.std.specs.List.{find}
+use Rattle.std.specs.Ordering.{is_lt, nat_cmp}
 use Rattle.std.specs.Str.{str_eq_ignore_ascii_case}
 use Rattle.px_actions.specs.declared.kinds.TheConstants.{KINDS}
 use Rattle.px_actions.specs.declared.kinds.Kind.{Kind}
@@ -70,6 +72,12 @@ entry_of kind.ServerHeaderTagger = multi 37 (codes "server-header-tagger") rule.
 entry_of kind.SessionCookiesOnly = flag 38 (codes "session-cookies-only")
 entry_of kind.SetImageBlocker = single 39 (codes "set-image-blocker") rule.Text
 entry_of kind.SuppressTag = multi 40 (codes "suppress-tag") rule.Text
+
+-- each text is below the next one, byte by byte
+abbrev pub are_in_byte_order : List (List ℕ) → Bool
+are_in_byte_order [] = true
+are_in_byte_order (text ∷ []) = true
+are_in_byte_order (text ∷ next ∷ texts) = is_lt (slice_cmp nat_cmp text next) && are_in_byte_order (next ∷ texts)
 
 -- the name that a spelling stands for
 abbrev pub spelled_name : List ℕ → List ℕ

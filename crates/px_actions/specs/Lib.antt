@@ -1,6 +1,5 @@
 pub mod Kinds
 pub mod Braces
-pub mod Fields
 pub mod Hops
 pub mod Rules
 pub mod Faults

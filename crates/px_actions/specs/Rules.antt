@@ -5,9 +5,10 @@ use Rattle.std.specs.Str.{bytes_eq, is_utf8}
 use Rattle.px_base.specs.Blanks.{is_blank, trim_front}
 use Rattle.px_base.specs.Numbers.{decimal}
 use Rattle.px_base.specs.Ports.{port_list}
-use Rattle.px_actions.specs.Fields.{field_line, is_held_back}
+use Rattle.px_head.specs.FieldLines.{read_field}
+use Rattle.px_head.specs.Names.{is_held_back_of_request}
+use Rattle.px_head.specs.declared.fields.Field.{Field}
 use Rattle.px_actions.specs.Hops.{NextHop, next_hop}
-use Rattle.px_actions.specs.declared.rules.TheConstants.{FORWARD, MOST_MINUTES, MINUTE_DIGITS}
 use Rattle.px_actions.specs.declared.kinds.Rule.{Rule}
 use Rattle.px_actions.specs.declared.kinds.Rule.TheVariants as rule
 
@@ -26,12 +27,12 @@ hop_behind (b ∷ rest) = if is_blank b then next_hop (trim_front rest) else Non
 
 -- the next hop of `forward`, white space and a next hop
 unfoldable pub override_hop : List ℕ → Option NextHop
-override_hop text = if starts_with nat_eq text FORWARD.now then hop_behind (drop (length FORWARD.now) text) else None
+override_hop text = if starts_with nat_eq text (codes "forward") then hop_behind (drop 7 text) else None
 
 -- a field line that may be added to requests
-abbrev pub may_add : Option (List ℕ × List ℕ) → Bool
+abbrev pub may_add : Option Field → Bool
 may_add None = false
-may_add (Some field) = not (is_held_back field.0)
+may_add (Some field) = not (is_held_back_of_request field.name)
 
 -- what the rule asks beside plain text
 unfoldable pub meets : Rule → List ℕ → Bool
@@ -43,8 +44,8 @@ meets rule.RedirectCheck p = bytes_eq p (codes "simple-check") || bytes_eq p (co
 meets rule.ModifiedDate p = (bytes_eq p (codes "block") || bytes_eq p (codes "reset-to-request-time")) || bytes_eq p (codes "randomize")
 meets rule.Parent p = is_some (override_hop p)
 meets rule.Ports p = not (length p == 0) && is_some (port_list p)
-meets rule.Minutes p = nat_le (length p) MINUTE_DIGITS && is_some (decimal MOST_MINUTES p)
-meets rule.AddedField p = may_add (field_line p)
+meets rule.Minutes p = nat_le (length p) 9 && is_some (decimal 100000000 p)
+meets rule.AddedField p = may_add (read_field p)
 
 -- a parameter without white space at its ends keeps the rule
 unfoldable pub keeps : Rule → List ℕ → Bool

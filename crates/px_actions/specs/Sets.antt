@@ -1,11 +1,10 @@
 -- Action sets: what is set of each kind, in byte order of the kinds' names (the manual's chapter on actions files).
-use Rattle.std.specs.Prelude.{ℕ, ◌≡◌, ◌&&◌, Bool, true, false, not, if◌then◌else◌, List, [], ◌∷◌, ◌++◌, length, map, filter, slice_index_or, slice_set, Option, Some, None}
+use Rattle.std.specs.Prelude.{ℕ, ◌≡◌, ◌≤◌, ◌&&◌, Bool, true, false, not, if◌then◌else◌, List, [], ◌∷◌, ◌++◌, length, map, filter, take, slice_index_or, slice_set, Option, Some, None}
 use Rattle.std.specs.List.{list_any, list_all, flat_map}
-use Rattle.std.specs.Str.{bytes_eq}
+use Rattle.std.specs.Str.{byte, bytes_eq}
 use Rattle.px_actions.specs.Kinds.{entry_of}
 use Rattle.px_actions.specs.Rules.{keeps}
 use Rattle.px_actions.specs.Shapes.{is_flag, is_single, is_multi}
-use Rattle.px_actions.specs.declared.braces.TheConstants.{OPEN, CLOSE}
 use Rattle.px_actions.specs.declared.kinds.TheConstants.{KINDS}
 use Rattle.px_actions.specs.declared.kinds.Kind.{Kind}
 use Rattle.px_actions.specs.declared.kinds.Rule.{Rule}
@@ -13,6 +12,7 @@ use Rattle.px_actions.specs.declared.kinds.Shape.{Shape}
 use Rattle.px_actions.specs.declared.kinds.Shape.TheVariants as shape
 use Rattle.px_actions.specs.declared.changes.Change.{Change}
 use Rattle.px_actions.specs.declared.changes.Change.TheVariants as change
+use Rattle.px_actions.specs.declared.updates.Update.{Update}
 use Rattle.px_actions.specs.declared.settings.Setting.{Setting}
 use Rattle.px_actions.specs.declared.settings.Setting.TheVariants as setting
 
@@ -55,6 +55,17 @@ setting_of set kind = slice_index_or set (entry_of kind).place (setting.Flag fal
 -- the set after an update
 unfoldable pub updated : List Setting → Kind → Change → List Setting
 updated set kind change = slice_set set (entry_of kind).place (changed (setting_of set kind) change)
+
+-- the set after updates in their order
+abbrev pub updated_all : List Setting → List Update → List Setting
+updated_all set [] = set
+updated_all set (u ∷ updates) = updated_all (updated set u.kind u.change) updates
+
+-- the set after some first ones of the updates
+pub record IsUpdatedByFront (set : List Setting) (updates : List Update) (new : List Setting) : Type 0 where
+  pub count : ℕ
+  pub within : count ≤ length updates
+  pub applied : new ≡ updated_all set (take count updates)
 
 abbrev pub empty_setting : Shape → Setting
 empty_setting shape.Flag = setting.Flag false
@@ -111,10 +122,10 @@ pub record IsSound (set : List Setting) : Type 0 where
 
 -- a line of a set: a sign, a name, and a value in braces
 abbrev pub flag_line : List ℕ → List ℕ
-flag_line name = 43 ∷ name ++ 10 ∷ []
+flag_line name = byte "+" ∷ name ++ 10 ∷ []
 
 abbrev pub value_line : List ℕ → List ℕ → List ℕ
-value_line name value = 43 ∷ name ++ OPEN ∷ value ++ CLOSE ∷ 10 ∷ []
+value_line name value = byte "+" ∷ name ++ byte "{" ∷ value ++ byte "}" ∷ 10 ∷ []
 
 abbrev pub setting_lines : List ℕ → Setting → List ℕ
 setting_lines name (setting.Flag true) = flag_line name

@@ -5,12 +5,6 @@ ghost use Rattle.px_base.specs.Blanks.{trim_front};
 
 use px_base::is_blank;
 
-pub(crate) const OPEN: u8 = b'{';
-
-const CLOSE: u8 = b'}';
-
-const BACKSLASH: u8 = b'\\';
-
 /// How braces stand at a place in a text.
 #[derive(Clone, Copy)]
 struct Braces {
@@ -35,17 +29,17 @@ impl Braces {
             };
         }
         match byte {
-            OPEN => Braces {
+            b'{' => Braces {
                 open: open + 1,
                 behind: false,
             },
-            CLOSE => Braces {
+            b'}' => Braces {
                 open: open.saturating_sub(1),
                 behind: false,
             },
             _ => Braces {
                 open,
-                behind: byte == BACKSLASH,
+                behind: byte == b'\\',
             },
         }
     }
@@ -62,7 +56,7 @@ pub fn balances(text: &[u8]) -> bool
     };
     let mut rest = text;
     'bytes: while let Some((byte, others)) = rest.split_first() {
-        if *byte == CLOSE && !braces.behind && braces.open == 0 {
+        if *byte == b'}' && !braces.behind && braces.open == 0 {
             return false;
         }
         braces = braces.after(*byte);

@@ -1,5 +1,5 @@
 // The refusals of action words.
-ghost use Rattle.std.specs.Prelude.{◌≡◌, ◌≢◌};
+ghost use Rattle.std.specs.Prelude.{◌≡◌};
 ghost use Rattle.px_actions.specs.Faults.{refusal};
 
 use px_base::Mem;
@@ -22,9 +22,8 @@ pub enum ActionFault {
 }
 
 impl ActionFault {
-    /// The number of a refusal, 12 to 15.
+    /// The number of a refusal, 12 to 15. Want of memory is no refusal, and has 0.
     pub fn number(self) -> u8
-        requires { self ≢ ActionFault.Mem }
         ensures { result ≡ (refusal self).number }
     {
         match self {

@@ -2,7 +2,7 @@
 ghost use Rattle.std.specs.Prelude.{◌≡◌, ◌<◌, Some};
 ghost use Rattle.px_actions.specs.Kinds.{entry_of, kind_named};
 
-use crate::cases::same_without_case;
+use px_base::same_without_case;
 
 /// What updates a kind of action takes.
 #[derive(Clone, Copy, Debug, PartialEq, Eq)]
@@ -172,113 +172,142 @@ pub const KINDS: [Kind; 41] = [
     Kind::SuppressTag,
 ];
 
-/// An entry of the table of kinds.
+/// What updates a kind takes.
 #[derive(Clone, Copy)]
-pub(crate) struct Entry {
-    /// The number of the kind: its place in byte order of the names, from 0.
-    pub(crate) place: usize,
-    pub(crate) name: &'static str,
-    pub(crate) shape: Shape,
-    pub(crate) rule: Rule,
+struct Form {
+    shape: Shape,
+    rule: Rule,
 }
 
-fn flag(place: usize, name: &'static str) -> Entry
-    ensures place { result.place ≡ place }
-    ensures name { result.name.now ≡ name.now }
-    ensures shape { result.shape ≡ Shape.Flag }
-    ensures rule { result.rule ≡ Rule.Nothing }
-{
-    Entry {
-        place,
-        name,
-        shape: Shape::Flag,
-        rule: Rule::Nothing,
+impl Form {
+    fn flag() -> Form
+        ensures shape { result.shape ≡ Shape.Flag }
+        ensures rule { result.rule ≡ Rule.Nothing }
+    {
+        Form {
+            shape: Shape::Flag,
+            rule: Rule::Nothing,
+        }
     }
-}
 
-fn single(place: usize, name: &'static str, rule: Rule) -> Entry
-    ensures place { result.place ≡ place }
-    ensures name { result.name.now ≡ name.now }
-    ensures shape { result.shape ≡ Shape.Single }
-    ensures rule { result.rule ≡ rule }
-{
-    Entry {
-        place,
-        name,
-        shape: Shape::Single,
-        rule,
+    fn single(rule: Rule) -> Form
+        ensures shape { result.shape ≡ Shape.Single }
+        ensures rule { result.rule ≡ rule }
+    {
+        Form {
+            shape: Shape::Single,
+            rule,
+        }
     }
-}
 
-fn multi(place: usize, name: &'static str, rule: Rule) -> Entry
-    ensures place { result.place ≡ place }
-    ensures name { result.name.now ≡ name.now }
-    ensures shape { result.shape ≡ Shape.Multi }
-    ensures rule { result.rule ≡ rule }
-{
-    Entry {
-        place,
-        name,
-        shape: Shape::Multi,
-        rule,
+    fn multi(rule: Rule) -> Form
+        ensures shape { result.shape ≡ Shape.Multi }
+        ensures rule { result.rule ≡ rule }
+    {
+        Form {
+            shape: Shape::Multi,
+            rule,
+        }
     }
 }
 
 impl Kind {
-    /// The kind's entry in the table of kinds.
     #[tactic(auto, unfolding(crate::specs::Kinds::entry_of))]
-    pub(crate) fn entry(self) -> Entry
-        ensures place { result.place ≡ (entry_of self).place }
-        ensures name { result.name.now ≡ (entry_of self).name }
+    fn spelling(self) -> &'static str
+        ensures { result.now ≡ (entry_of self).name }
+    {
+        match self {
+            Kind::AddHeader => "add-header",
+            Kind::Block => "block",
+            Kind::ChangeXForwardedFor => "change-x-forwarded-for",
+            Kind::ClientBodyFilter => "client-body-filter",
+            Kind::ClientBodyTagger => "client-body-tagger",
+            Kind::ClientHeaderFilter => "client-header-filter",
+            Kind::ClientHeaderTagger => "client-header-tagger",
+            Kind::ContentTypeOverwrite => "content-type-overwrite",
+            Kind::CrunchClientHeader => "crunch-client-header",
+            Kind::CrunchIfNoneMatch => "crunch-if-none-match",
+            Kind::CrunchIncomingCookies => "crunch-incoming-cookies",
+            Kind::CrunchOutgoingCookies => "crunch-outgoing-cookies",
+            Kind::CrunchServerHeader => "crunch-server-header",
+            Kind::DeanimateGifs => "deanimate-gifs",
+            Kind::DelayResponse => "delay-response",
+            Kind::DowngradeHttpVersion => "downgrade-http-version",
+            Kind::ExternalFilter => "external-filter",
+            Kind::FastRedirects => "fast-redirects",
+            Kind::Filter => "filter",
+            Kind::ForceTextMode => "force-text-mode",
+            Kind::ForwardOverride => "forward-override",
+            Kind::HandleAsEmptyDocument => "handle-as-empty-document",
+            Kind::HandleAsImage => "handle-as-image",
+            Kind::HideAcceptLanguage => "hide-accept-language",
+            Kind::HideContentDisposition => "hide-content-disposition",
+            Kind::HideFromHeader => "hide-from-header",
+            Kind::HideIfModifiedSince => "hide-if-modified-since",
+            Kind::HideReferrer => "hide-referrer",
+            Kind::HideUserAgent => "hide-user-agent",
+            Kind::HttpsInspection => "https-inspection",
+            Kind::IgnoreCertificateErrors => "ignore-certificate-errors",
+            Kind::LimitConnect => "limit-connect",
+            Kind::LimitCookieLifetime => "limit-cookie-lifetime",
+            Kind::OverwriteLastModified => "overwrite-last-modified",
+            Kind::PreventCompression => "prevent-compression",
+            Kind::Redirect => "redirect",
+            Kind::ServerHeaderFilter => "server-header-filter",
+            Kind::ServerHeaderTagger => "server-header-tagger",
+            Kind::SessionCookiesOnly => "session-cookies-only",
+            Kind::SetImageBlocker => "set-image-blocker",
+            Kind::SuppressTag => "suppress-tag",
+        }
+    }
+
+    #[tactic(auto, unfolding(crate::specs::Kinds::entry_of))]
+    fn form(self) -> Form
         ensures shape { result.shape ≡ (entry_of self).shape }
         ensures rule { result.rule ≡ (entry_of self).rule }
     {
         match self {
-            Kind::AddHeader => multi(0, "add-header", Rule::AddedField),
-            Kind::Block => single(1, "block", Rule::TextOrEmpty),
-            Kind::ChangeXForwardedFor => single(2, "change-x-forwarded-for", Rule::BlockOrAdd),
-            Kind::ClientBodyFilter => multi(3, "client-body-filter", Rule::Text),
-            Kind::ClientBodyTagger => multi(4, "client-body-tagger", Rule::Text),
-            Kind::ClientHeaderFilter => multi(5, "client-header-filter", Rule::Text),
-            Kind::ClientHeaderTagger => multi(6, "client-header-tagger", Rule::Text),
-            Kind::ContentTypeOverwrite => single(7, "content-type-overwrite", Rule::Text),
-            Kind::CrunchClientHeader => single(8, "crunch-client-header", Rule::Text),
-            Kind::CrunchIfNoneMatch => flag(9, "crunch-if-none-match"),
-            Kind::CrunchIncomingCookies => flag(10, "crunch-incoming-cookies"),
-            Kind::CrunchOutgoingCookies => flag(11, "crunch-outgoing-cookies"),
-            Kind::CrunchServerHeader => single(12, "crunch-server-header", Rule::Text),
-            Kind::DeanimateGifs => single(13, "deanimate-gifs", Rule::Text),
-            Kind::DelayResponse => single(14, "delay-response", Rule::Text),
-            Kind::DowngradeHttpVersion => flag(15, "downgrade-http-version"),
-            Kind::ExternalFilter => multi(16, "external-filter", Rule::Text),
-            Kind::FastRedirects => single(17, "fast-redirects", Rule::RedirectCheck),
-            Kind::Filter => multi(18, "filter", Rule::Text),
-            Kind::ForceTextMode => flag(19, "force-text-mode"),
-            Kind::ForwardOverride => single(20, "forward-override", Rule::Parent),
-            Kind::HandleAsEmptyDocument => flag(21, "handle-as-empty-document"),
-            Kind::HandleAsImage => flag(22, "handle-as-image"),
-            Kind::HideAcceptLanguage => single(23, "hide-accept-language", Rule::Text),
-            Kind::HideContentDisposition => single(24, "hide-content-disposition", Rule::Text),
-            Kind::HideFromHeader => single(25, "hide-from-header", Rule::Text),
-            Kind::HideIfModifiedSince => single(26, "hide-if-modified-since", Rule::Text),
-            Kind::HideReferrer => single(27, "hide-referrer", Rule::Text),
-            Kind::HideUserAgent => single(28, "hide-user-agent", Rule::Text),
-            Kind::HttpsInspection => flag(29, "https-inspection"),
-            Kind::IgnoreCertificateErrors => flag(30, "ignore-certificate-errors"),
-            Kind::LimitConnect => single(31, "limit-connect", Rule::Ports),
-            Kind::LimitCookieLifetime => single(32, "limit-cookie-lifetime", Rule::Minutes),
-            Kind::OverwriteLastModified => single(
-                33,
-                "overwrite-last-modified",
-                Rule::ModifiedDate,
-            ),
-            Kind::PreventCompression => flag(34, "prevent-compression"),
-            Kind::Redirect => single(35, "redirect", Rule::Text),
-            Kind::ServerHeaderFilter => multi(36, "server-header-filter", Rule::Text),
-            Kind::ServerHeaderTagger => multi(37, "server-header-tagger", Rule::Text),
-            Kind::SessionCookiesOnly => flag(38, "session-cookies-only"),
-            Kind::SetImageBlocker => single(39, "set-image-blocker", Rule::Text),
-            Kind::SuppressTag => multi(40, "suppress-tag", Rule::Text),
+            Kind::AddHeader => Form::multi(Rule::AddedField),
+            Kind::Block => Form::single(Rule::TextOrEmpty),
+            Kind::ChangeXForwardedFor => Form::single(Rule::BlockOrAdd),
+            Kind::ClientBodyFilter => Form::multi(Rule::Text),
+            Kind::ClientBodyTagger => Form::multi(Rule::Text),
+            Kind::ClientHeaderFilter => Form::multi(Rule::Text),
+            Kind::ClientHeaderTagger => Form::multi(Rule::Text),
+            Kind::ContentTypeOverwrite => Form::single(Rule::Text),
+            Kind::CrunchClientHeader => Form::single(Rule::Text),
+            Kind::CrunchIfNoneMatch => Form::flag(),
+            Kind::CrunchIncomingCookies => Form::flag(),
+            Kind::CrunchOutgoingCookies => Form::flag(),
+            Kind::CrunchServerHeader => Form::single(Rule::Text),
+            Kind::DeanimateGifs => Form::single(Rule::Text),
+            Kind::DelayResponse => Form::single(Rule::Text),
+            Kind::DowngradeHttpVersion => Form::flag(),
+            Kind::ExternalFilter => Form::multi(Rule::Text),
+            Kind::FastRedirects => Form::single(Rule::RedirectCheck),
+            Kind::Filter => Form::multi(Rule::Text),
+            Kind::ForceTextMode => Form::flag(),
+            Kind::ForwardOverride => Form::single(Rule::Parent),
+            Kind::HandleAsEmptyDocument => Form::flag(),
+            Kind::HandleAsImage => Form::flag(),
+            Kind::HideAcceptLanguage => Form::single(Rule::Text),
+            Kind::HideContentDisposition => Form::single(Rule::Text),
+            Kind::HideFromHeader => Form::single(Rule::Text),
+            Kind::HideIfModifiedSince => Form::single(Rule::Text),
+            Kind::HideReferrer => Form::single(Rule::Text),
+            Kind::HideUserAgent => Form::single(Rule::Text),
+            Kind::HttpsInspection => Form::flag(),
+            Kind::IgnoreCertificateErrors => Form::flag(),
+            Kind::LimitConnect => Form::single(Rule::Ports),
+            Kind::LimitCookieLifetime => Form::single(Rule::Minutes),
+            Kind::OverwriteLastModified => Form::single(Rule::ModifiedDate),
+            Kind::PreventCompression => Form::flag(),
+            Kind::Redirect => Form::single(Rule::Text),
+            Kind::ServerHeaderFilter => Form::multi(Rule::Text),
+            Kind::ServerHeaderTagger => Form::multi(Rule::Text),
+            Kind::SessionCookiesOnly => Form::flag(),
+            Kind::SetImageBlocker => Form::single(Rule::Text),
+            Kind::SuppressTag => Form::multi(Rule::Text),
         }
     }
 
@@ -299,7 +328,10 @@ impl Kind {
         } else {
             name
         };
-        KINDS.iter().copied().find(|kind| same_without_case(kind.entry().name.as_bytes(), name))
+        KINDS
+            .iter()
+            .copied()
+            .find(|kind| same_without_case(kind.spelling().as_bytes(), name))
     }
 
     /// The name, by which `by_name` finds the kind.
@@ -307,27 +339,28 @@ impl Kind {
         ensures name { result.now ≡ (entry_of self).name }
         ensures found { kind_named result.now ≡ Some self }
     {
-        self.entry().name
+        self.spelling()
     }
 
     /// The kind's number: its place in byte order of the names, from 0.
+    #[tactic(auto, unfolding(crate::specs::Kinds::entry_of))]
     pub fn place(self) -> usize
         ensures place { result ≡ (entry_of self).place }
         ensures within { result < 41 }
     {
-        self.entry().place
+        self as usize
     }
 
     /// What the kind's parameter must be.
     pub fn rule(self) -> Rule
         ensures { result ≡ (entry_of self).rule }
     {
-        self.entry().rule
+        self.form().rule
     }
 
     pub fn shape(self) -> Shape
         ensures { result ≡ (entry_of self).shape }
     {
-        self.entry().shape
+        self.form().shape
     }
 }

@@ -2,28 +2,28 @@
 #![tactic(auto)]
 
 mod braces;
-mod cases;
 mod changes;
 mod faults;
-mod fields;
 mod hops;
 mod kinds;
+mod laws;
 mod rules;
 mod sets;
 mod settings;
 mod updates;
+mod values;
 
 pub use braces::{balances, is_closed, split_word};
-pub use cases::same_without_case;
 pub use changes::Change;
 pub use faults::ActionFault;
-pub use fields::{FieldLine, HELD_BACK, is_held_back, is_token, read_field_line};
-pub use hops::{Hop, PARENT_PORT, read_hop};
+pub use hops::{Hop, read_hop};
 pub use kinds::{KINDS, Kind, Rule, Shape};
-pub use rules::{FORWARD, MINUTE_DIGITS, MOST_MINUTES, as_text, read_override};
+pub use laws::constants;
+pub use rules::read_override;
 pub use sets::ActionSet;
-pub use settings::Setting;
-pub use updates::Update;
+pub use settings::{Setting, add_once};
+pub use updates::{Sign, Update};
+pub use values::{added_field, allowed_ports, lifetime_minutes, override_hop, value_text};
 
 #[cfg(test)]
 mod tests;

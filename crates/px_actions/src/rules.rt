@@ -1,27 +1,27 @@
 // The rules of parameters.
-ghost use Rattle.std.specs.Prelude.{◌≡◌, ◌&&◌, ◌||◌, true, false, not, nat_le, length, is_some, IfOk, IfSome, MatchOption, option_map};
+ghost use Rattle.std.specs.Prelude.{◌≡◌, ◌&&◌, ◌||◌, not, nat_le, length, is_some, IfOk, IfSome, option_map};
 ghost use Rattle.std.specs.List.{list_all};
-ghost use Rattle.std.specs.Str.{bytes_eq, is_utf8};
+ghost use Rattle.std.specs.Str.{bytes_eq};
 ghost use Rattle.px_base.specs.Numbers.{decimal};
 ghost use Rattle.px_base.specs.Ports.{port_list};
 ghost use Rattle.px_actions.specs.Rules.{is_control, is_plain, override_hop, hop_behind, meets, keeps, may_add};
-ghost use Rattle.px_actions.specs.Fields.{field_line};
+ghost use Rattle.px_head.specs.FieldLines.{read_field};
 ghost use Rattle.px_actions.specs.Hops.{seen_hop};
 
 use crate::braces::without_front;
-use crate::fields::{is_held_back, read_field_line};
 use crate::hops::{Hop, read_hop};
 use crate::kinds::Rule;
-use px_base::{Mem, Ports, PortsFault, is_blank, read_decimal};
+use px_base::{Mem, Ports, PortsFault, as_text, is_blank, read_decimal};
+use px_head::{is_held_back_of_request, read_field_line};
 use std::alloc::Global;
 
 /// The word before the next hop in the parameter of `forward-override`.
-pub const FORWARD: &[u8] = b"forward";
+const FORWARD: &[u8] = b"forward";
 
 /// The longest cap of a cookie's lifetime, in minutes, and its most digits.
-pub const MOST_MINUTES: u64 = 100_000_000;
+pub(crate) const MOST_MINUTES: u64 = 100_000_000;
 
-pub const MINUTE_DIGITS: usize = 9;
+const MINUTE_DIGITS: usize = 9;
 
 /// Whether no byte is a control byte other than the tab.
 fn has_no_control(text: &[u8]) -> bool
@@ -65,10 +65,10 @@ fn is_override(text: &[u8]) -> bool
 
 /// Whether a text is a field line that may be added to requests.
 fn is_added_field(text: &[u8]) -> bool
-    ensures { result ≡ may_add (field_line text.now) }
+    ensures { result ≡ may_add (read_field text.now) }
 {
     match read_field_line(text) {
-        Some(field) => !is_held_back(field.name),
+        Some(field) => !is_held_back_of_request(field.name),
         None => false,
     }
 }
@@ -84,7 +84,7 @@ fn is_port_list(alloc: Global, text: &str) -> Result<bool, Mem>
 }
 
 fn is_minutes(text: &[u8]) -> bool
-    ensures { result ≡ (nat_le (length text.now) MINUTE_DIGITS && is_some (decimal MOST_MINUTES text.now)) }
+    ensures { result ≡ (nat_le (length text.now) 9 && is_some (decimal 100000000 text.now)) }
 {
     text.len() <= MINUTE_DIGITS && read_decimal(text, MOST_MINUTES).is_some()
 }
@@ -120,17 +120,6 @@ fn meets(alloc: Global, rule: Rule, parameter: &str) -> Result<bool, Mem>
         }
         Rule::Minutes => Ok(is_minutes(text)),
         Rule::AddedField => Ok(is_added_field(text)),
-    }
-}
-
-/// The bytes as a text, if they are UTF-8.
-#[tactic(auto, using(crate::proofs::RuleLemmas::text_laws))]
-pub fn as_text(bytes: &[u8]) -> Option<&str>
-    ensures { MatchOption result (is_utf8 bytes.now ≡ false) (λ text. (is_utf8 bytes.now ≡ true) × (text.now ≡ bytes.now)) }
-{
-    match str::from_utf8(bytes) {
-        Ok(text) => Some(text),
-        Err(_) => None,
     }
 }
 

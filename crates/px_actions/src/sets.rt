@@ -1,10 +1,10 @@
 // Action sets.
-ghost use Rattle.std.specs.Prelude.{◌≡◌, ◌++◌, IfOk, IfSome, IsErr, OnErr, OnOk, IsTrue, option_copied, true};
+ghost use Rattle.std.specs.Prelude.{◌≡◌, ◌++◌, IfOk, IfSome, IsErr, IfErr, OnErr, OnOk, IsTrue, option_copied, true};
 ghost use Rattle.std.specs.List.{flat_map, list_all};
 ghost use Rattle.px_actions.specs.Kinds.{entry_of};
 ghost use Rattle.px_actions.specs.Rules.{keeps};
 ghost use Rattle.px_actions.specs.Shapes.{TakesMemory};
-ghost use Rattle.px_actions.specs.Sets.{updated, empty_set, is_on, value, values, is_distinct, set_lines, setting_lines, setting_of};
+ghost use Rattle.px_actions.specs.Sets.{updated, updated_all, IsUpdatedByFront, empty_set, is_on, value, values, is_distinct, set_lines, setting_lines, setting_of};
 
 use crate::kinds::{KINDS, Kind};
 use crate::settings::Setting;
@@ -55,6 +55,17 @@ impl ActionSet {
     {
         let setting = &mut self.settings[update.kind.place()];
         setting.change(self.alloc, &update.change)
+    }
+
+    /// Applies updates in their order. After `Mem` some first ones of them are applied.
+    pub fn apply_all(&mut self, updates: &[Update]) -> Result<(), Mem>
+        ensures ok { OnOk result (self.new ≡ updated_all self.old updates.now) }
+        ensures err { IfErr result (λ _. IsUpdatedByFront self.old updates.now self.new) }
+    {
+        for update in updates {
+            self.apply(update)?;
+        }
+        Ok(())
     }
 
     /// Whether a flag is on. A kind that isn't a flag is never on.

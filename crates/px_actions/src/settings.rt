@@ -139,7 +139,7 @@ fn change_multi(alloc: Global, values: &mut List<Text>, change: &Change) -> Resu
     ensures memory { IsErr result → TakesMemory change.now }
 {
     match change {
-        Change::Add(text) => add(alloc, values, text.as_bytes())?,
+        Change::Add(text) => add_once(alloc, values, text.as_bytes())?,
         Change::Remove(text) => remove(alloc, values, text.as_bytes()),
         Change::Clear => *values = List::new(alloc),
         Change::On | Change::Off | Change::Set(_) => {}
@@ -153,19 +153,15 @@ fn is_among(value: &[u8], values: &[Text]) -> bool
     values.iter().any(|other| other.as_bytes() == value)
 }
 
-/// Puts a value last, unless it is there.
-fn add(alloc: Global, values: &mut List<Text>, value: &[u8]) -> Result<(), Mem>
+/// Puts a value last into a list, unless it is there. After `Mem` the list is as it was.
+pub fn add_once(alloc: Global, values: &mut List<Text>, value: &[u8]) -> Result<(), Mem>
     ensures ok { OnOk result (values.new ≡ with_value value.now values.old) }
     ensures err { OnErr result (values.new ≡ values.old) }
 {
     if is_among(value, values.as_slice()) {
         return Ok(());
     }
-    let text = Text::from_bytes(alloc, value)?;
-    match values.push(text) {
-        Ok(()) => Ok(()),
-        Err(_) => Err(Mem),
-    }
+    values.add(Text::from_bytes(alloc, value)?)
 }
 
 /// Takes a value out, the others in their order.

@@ -1,6 +1,6 @@
 // The tables of words, and sets that are printed and copied.
 use crate::*;
-use px_base::Text;
+use px_base::{List, Mem, Text};
 use std::alloc::Global;
 use std::test::Fail;
 
@@ -174,7 +174,6 @@ fn words_are_refused_by_number_and_name(rt: HostRuntime) {
 
 #[test]
 fn bytes_that_are_no_text_are_a_bad_parameter(rt: HostRuntime) {
-    assert!(rt; as_text(b"\xff").is_none());
     assert!(rt;
         matches!(
             Update::read_bytes(rt.alloc(), b"+block{\xff}"),
@@ -223,6 +222,36 @@ fn copied_line(alloc: Global, word: &str) -> Option<Text> {
     set.print().ok()
 }
 
+/// A set to which all updates of these words were applied at once.
+fn set_at_once(alloc: Global, words: &[&str]) -> Option<ActionSet> {
+    let mut updates = Vec::new(alloc);
+    for word in words {
+        updates.push(Update::read(alloc, word).ok()?).ok()?;
+    }
+    let mut set = ActionSet::empty(alloc);
+    set.apply_all(updates.as_slice()).ok()?;
+    Some(set)
+}
+
+#[test]
+fn updates_are_applied_in_their_order(rt: HostRuntime) {
+    let words = ["+filter{a}", "+filter{b}", "-filter{a}", "+filter{a}"];
+    match set_at_once(rt.alloc(), &words) {
+        Some(set) => assert!(rt; are_texts(set.values(Kind::Filter), &[b"b", b"a"])),
+        None => panic!(rt; "no set"),
+    }
+}
+
+#[test]
+fn a_text_goes_last_unless_it_is_there(rt: HostRuntime) -> Result<(), Mem> {
+    let mut texts = List::new(rt.alloc());
+    for text in [b"a", b"b", b"a"] {
+        add_once(rt.alloc(), &mut texts, text)?;
+    }
+    assert!(rt; are_texts(texts.as_slice(), &[b"a", b"b"]));
+    Ok(())
+}
+
 /// The words whose set is copied, and its lines.
 const COPIED: &[&str] = &["+block{no}", "+filter{b}", "+filter{a}"];
 
@@ -259,6 +288,15 @@ fn cleared_copy(alloc: Global) -> Option<(Text, Text)> {
     Some((set.print().ok()?, copy.print().ok()?))
 }
 
+/// Whether a list has these texts, in this order.
+fn are_texts(texts: &[Text], wanted: &[&[u8]]) -> bool {
+    texts.len() == wanted.len()
+        && texts
+            .iter()
+            .zip(wanted)
+            .all(|(text, wanted)| text.as_bytes() == *wanted)
+}
+
 #[test]
 fn a_set_has_flags_and_values(rt: HostRuntime) {
     match set_of(
@@ -270,8 +308,8 @@ fn a_set_has_flags_and_values(rt: HostRuntime) {
             assert!(rt; !set.is_on(Kind::HandleAsEmptyDocument));
             assert_eq!(rt; set.value(Kind::Block), Some(b"ad".as_slice()));
             assert_eq!(rt; set.value(Kind::Redirect), None);
-            assert_eq!(rt; set.values(Kind::Filter).len(), 2);
-            assert_eq!(rt; set.values(Kind::SuppressTag).len(), 0);
+            assert!(rt; are_texts(set.values(Kind::Filter), &[b"f", b"g"]));
+            assert!(rt; are_texts(set.values(Kind::SuppressTag), &[]));
         }
         None => panic!(rt; "no set"),
     }
@@ -344,31 +382,6 @@ fn braces_balance_but_behind_a_backslash(rt: HostRuntime) {
     }
 }
 
-/// Texts, and the names and values of the field lines that they are.
-const FIELDS: &[(&[u8], Option<(&[u8], &[u8])>)] = &[
-    (b"X:   2 ", Some((b"X", b"2"))),
-    (b"X-A:", Some((b"X-A", b""))),
-    (b"X : 2", None),
-    (b": 2", None),
-    (b"X: a\r", None),
-    (b"X", None),
-];
-
-#[test]
-fn fields_are_read(rt: HostRuntime) {
-    for (text, wanted) in FIELDS {
-        let field = read_field_line(text).map(|field| (field.name, field.value));
-        assert_eq!(rt; field, *wanted);
-    }
-    for (name, held) in [
-        ("hOST", true),
-        ("Proxy-Authorization", true),
-        ("X-Host", false),
-    ] {
-        assert_eq!(rt; is_held_back(name.as_bytes()), held, "{name}");
-    }
-}
-
 /// Texts, and the hosts and ports of the next hops that they name.
 const HOPS: &[(&[u8], Option<(&[u8], u16)>)] = &[
     (b".", Some((b"", 0))),
@@ -400,4 +413,79 @@ fn next_hops_are_read(rt: HostRuntime) {
     let over = host_and_port(read_override(b"forward \t[::1]:81"));
     assert_eq!(rt; over, Some((b"::1".as_slice(), 81)));
     assert!(rt; read_override(b"forward.").is_none());
+}
+
+/// The minutes of a set's cap.
+fn cap_of(set: &ActionSet) -> Option<u64> {
+    match set.value(Kind::LimitCookieLifetime) {
+        Some(value) => Some(lifetime_minutes(value)),
+        None => None,
+    }
+}
+
+/// The host and port of a set's next hop.
+fn hop_of(set: &ActionSet) -> Option<(&[u8], u16)> {
+    match set.value(Kind::ForwardOverride) {
+        Some(value) => host_and_port(Some(override_hop(value))),
+        None => None,
+    }
+}
+
+/// Whether a set allows tunnels to a port.
+fn allows(alloc: Global, set: &ActionSet, port: u16) -> Option<bool> {
+    match set.value(Kind::LimitConnect) {
+        Some(value) => match allowed_ports(alloc, value) {
+            Ok(ports) => Some(ports.allow(port)),
+            Err(Mem) => None,
+        },
+        None => None,
+    }
+}
+
+/// A set's reason to block.
+fn reason_of(set: &ActionSet) -> Option<&str> {
+    match set.value(Kind::Block) {
+        Some(value) => Some(value_text(Kind::Block, value)),
+        None => None,
+    }
+}
+
+#[test]
+fn values_are_read_by_their_rule(rt: HostRuntime) {
+    match set_of(
+        rt.alloc(),
+        &[
+            "+limit-cookie-lifetime{0060}",
+            "+forward-override{forward p.test}",
+            "+limit-connect{443, 8000-}",
+            "+block{no\tads}",
+        ],
+    ) {
+        Some(set) => {
+            assert_eq!(rt; cap_of(&set), Some(60));
+            assert_eq!(rt; hop_of(&set), Some((b"p.test".as_slice(), 8000)));
+            assert_eq!(rt; allows(rt.alloc(), &set, 443), Some(true));
+            assert_eq!(rt; allows(rt.alloc(), &set, 444), Some(false));
+            assert_eq!(rt; reason_of(&set), Some("no\tads"));
+        }
+        None => panic!(rt; "no set"),
+    }
+}
+
+/// Whether each field that a set adds is named `X`.
+fn adds_x_alone(set: &ActionSet) -> bool {
+    for value in set.values(Kind::AddHeader) {
+        if added_field(value.as_bytes()).name != b"X".as_slice() {
+            return false;
+        }
+    }
+    true
+}
+
+#[test]
+fn added_fields_are_read(rt: HostRuntime) {
+    match set_of(rt.alloc(), &["+add-header{X: 1}", "+add-header{X:2}"]) {
+        Some(set) => assert!(rt; adds_x_alone(&set)),
+        None => panic!(rt; "no set"),
+    }
 }

@@ -1,17 +1,15 @@
 // Updates of action sets, and the words that they are read from.
-ghost use Rattle.std.specs.Prelude.{◌≡◌, ◌≢◌, ◌<◌, ◌-◌, IfErr, IfOk, IfSome, IsTrue, false, Ok, Err, Some, None, Option, length, take, option_copied, option_map};
-ghost use Rattle.std.specs.List.{before_first, position};
-ghost use Rattle.px_base.specs.Blanks.{trimmed};
-ghost use Rattle.px_actions.specs.Kinds.{entry_of};
+ghost use Rattle.std.specs.Prelude.{◌≡◌, ◌≢◌, IfErr, IfOk, IsTrue, false, Ok, Err, Some, option_copied};
+ghost use Rattle.std.specs.List.{before_first};
 ghost use Rattle.px_actions.specs.Shapes.{fits};
 ghost use Rattle.px_actions.specs.Updates.{is_open, behind_brace, parameter_of, has_parameter, flag_change, single_change, multi_change, shape_change, kind_update, signed_update, word_update};
 
-use crate::braces::{OPEN, is_closed};
+use crate::braces::is_closed;
 use crate::changes::Change;
 use crate::faults::ActionFault;
 use crate::kinds::{Kind, Rule, Shape};
 use crate::rules::keeps;
-use px_base::{Mem, Text, trim};
+use px_base::{Mem, Text, place, trim};
 use std::alloc::Global;
 
 /// One update of an action set: a kind of action and what is done to it. The change is of the kind's shape, and its
@@ -21,6 +19,13 @@ pub struct Update {
     pub kind: Kind,
     pub change: Change,
     ghost kept: { IsTrue (fits kind change) },
+}
+
+/// The sign of a word.
+#[derive(Clone, Copy, Debug, PartialEq, Eq)]
+pub enum Sign {
+    Plus,
+    Minus,
 }
 
 impl Update {
@@ -39,8 +44,8 @@ impl Update {
         ensures fault { IfErr result (λ f. f ≢ ActionFault.Mem → word_update word.now ≡ Err f) }
     {
         match word.split_first() {
-            Some((b'+', text)) => read_signed(alloc, true, text),
-            Some((b'-', text)) => read_signed(alloc, false, text),
+            Some((b'+', text)) => read_signed(alloc, Sign::Plus, text),
+            Some((b'-', text)) => read_signed(alloc, Sign::Minus, text),
             Some(_) => Err(ActionFault::UnknownAction),
             None => Err(ActionFault::UnknownAction),
         }
@@ -59,13 +64,13 @@ impl Update {
 }
 
 /// The update of what stands behind a sign.
-fn read_signed(alloc: Global, plus: bool, text: &[u8]) -> Result<Update, ActionFault>
-    ensures update { IfOk result (λ u. signed_update plus text.now ≡ Ok (u.kind, u.change)) }
-    ensures fault { IfErr result (λ f. f ≢ ActionFault.Mem → signed_update plus text.now ≡ Err f) }
+fn read_signed(alloc: Global, sign: Sign, text: &[u8]) -> Result<Update, ActionFault>
+    ensures update { IfOk result (λ u. signed_update sign text.now ≡ Ok (u.kind, u.change)) }
+    ensures fault { IfErr result (λ f. f ≢ ActionFault.Mem → signed_update sign text.now ≡ Err f) }
 {
     let (name, behind) = cut_at_brace(text);
     match Kind::by_bytes(name) {
-        Some(kind) => read_change(alloc, kind, plus, behind),
+        Some(kind) => read_change(alloc, kind, sign, behind),
         None => Err(ActionFault::UnknownAction),
     }
 }
@@ -75,17 +80,10 @@ fn cut_at_brace(text: &[u8]) -> (&[u8], Option<&[u8]>)
     ensures name { result.0.now ≡ before_first is_open text.now }
     ensures behind { option_copied result.1 ≡ behind_brace text.now }
 {
-    match place_of_brace(text) {
+    match place(text, b'{') {
         Some(at) => (&text[..at], Some(&text[at + 1..])),
         None => (text, None),
     }
-}
-
-fn place_of_brace(text: &[u8]) -> Option<usize>
-    ensures value { result ≡ position is_open text.now }
-    ensures within { IfSome result (λ at. at < length text.now) }
-{
-    text.iter().position(|byte| *byte == OPEN)
 }
 
 /// The update of a kind, by a sign and what stands behind an open brace.
@@ -93,14 +91,13 @@ fn place_of_brace(text: &[u8]) -> Option<usize>
 fn read_change(
     alloc: Global,
     kind: Kind,
-    plus: bool,
+    sign: Sign,
     behind: Option<&[u8]>,
 ) -> Result<Update, ActionFault>
-    ensures update { IfOk result (λ u. kind_update plus (option_copied behind.entry) (Some kind) ≡ Ok (u.kind, u.change)) }
-    ensures fault { IfErr result (λ f. f ≢ ActionFault.Mem → kind_update plus (option_copied behind.entry) (Some kind) ≡ Err f) }
+    ensures update { IfOk result (λ u. kind_update sign (option_copied behind.entry) (Some kind) ≡ Ok (u.kind, u.change)) }
+    ensures fault { IfErr result (λ f. f ≢ ActionFault.Mem → kind_update sign (option_copied behind.entry) (Some kind) ≡ Err f) }
 {
-    let entry = kind.entry();
-    let change = shape_change(alloc, entry.shape, entry.rule, plus, behind)?;
+    let change = shape_change(alloc, kind.shape(), kind.rule(), sign, behind)?;
     Ok(Update { kind, change })
 }
 
@@ -108,60 +105,60 @@ fn shape_change(
     alloc: Global,
     shape: Shape,
     rule: Rule,
-    plus: bool,
+    sign: Sign,
     behind: Option<&[u8]>,
 ) -> Result<Change, ActionFault>
-    ensures change { IfOk result (λ c. shape_change shape rule plus (option_copied behind.entry) ≡ Ok c) }
-    ensures fault { IfErr result (λ f. f ≢ ActionFault.Mem → shape_change shape rule plus (option_copied behind.entry) ≡ Err f) }
+    ensures change { IfOk result (λ c. shape_change shape rule sign (option_copied behind.entry) ≡ Ok c) }
+    ensures fault { IfErr result (λ f. f ≢ ActionFault.Mem → shape_change shape rule sign (option_copied behind.entry) ≡ Err f) }
 {
     match shape {
-        Shape::Flag => flag_change(plus, behind),
-        Shape::Single => single_change(alloc, rule, plus, behind),
-        Shape::Multi => multi_change(alloc, rule, plus, behind),
+        Shape::Flag => flag_change(sign, behind),
+        Shape::Single => single_change(alloc, rule, sign, behind),
+        Shape::Multi => multi_change(alloc, rule, sign, behind),
     }
 }
 
-fn flag_change(plus: bool, behind: Option<&[u8]>) -> Result<Change, ActionFault>
-    ensures { result ≡ flag_change plus (option_copied behind.entry) }
+fn flag_change(sign: Sign, behind: Option<&[u8]>) -> Result<Change, ActionFault>
+    ensures { result ≡ flag_change sign (option_copied behind.entry) }
 {
-    match (plus, behind) {
+    match (sign, behind) {
         (_, Some(_)) => Err(ActionFault::ParameterUnwanted),
-        (true, None) => Ok(Change::On),
-        (false, None) => Ok(Change::Off),
+        (Sign::Plus, None) => Ok(Change::On),
+        (Sign::Minus, None) => Ok(Change::Off),
     }
 }
 
 fn single_change(
     alloc: Global,
     rule: Rule,
-    plus: bool,
+    sign: Sign,
     behind: Option<&[u8]>,
 ) -> Result<Change, ActionFault>
-    ensures change { IfOk result (λ c. single_change rule plus (option_copied behind.entry) ≡ Ok c) }
-    ensures fault { IfErr result (λ f. f ≢ ActionFault.Mem → single_change rule plus (option_copied behind.entry) ≡ Err f) }
+    ensures change { IfOk result (λ c. single_change rule sign (option_copied behind.entry) ≡ Ok c) }
+    ensures fault { IfErr result (λ f. f ≢ ActionFault.Mem → single_change rule sign (option_copied behind.entry) ≡ Err f) }
 {
-    match (plus, behind) {
-        (false, Some(_)) => Err(ActionFault::ParameterUnwanted),
-        (false, None) => Ok(Change::Off),
-        (true, None) => Err(ActionFault::ParameterWanted),
-        (true, Some(behind)) => Ok(Change::Set(read_parameter(alloc, rule, behind)?)),
+    match (sign, behind) {
+        (Sign::Minus, Some(_)) => Err(ActionFault::ParameterUnwanted),
+        (Sign::Minus, None) => Ok(Change::Off),
+        (Sign::Plus, None) => Err(ActionFault::ParameterWanted),
+        (Sign::Plus, Some(behind)) => Ok(Change::Set(read_parameter(alloc, rule, behind)?)),
     }
 }
 
 fn multi_change(
     alloc: Global,
     rule: Rule,
-    plus: bool,
+    sign: Sign,
     behind: Option<&[u8]>,
 ) -> Result<Change, ActionFault>
-    ensures change { IfOk result (λ c. multi_change rule plus (option_copied behind.entry) ≡ Ok c) }
-    ensures fault { IfErr result (λ f. f ≢ ActionFault.Mem → multi_change rule plus (option_copied behind.entry) ≡ Err f) }
+    ensures change { IfOk result (λ c. multi_change rule sign (option_copied behind.entry) ≡ Ok c) }
+    ensures fault { IfErr result (λ f. f ≢ ActionFault.Mem → multi_change rule sign (option_copied behind.entry) ≡ Err f) }
 {
-    match (plus, behind) {
-        (true, None) => Err(ActionFault::ParameterWanted),
-        (false, None) => Ok(Change::Clear),
-        (true, Some(behind)) => Ok(Change::Add(read_parameter(alloc, rule, behind)?)),
-        (false, Some(behind)) => Ok(Change::Remove(read_parameter(alloc, rule, behind)?)),
+    match (sign, behind) {
+        (Sign::Plus, None) => Err(ActionFault::ParameterWanted),
+        (Sign::Minus, None) => Ok(Change::Clear),
+        (Sign::Plus, Some(behind)) => Ok(Change::Add(read_parameter(alloc, rule, behind)?)),
+        (Sign::Minus, Some(behind)) => Ok(Change::Remove(read_parameter(alloc, rule, behind)?)),
     }
 }
 
