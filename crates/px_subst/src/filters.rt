@@ -123,12 +123,7 @@ impl Filter {
     }
 
     /// The same, or None where nothing is hit, so that no copy is made.
-    pub fn try_run(
-        &self,
-        alloc: Global,
-        text: &[u8],
-        vars: &Vars,
-    ) -> Result<Option<Outcome>, Mem>
+    pub fn try_run(&self, alloc: Global, text: &[u8], vars: &Vars) -> Result<Option<Outcome>, Mem>
         ensures value { IfOk result (λ found. unwrap_or found (unchanged text.now) ≡ run_filter self.now vars.now text.now) }
         ensures hit { IfOk result (λ found. IfSome found (λ outcome. 0 < outcome.hits)) }
     {

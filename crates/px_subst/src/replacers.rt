@@ -31,9 +31,9 @@ impl Model for Replacer {
     ghost Value = { Built };
 
     ghost view = { λ r. record {
-        pattern = regex_source r.expression;
-        items = items_in_all r.parts.items;
-        flags = r.flags;
+      pattern = regex_source r.expression;
+      items = items_in_all r.parts.items;
+      flags = r.flags;
     } };
 
     ghost invariant = { λ r. IsBuiltFrom r.flags (regex_source r.expression) (regex_pattern r.expression) };

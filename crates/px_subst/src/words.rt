@@ -82,7 +82,10 @@ fn word_at(text: &[u8]) -> Option<Word>
     ensures word { result ≡ word_at text.now }
     ensures within { IfSome result (λ word. length (text_of word) ≤ length text.now) }
 {
-    WORDS.iter().copied().find(|word| text.starts_with(word.text()))
+    WORDS
+        .iter()
+        .copied()
+        .find(|word| text.starts_with(word.text()))
 }
 
 /// The text with a value in the place of each word. A value isn't searched.

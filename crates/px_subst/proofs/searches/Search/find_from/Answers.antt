@@ -11,7 +11,7 @@ returns-clause-some c =
     let found = c.in_ok-found.ensures.found in
     let m = found.0 in
     let groups = read_groups c.args.self.now.matcher c.args.text.now c.args.start m c.captures_read_at.new.locations found.1
-        (c.captures_read_at.ensures.count ∙ c.requires) found.2.1 in (
+    (c.captures_read_at.ensures.count ∙ c.requires) found.2.1 in (
       m,
       found.1,
       record {
