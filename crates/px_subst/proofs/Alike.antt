@@ -1,25 +1,21 @@
 -- A replaced text depends on the spans of the matches and their groups alone, so a built expression gives what the written one gives.
 use Rattle.std.proofs.Common.{◌≡◌, ℕ, ◌+◌, ◌*◌, ◌<◌, ◌==◌, Bool, true, false, cond, List, [], ◌∷◌, ◌++◌, Option, Some, None, flat_map, map, take, length, unwrap_or, option_map, slice_range, slice_index, refl, sym, ap, ap₂, ◌∙◌, arith, ◌-◌, ◌≤◌, ◌^◌}
-use Rattle.std.proofs.lemmas.Bool.{cond-true, cond-false}
+use Rattle.std.specs.Option.{option_map_or}
 use Rattle.std.proofs.lemmas.List.{length-map, take-map, take_all}
 use Rattle.regex_hir.specs.Re.{Re}
 use Rattle.regex_hir.specs.Find.{Match, find_all}
 use Rattle.regex_syntax.specs.Captures.{SameCaptures}
 use Rattle.regex.specs.Replace.{replaced_by, bytes_of}
 use Rattle.regex.specs.Writes.{both}
-use Rattle.regex.specs.Bytes.{regex_pattern}
 use Rattle.regex.proofs.ForCallers.{spans, find_all_alike}
 use Rattle.px_subst.specs.declared.items.Item.{Item}
 use Rattle.px_subst.specs.declared.items.Item.TheVariants.{Byte, Group}
 use Rattle.px_subst.specs.declared.outcomes.Outcome.{Outcome}
-use Rattle.px_subst.specs.declared.replacers.Replacer.{Replacer}
-use Rattle.px_subst.specs.declared.words.Vars.{Vars}
 use Rattle.px_subst.specs.declared.flags.Flags.{Flags}
-use Rattle.px_subst.specs.Substitutes.{item_bytes, items_by, written}
-use Rattle.px_subst.specs.Expressions.{expression}
-use Rattle.px_subst.specs.Words.{filled}
-use Rattle.px_subst.specs.Jobs.{JobParts, replaced, unchanged, worded, run_job}
-use Rattle.px_subst.specs.Replacers.{Spells, items_in_all, replaced_up_to}
+use Rattle.px_subst.specs.Substitutes.{item_bytes, written}
+use Rattle.px_subst.specs.Expressions.{expression, IsBuiltFrom}
+use Rattle.px_subst.specs.Jobs.{replaced, run_with, unchanged}
+use Rattle.px_subst.specs.Replacers.{Built, Spells, replaced_up_to, replaces}
 use Rattle.px_subst.proofs.MatchLemmas.{few_matches}
 
 -- what a caller sees of a match: its start, its end and where its slots lie
@@ -78,52 +74,23 @@ replaced_by_limit every limit items re text is short =
     ap (λ (taken : List Match). let o : Outcome = record { text = replaced_by (written text items) text 0 taken; hits = length taken } in o)
     (chosen every limit (find_all re text) is (omega (arith, few_matches re text)))
 
--- what the built expression and parts make of a text is what the pattern and the substitute stand for
-pub spelled_run : (flags : Flags) (pattern substitute : List ℕ) (r : Replacer) → Spells flags pattern substitute r → (text : List ℕ) →
-    ((k : ℕ) → slice_index text k < 256) →
-    replaced r.every (items_in_all r.parts.items) (regex_pattern r.expression) text
-    ≡ unwrap_or (option_map (λ re. replaced flags.every (items_by flags.plain substitute) re text) (expression flags pattern)) (unchanged text)
-spelled_run flags pattern substitute r spells text bytes =
-    ap₂ (λ every items. replaced every items (regex_pattern r.expression) text) spells.every_is spells.items_are
-    ∙ replaced_alike spells.expression_is.2 text bytes (items_by flags.plain substitute) flags.every
-    ∙ sym (ap (λ o. unwrap_or (option_map (λ re. replaced flags.every (items_by flags.plain substitute) re text) o) (unchanged text)) spells.expression_is.1)
+-- what the built expression and the items make of a text is what the pattern, the items and the flags stand for
+pub built_replaces : (b : Built) (re : Re) (text : List ℕ) → IsBuiltFrom b.flags b.pattern re → ((k : ℕ) → slice_index text k < 256) →
+    replaced b.flags.every b.items re text ≡ replaces b text
+unfolding run_with
+built_replaces b re text from bytes =
+    replaced_alike from.2 text bytes b.items b.flags.every
+    ∙ sym (ap (λ o. option_map_or (λ re. replaced b.flags.every b.items re text) o (unchanged text)) from.1)
 
--- what a job is run by
-abbrev RunsBy : JobParts → Vars → List ℕ → List ℕ → Type 0
-RunsBy job vars pattern substitute = (worded job.flags vars job.pattern ≡ pattern) × (worded job.flags vars job.substitute ≡ substitute)
+-- what it makes is what a pattern, items and flags make that it spells
+pub spelled_run : (pattern : List ℕ) (items : List Item) (flags : Flags) (b : Built) → Spells pattern items flags b → (text : List ℕ) →
+    replaces b text ≡ run_with pattern items flags text
+spelled_run pattern items flags b spells text =
+    ap (λ f. run_with b.pattern b.items f text) spells.flags_are
+    ∙ ap₂ (λ p is. run_with p is flags text) spells.pattern_is spells.items_are
 
-as_written : (job : JobParts) (vars : Vars) → job.flags.dynamic ≡ false → RunsBy job vars job.pattern job.substitute
-as_written job vars is = (cond-false _ _ _ is, cond-false _ _ _ is)
-
-as_filled : (job : JobParts) (vars : Vars) → job.flags.dynamic ≡ true → RunsBy job vars (filled vars job.pattern) (filled vars job.substitute)
-as_filled job vars is = (cond-true _ _ _ is, cond-true _ _ _ is)
-
-module _ (job : JobParts) (vars : Vars) (text pattern substitute : List ℕ) (runs : RunsBy job vars pattern substitute) where
-  run_is : unwrap_or (option_map (λ re. replaced job.flags.every (items_by job.flags.plain substitute) re text) (expression job.flags pattern)) (unchanged text)
-      ≡ run_job job vars text
-  unfolding run_job
-  run_is =
-      sym (ap₂ (λ p s. unwrap_or (option_map (λ re. replaced job.flags.every (items_by job.flags.plain s) re text) (expression job.flags p)) (unchanged text)) runs.0 runs.1)
-
-  built_run : (r : Replacer) → Spells job.flags pattern substitute r → ((k : ℕ) → slice_index text k < 256) →
-      replaced r.every (items_in_all r.parts.items) (regex_pattern r.expression) text ≡ run_job job vars text
-  built_run r spells bytes = spelled_run job.flags pattern substitute r spells text bytes ∙ run_is
-
-  unread_run : expression job.flags pattern ≡ None → unchanged text ≡ run_job job vars text
-  unread_run none =
-      sym (ap (λ o. unwrap_or (option_map (λ re. replaced job.flags.every (items_by job.flags.plain substitute) re text) o) (unchanged text)) none) ∙ run_is
-
-module _ (job : JobParts) (vars : Vars) (text : List ℕ) where
-  -- a job whose expression was built when it was read
-  pub ready_run : job.flags.dynamic ≡ false → (r : Replacer) → Spells job.flags job.pattern job.substitute r → ((k : ℕ) → slice_index text k < 256) →
-      replaced r.every (items_in_all r.parts.items) (regex_pattern r.expression) text ≡ run_job job vars text
-  ready_run is r spells bytes = built_run job vars text job.pattern job.substitute (as_written job vars is) r spells bytes
-
-  -- a job whose words are replaced first
-  pub filled_run : job.flags.dynamic ≡ true → (r : Replacer) → Spells job.flags (filled vars job.pattern) (filled vars job.substitute) r →
-      ((k : ℕ) → slice_index text k < 256) →
-      replaced r.every (items_in_all r.parts.items) (regex_pattern r.expression) text ≡ run_job job vars text
-  filled_run is r spells bytes = built_run job vars text (filled vars job.pattern) (filled vars job.substitute) (as_filled job vars is) r spells bytes
-
-  pub unread_filled : job.flags.dynamic ≡ true → expression job.flags (filled vars job.pattern) ≡ None → unchanged text ≡ run_job job vars text
-  unread_filled is none = unread_run job vars text (filled vars job.pattern) (filled vars job.substitute) (as_filled job vars is) none
+pub unread_run : (pattern : List ℕ) (items : List Item) (flags : Flags) (text : List ℕ) → expression flags pattern ≡ None →
+    unchanged text ≡ run_with pattern items flags text
+unfolding run_with
+unread_run pattern items flags text none =
+    sym (ap (λ o. option_map_or (λ re. replaced flags.every items re text) o (unchanged text)) none)

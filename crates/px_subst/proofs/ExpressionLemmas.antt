@@ -2,7 +2,7 @@
 use Rattle.std.proofs.Common.{◌≡◌, ◌≢◌, ◌<◌, ◌≤◌, ℕ, Bool, true, false, List, Option, None, Some, IsSomeAnd, IfSome, IsUtf8, chars, nat_le, refl, ap, ◌∙◌, le-leb, inl, inr, length, if◌then◌else◌}
 use Rattle.std.specs.Option.{option_and_then}
 use Rattle.std.specs.Str.{is_utf8}
-use Rattle.std.proofs.lemmas.Str.{IsUtf8-from_is_utf8, is_utf8-from_IsUtf8}
+use Rattle.std.proofs.lemmas.Str.{is_utf8-from_IsUtf8}
 use Rattle.std.proofs.lemmas.Bool.{cond-true, cond-false, lt-leb}
 use Rattle.regex_hir.specs.declared.hir.Hir.{Hir}
 use Rattle.regex_hir.specs.Re.{Re}
@@ -56,13 +56,9 @@ refused_expression flags text utf8 config source kind is_config is_source memory
     ])
 
 -- bytes that aren't UTF-8 are no expression
-pub no_expression : (flags : Flags) (pattern : List ℕ) → ¬ (IsUtf8 pattern) → expression flags pattern ≡ None
+pub no_expression : (flags : Flags) (pattern : List ℕ) → is_utf8 pattern ≡ false → expression flags pattern ≡ None
 unfolding expression
-no_expression flags pattern not_text = cond-false _ _ _ (by_test (is_utf8 pattern) refl)
-  where
-    by_test : (b : Bool) → is_utf8 pattern ≡ b → is_utf8 pattern ≡ false
-    by_test true is = absurd (not_text (IsUtf8-from_is_utf8 pattern is))
-    by_test false is = is
+no_expression flags pattern not_text = cond-false _ _ _ not_text
 
 -- what the builder's six steps make of the options and the text
 module _ (flags : Flags) (a b c d e f : RegexBuilder) (first : a.config ≡ default_config)

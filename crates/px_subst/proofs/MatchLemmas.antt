@@ -1,22 +1,22 @@
 -- The matches that are left, and what a text is with some of them replaced.
-use Rattle.std.proofs.Common.{◌≡◌, ℕ, zero, suc, ◌+◌, ◌-◌, ◌*◌, ◌<◌, ◌≤◌, Bool, true, false, cond, ◌==◌, List, [], ◌∷◌, ◌++◌, take, drop, length, flat_map, map, Option, Some, None, IfSome, slice_range, refl, sym, ap, ap₂, subst, ◌∙◌, ⊎_elim, true≢false, arith, ne_eqb, append_assoc, zero-add, get_or, ◌&&◌, nat_le}
+use Rattle.std.proofs.Common.{◌≡◌, ℕ, zero, suc, ◌+◌, ◌-◌, ◌*◌, ◌<◌, ◌≤◌, Bool, true, false, cond, ◌==◌, List, [], ◌∷◌, ◌++◌, take, drop, length, flat_map, map, Option, Some, None, IfSome, IfNone, slice_range, refl, sym, ap, ap₂, subst, ◌∙◌, ⊎_elim, true≢false, arith, ne_eqb, append_assoc, zero-add, get_or, ◌&&◌, nat_le}
 use Rattle.std.proofs.lemmas.Bool.{cases_lt, cond-false, and_parts, leb-true}
 use Rattle.std.proofs.lemmas.List.{get_or_past, length-map, append-nil, nil_from_length}
+use Rattle.std.proofs.lemmas.Option.{none-some, same_Some}
 use Rattle.std.proofs.lemmas.List.FromFn.{length-map-range_with_len}
 use Rattle.regex_hir.specs.Re.{Re}
 use Rattle.regex_hir.specs.Text.{is_some_and}
 use Rattle.regex_hir.specs.Find.{Match, find, find_after, find_all, matches_from}
 use Rattle.regex_vm.specs.Found.{span, group_cells}
-use Rattle.regex.specs.Search.{next_match, group_span, LiesWithin}
+use Rattle.regex.specs.Search.{group_span, matches_after, LiesWithin}
 use Rattle.regex.specs.Views.{engine_width}
 use Rattle.regex.specs.Writes.{group_of}
 use Rattle.regex.specs.Replace.{replaced_by, bytes_of}
 use Rattle.regex.specs.Locations.{location, location_count, AreLocationsOf}
-use Rattle.regex.specs.Bytes.{matcher_pattern, capture_matches_names, capture_matches_haystack}
+use Rattle.regex.specs.Bytes.{matcher_pattern, matcher_names}
 use Rattle.regex.specs.declared.locations.CaptureLocations.{CaptureLocations}
-use Rattle.regex.specs.declared.bytes.iter.CaptureMatches.{CaptureMatches}
-use Rattle.regex.proofs.SearchLemmas.{leftmost_within}
-use Rattle.regex.proofs.CapturesLemmas.{next_is_leftmost}
+use Rattle.regex.specs.declared.bytes.matcher.Matcher.{Matcher}
+use Rattle.regex.proofs.SearchLemmas.{leftmost_within, matches_after_none, matches_after_some, next_later, next_same}
 use Rattle.regex.proofs.GroupLemmas.{group_span_of_match, no_span_past_cells}
 use Rattle.regex.proofs.RoomLemmas.{engine_has_room}
 use Rattle.px_subst.specs.declared.items.Item.{Item}
@@ -65,25 +65,22 @@ unfolding group_cells
 cells_len m width = length-map-range_with_len _ 0 width
 
 -- where a match's groups lie, by the locations that were read for it
-pub read_groups : (s : CaptureMatches) (m : Match) (places : CaptureLocations) →
-    next_match false (matcher_pattern s.matcher.now) s.haystack.now s.after ≡ Some m →
-    location_count places ≡ length (capture_matches_names s) → AreLocationsOf m places →
-    ((n : ℕ) → location places n ≡ cond (n == 0) (Some (span m)) (group_of m n)) × AreWithin (capture_matches_haystack s) places
-read_groups s m places next count are =
-    let re = matcher_pattern s.matcher.now in
-    let text = s.haystack.now in
-    let engine = s.matcher.now.engine in
+pub read_groups : (k : Matcher) (text : List ℕ) (start : ℕ) (m : Match) (places : CaptureLocations) →
+    find (matcher_pattern k) text start ≡ Some m → location_count places ≡ length (matcher_names k) → AreLocationsOf m places →
+    ((n : ℕ) → location places n ≡ cond (n == 0) (Some (span m)) (group_of m n)) × AreWithin text places
+read_groups k text start m places found count are =
+    let re = matcher_pattern k in
+    let engine = k.engine in
     let width = engine_width engine in
-    let from = next_is_leftmost false re text s.after m next in
-    let named : length (capture_matches_names s) ≡ length engine.names.now = length-map _ _ in
+    let named : length (matcher_names k) ≡ length engine.names.now = length-map _ _ in
     let cells : length (group_cells m width) ≡ width = cells_len m width in
     let span_is : (n : ℕ) → 1 ≤ n → SpanOf text m width n =
-    λ n one. group_span_of_match false re text from.0 m width n (λ is. absurd (true≢false (sym is))) (engine_has_room engine) one from.1 in
+    λ n one. group_span_of_match false re text start m width n (λ is. absurd (true≢false (sym is))) (engine_has_room engine) one found in
     let groups : (n : ℕ) → location places n ≡ cond (n == 0) (Some (span m)) (group_of m n) =
     by_number places m (omega (arith, engine.named)) are
     (λ n one past. sym (span_is n one) ∙ no_span_past_cells false text (span m) (group_cells m width) n one (omega (arith, engine.named))) in (
       groups,
-      within places m text groups (leftmost_within re text false from.0 m from.1)
+      within places m text groups (leftmost_within re text false start m found)
           (λ n one. subst (λ o. IfSome o (LiesWithin 0 (length text))) (span_is n one) (group_within text (span m) (group_cells m width) n one)),
     )
   where
@@ -107,6 +104,45 @@ read_groups s m places next count are =
         subst (λ o. IfSome o (LiesWithin 0 (length text)))
         (sym (groups (suc n) ∙ cond-false _ (Some (span m)) (group_of m (suc n)) (ne_eqb (suc n) 0 (omega arith))))
         (rest (suc n) (omega arith))
+
+-- ---- the matches that are left behind a place, which is one more than the end of the match before, or 0
+
+module _ (re : Re) (text : List ℕ) (after : ℕ) where
+  pub none_left : find re text (after - 1) ≡ None → matches_after false re text after ≡ []
+  none_left none =
+      matches_after_none re text false after (next_same re text false after (λ m found. absurd (none-some m (sym none ∙ found))) ∙ none)
+
+  pub first_left : (m : Match) → find re text (after - 1) ≡ Some m → after ≤ m.trace.end →
+      matches_after false re text after ≡ m ∷ matches_after false re text (m.trace.end + 1)
+  first_left m found behind =
+      matches_after_some re text false after m
+      (next_same re text false after (λ x is. subst (λ (y : Match). after ≤ y.trace.end) (same_Some _ _ (sym found ∙ is)) behind) ∙ found)
+
+  -- an empty match where the one before ended is passed over
+  pub none_later : (m : Match) → find re text (after - 1) ≡ Some m → m.trace.end < after → find re text after ≡ None →
+      matches_after false re text after ≡ []
+  none_later m found empty none = matches_after_none re text false after (next_later re text false after m found empty ∙ none)
+
+  pub first_later : (m n : Match) → find re text (after - 1) ≡ Some m → m.trace.end < after → find re text after ≡ Some n →
+      matches_after false re text after ≡ n ∷ matches_after false re text (n.trace.end + 1)
+  first_later m n found empty later =
+      matches_after_some re text false after n (next_later re text false after m found empty ∙ later)
+
+pub take_of_none : (n : ℕ) {ms : List Match} → ms ≡ [] → take n ms ≡ []
+take_of_none zero e = refl
+take_of_none (suc n) e = ap (take (suc n)) e
+
+pub if_none : {A : Type 0} {P : Type 0} (o : Option A) → P → IfNone o P
+if_none None p = p
+if_none (Some x) p = tt
+
+pub if_none_then : {A : Type 0} {P Q : Type 0} (o : Option A) → (P → Q) → IfNone o P → IfNone o Q
+if_none_then None f p = f p
+if_none_then (Some x) f p = tt
+
+pub if_some_then : {A : Type 0} {P Q : A → Type 0} (o : Option A) → ((x : A) → P x → Q x) → IfSome o P → IfSome o Q
+if_some_then None f p = tt
+if_some_then (Some x) f p = f x p
 
 -- ---- what parts write at a match
 

@@ -5,6 +5,8 @@ use Rattle.std.specs.Str.{is_utf8}
 use Rattle.regex_hir.specs.Re.{Re}
 use Rattle.regex_syntax.specs.Grammar.{read}
 use Rattle.regex_syntax.specs.Captures.{SameCaptures}
+use Rattle.regex.specs.Bytes.{regex_pattern, regex_source}
+use Rattle.regex.specs.declared.bytes.regex.Regex.{Regex}
 use Rattle.px_subst.specs.declared.flags.Flags.{Flags}
 use Rattle.px_subst.specs.JobFlags.{options}
 
@@ -22,3 +24,7 @@ expression flags pattern =
 -- re is what the pattern stands for, as far as a search can tell
 abbrev pub IsBuiltFrom : Flags → List ℕ → Re → Type 0
 IsBuiltFrom flags pattern re = (written : Re) × (expression flags pattern ≡ Some written) × SameCaptures re written
+
+-- the library's expression was built from the pattern
+abbrev pub IsBuilt : Flags → List ℕ → Regex → Type 0
+IsBuilt flags pattern regex = (regex_source regex ≡ pattern) × IsBuiltFrom flags (regex_source regex) (regex_pattern regex)

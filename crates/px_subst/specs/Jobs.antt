@@ -1,5 +1,5 @@
 -- What a job's text spells, and what a job and a filter make of bytes.
-use Rattle.std.specs.Prelude.{ℕ, ◌+◌, ◌-◌, ◌^◌, min, Bool, false, ◌&&◌, not, ◌==◌, List, [], ◌∷◌, take, drop, length, fold, unwrap_or, option_map, Result, Ok, Err, is_some, if◌then◌else◌}
+use Rattle.std.specs.Prelude.{ℕ, ◌+◌, ◌-◌, ◌^◌, min, Bool, false, ◌&&◌, ◌==◌, List, [], ◌∷◌, take, drop, length, fold, Result, Ok, Err, is_some, if◌then◌else◌}
 use Rattle.std.specs.Option.{option_map_or}
 use Rattle.std.specs.Str.{byte}
 use Rattle.regex_hir.specs.Re.{Re}
@@ -17,21 +17,23 @@ use Rattle.px_subst.specs.Substitutes.{items_by, written}
 use Rattle.px_subst.specs.Words.{filled}
 use Rattle.px_subst.specs.Expressions.{expression}
 
--- a job as its text spells it
-pub record JobParts : Type 0 where
-  pub pattern : List ℕ
-  pub substitute : List ℕ
-  pub flags : Flags
+-- A job: a pattern, the items of its substitute and its flags. With the flag `D`, whose words are replaced at each run, it is
+-- the texts of the pattern and of the substitute, and the flags.
+pub data JobParts : Type 0 where
+  Fixed : List ℕ → List Item → Flags → JobParts
+  Worded : List ℕ → List ℕ → Flags → JobParts
 
--- the job, or BadRegex where its expression isn't read; that of a job with `D` is read at each run
-abbrev pub checked : JobParts → Result JobParts JobFault
-checked job = if not job.flags.dynamic && not (is_some (expression job.flags job.pattern)) then Err BadRegex else Ok job
+-- the job of a pattern, a substitute and flags, or BadRegex where its expression isn't read; that of a job with `D` is read
+-- at each run
+abbrev pub job_with : List ℕ → List ℕ → Flags → Result JobParts JobFault
+job_with pattern substitute flags =
+    if flags.dynamic then Ok (Worded pattern substitute flags)
+    else if is_some (expression flags pattern) then Ok (Fixed pattern (items_by flags.plain substitute) flags)
+    else Err BadRegex
 
 -- the job of two fields and letters, or the first refusal
 abbrev pub with_flags : List ℕ → List ℕ → List ℕ → Result JobParts JobFault
-with_flags pattern substitute letters =
-    option_map_or (λ flags. checked (record { pattern = pattern; substitute = substitute; flags = flags }))
-    (flags_of letters) (Err BadFlag)
+with_flags pattern substitute letters = option_map_or (job_with pattern substitute) (flags_of letters) (Err BadFlag)
 
 -- the job of a pattern and of what follows the second delimiter
 abbrev pub with_substitute : ℕ → List ℕ → List ℕ → Result JobParts JobFault
@@ -61,23 +63,24 @@ replaced every items re text =
     let taken = if every then find_all re text else take 1 (find_all re text) in
     record { text = replaced_by (written text items) text 0 taken; hits = length taken }
 
--- a job's text, with values in the place of words where the flag `D` asks for that
-abbrev pub worded : Flags → Vars → List ℕ → List ℕ
-worded flags vars text = if flags.dynamic then filled vars text else text
+-- what a pattern, items and flags make of bytes; where the expression isn't read they change nothing
+unfoldable pub run_with : List ℕ → List Item → Flags → List ℕ → Outcome
+run_with pattern items flags text =
+    option_map_or (λ re. replaced flags.every items re text) (expression flags pattern) (unchanged text)
 
--- what a job makes of bytes; where its expression isn't read it changes nothing
-unfoldable pub run_job : JobParts → Vars → List ℕ → Outcome
-run_job job vars text =
-    unwrap_or
-    (option_map (λ re. replaced job.flags.every (items_by job.flags.plain (worded job.flags vars job.substitute)) re text)
-    (expression job.flags (worded job.flags vars job.pattern)))
-    (unchanged text)
+-- what a job makes of bytes; with the flag `D` values stand in the place of the words
+abbrev pub run_job : JobParts → Vars → List ℕ → Outcome
+run_job (Fixed pattern items flags) vars text = run_with pattern items flags text
+run_job (Worded pattern substitute flags) vars text =
+    run_with (filled vars pattern) (items_by flags.plain (filled vars substitute)) flags text
 
--- one job after the others: the text of the one before is its own, and the hits are added, up to the greatest u64
+-- an outcome with the hits of the jobs before it, up to the greatest u64
+abbrev pub with_hits : ℕ → Outcome → Outcome
+with_hits before next = record { text = next.text; hits = min (before + next.hits) (2 ^ 64 - 1) }
+
+-- one job after the others: the text of the one before is its own, and the hits are added
 abbrev pub run_next : Vars → Outcome → JobParts → Outcome
-run_next vars done job =
-    let next = run_job job vars done.text in
-    record { text = next.text; hits = min (done.hits + next.hits) (2 ^ 64 - 1) }
+run_next vars done job = with_hits done.hits (run_job job vars done.text)
 
 -- what a filter makes of bytes, by its jobs in order
 unfoldable pub run_filter : List JobParts → Vars → List ℕ → Outcome

@@ -6,4 +6,5 @@ pub mod Expressions
 pub mod Refusals
 pub mod Jobs
 pub mod Replacers
-pub mod Progress
+pub mod Parts
+pub mod Kept

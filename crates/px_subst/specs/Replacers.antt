@@ -1,25 +1,24 @@
--- What a built expression with its parts stands for.
-use Rattle.std.specs.Prelude.{◌≡◌, ◌<◌, ◌==◌, ℕ, false, List, [], ◌∷◌, map, flat_map, length, take, Option, Some, IsSome, IfSome, ◌↔◌, if◌then◌else◌}
+-- What a built expression with its parts stands for, and how it is searched.
+use Rattle.std.specs.Prelude.{◌≡◌, ◌<◌, ◌+◌, ◌==◌, ℕ, false, List, [], ◌∷◌, map, flat_map, length, take, Option, Some, None, IfSome, if◌then◌else◌}
 use Rattle.regex_hir.specs.Re.{Re}
 use Rattle.regex_hir.specs.Find.{Match, find_all}
 use Rattle.regex_vm.specs.Found.{span}
 use Rattle.regex.specs.Writes.{group_of}
-use Rattle.regex.specs.Bytes.{regex_pattern, captures_left, capture_matches_haystack}
+use Rattle.regex.specs.Bytes.{matcher_pattern, matcher_names}
 use Rattle.regex.specs.Replace.{bytes_of, replaced_by}
-use Rattle.regex.specs.Search.{LiesWithin}
-use Rattle.regex.specs.Locations.{location}
+use Rattle.regex.specs.Search.{LiesWithin, matches_after}
+use Rattle.regex.specs.Locations.{location, location_count}
 use Rattle.regex.specs.declared.locations.CaptureLocations.{CaptureLocations}
 use Rattle.px_subst.specs.declared.items.Item.{Item}
 use Rattle.px_subst.specs.declared.items.Item.TheVariants as item
 use Rattle.px_subst.specs.declared.items.Part.{Part}
 use Rattle.px_subst.specs.declared.items.Part.TheVariants as part
 use Rattle.px_subst.specs.declared.flags.Flags.{Flags}
-use Rattle.px_subst.specs.declared.replacers.Replacer.{Replacer}
-use Rattle.px_subst.specs.Expressions.{IsBuiltFrom}
-use Rattle.px_subst.specs.Substitutes.{items_by, written}
-use Rattle.px_subst.specs.Jobs.{JobParts}
+use Rattle.px_subst.specs.declared.searches.Search.{Search}
 use Rattle.px_subst.specs.declared.outcomes.Outcome.{Outcome}
-use Rattle.regex.specs.declared.bytes.iter.CaptureMatches.{CaptureMatches}
+use Rattle.px_subst.specs.Expressions.{IsBuiltFrom}
+use Rattle.px_subst.specs.Substitutes.{written}
+use Rattle.px_subst.specs.Jobs.{run_with}
 
 -- the items that a part stands for
 abbrev pub items_in : Part → List Item
@@ -38,16 +37,26 @@ part_bytes text places (part.Group n) = bytes_of text (location places n)
 abbrev pub AreWithin : List ℕ → CaptureLocations → Type 0
 AreWithin text places = (n : ℕ) → IfSome (location places n) (LiesWithin 0 (length text))
 
--- the expression and the parts are those of a pattern and a substitute
-pub record Spells (flags : Flags) (pattern substitute : List ℕ) (r : Replacer) : Type 0 where
-  pub expression_is : IsBuiltFrom flags pattern (regex_pattern r.expression)
-  pub items_are : items_in_all r.parts.items ≡ items_by flags.plain substitute
-  pub every_is : r.every ≡ flags.every
+-- what is built of a pattern: its text, the items of its substitute, and the flags
+pub record Built : Type 0 where
+  pub pattern : List ℕ
+  pub items : List Item
+  pub flags : Flags
 
--- a job without `D` has its expression and parts ready, and no other has
-pub record IsReady (job : JobParts) (ready : Option Replacer) : Type 0 where
-  pub spells : IfSome ready (Spells job.flags job.pattern job.substitute)
-  pub there : IsSome ready ↔ (job.flags.dynamic ≡ false)
+-- what is built is of this pattern, these items and flags
+pub record Spells (pattern : List ℕ) (items : List Item) (flags : Flags) (b : Built) : Type 0 where
+  pub pattern_is : b.pattern ≡ pattern
+  pub items_are : b.items ≡ items
+  pub flags_are : b.flags ≡ flags
+
+-- what it makes of bytes
+abbrev pub replaces : Built → List ℕ → Outcome
+replaces b text = run_with b.pattern b.items b.flags text
+
+-- what searches for its pattern, with room for each group
+pub record IsSearchOf (b : Built) (s : Search) : Type 0 where
+  pub searches : IsBuiltFrom b.flags b.pattern (matcher_pattern s.matcher)
+  pub room : location_count s.places ≡ length (matcher_names s.matcher)
 
 -- the first `limit` matches replaced
 abbrev pub replaced_up_to : ℕ → List Item → Re → List ℕ → Outcome
@@ -55,10 +64,14 @@ replaced_up_to limit items re text =
     let taken = take limit (find_all re text) in
     record { text = replaced_by (written text items) text 0 taken; hits = length taken }
 
--- One more match is wanted, and m is the next one. It lies at this place, and its groups at these places.
-pub record TakesNext (wanted : ℕ) (old new : CaptureMatches) (m : Match) (place : ℕ × ℕ) (places : CaptureLocations) : Type 0 where
-  pub wants : 0 < wanted
-  pub first : captures_left old ≡ m ∷ captures_left new
+-- the match lies at this place, and its groups at these places
+pub record LiesAt (text : List ℕ) (m : Match) (place : ℕ × ℕ) (places : CaptureLocations) : Type 0 where
   pub place_is : place ≡ span m
   pub groups_are : (n : ℕ) → location places n ≡ (if n == 0 then Some (span m) else group_of m n)
-  pub within : AreWithin (capture_matches_haystack old) places
+  pub within : AreWithin text places
+
+-- One more match is wanted, and m is the first behind a place, which is one more than the end of the match before, or 0.
+pub record TakesNext (wanted : ℕ) (re : Re) (text : List ℕ) (after : ℕ) (m : Match) (place : ℕ × ℕ) (places : CaptureLocations) : Type 0 where
+  pub wants : 0 < wanted
+  pub first : matches_after false re text after ≡ m ∷ matches_after false re text (place.1 + 1)
+  pub lies : LiesAt text m place places

@@ -1,10 +1,9 @@
 // The expression of a pattern.
 ghost use Rattle.std.specs.Prelude.{◌≡◌, None, IfOk, MatchOption};
-ghost use Rattle.regex.specs.Bytes.{regex_pattern};
-ghost use Rattle.px_subst.specs.Expressions.{expression, IsBuiltFrom};
+ghost use Rattle.px_subst.specs.Expressions.{expression, IsBuilt};
 
 use crate::flags::Flags;
-use px_base::Mem;
+use px_base::{Mem, as_text};
 use regex::bytes::Regex;
 use regex::{Error, RegexBuilder};
 use std::alloc::Global;
@@ -13,17 +12,17 @@ use std::alloc::Global;
 /// count as want of memory.
 pub(crate) fn build(alloc: Global, flags: Flags, pattern: &[u8]) -> Result<Option<Regex>, Mem>
     ensures { IfOk result (λ found. MatchOption found (expression flags pattern.now ≡ None)
-        (λ regex. IsBuiltFrom flags pattern.now (regex_pattern regex))) }
+        (IsBuilt flags pattern.now)) }
 {
-    match str::from_utf8(pattern) {
-        Ok(source) => build_text(alloc, flags, source),
-        Err(_) => Ok(None),
+    match as_text(pattern) {
+        Some(source) => build_text(alloc, flags, source),
+        None => Ok(None),
     }
 }
 
 fn build_text(alloc: Global, flags: Flags, source: &str) -> Result<Option<Regex>, Mem>
     ensures { IfOk result (λ found. MatchOption found (expression flags source.now ≡ None)
-        (λ regex. IsBuiltFrom flags source.now (regex_pattern regex))) }
+        (IsBuilt flags source.now)) }
 {
     match RegexBuilder::new(source)
         .case_insensitive(flags.any_case)

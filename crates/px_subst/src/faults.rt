@@ -2,7 +2,7 @@
 ghost use Rattle.std.specs.Prelude.{◌≡◌, ◌≢◌};
 
 use px_base::Mem;
-use std::alloc::AllocError;
+use std::alloc::{AllocError, AllocFailed};
 use std::fmt;
 
 /// Why a job isn't read. The order of the variants is that in which they are looked for.
@@ -81,6 +81,16 @@ impl From<AllocError> for JobFault {
     ghost from_gives = { λ _ e. e ≡ fault.Mem };
 
     fn from(_: AllocError) -> Self {
+        JobFault::Mem
+    }
+}
+
+impl<T: Drop> From<AllocFailed<T>> for JobFault {
+    ghost use Rattle.px_subst.specs.declared.faults.JobFault.TheVariants as fault;
+
+    ghost from_gives = { λ _ e. e ≡ fault.Mem };
+
+    fn from(_: AllocFailed<T>) -> Self {
         JobFault::Mem
     }
 }

@@ -1,10 +1,12 @@
 // A filter: jobs in order.
-ghost use Rattle.std.specs.Prelude.{◌≡◌, IfOk};
+ghost use Rattle.std.specs.Prelude.{◌≡◌, ◌<◌, unwrap_or, IfOk, IfSome};
+ghost use Rattle.px_subst.specs.Jobs.{run_next, run_filter, unchanged, with_hits};
 
 use crate::jobs::Job;
+use crate::kept_jobs::KeptJob;
 use crate::outcomes::Outcome;
 use crate::words::Vars;
-use px_base::{List, Mem, Text};
+use px_base::{List, Mem};
 use std::alloc::Global;
 use std::marker::Model;
 
@@ -23,58 +25,76 @@ impl Model for Filter {
     ghost view = { λ f. f.jobs };
 }
 
-/// A filter's run after some of its jobs.
+/// A filter that is lent, seen as the list of its jobs, with what each keeps from run to run.
 #[derive(Drop)]
-struct Progress {
-    /// None while the text is as it was given, so that no copy is made.
-    changed: Option<Text>,
-    hits: u64,
+pub struct KeptFilter<'r> {
+    jobs: Vec<KeptJob<'r>>,
 }
 
-impl Progress {
-    ghost use Rattle.px_subst.specs.Jobs.{run_next};
-    ghost use Rattle.px_subst.specs.Progress.{text_at, outcome_at};
+impl<'r> Model for KeptFilter<'r> {
+    ghost use Rattle.std.specs.Prelude.{List};
+    ghost use Rattle.px_subst.specs.Jobs.{JobParts};
 
-    fn text<'t>(&'t self, given: &'t [u8]) -> &'t [u8]
-        ensures { result.now ≡ text_at given.now self.now }
-    {
-        match &self.changed {
-            Some(changed) => changed.as_bytes(),
-            None => given,
-        }
-    }
+    ghost Value = { List JobParts };
 
-    /// Runs one job more.
-    fn run_next(self, alloc: Global, job: &Job, given: &[u8], vars: &Vars) -> Result<Progress, Mem>
-        ensures { IfOk result (λ next. outcome_at given.now next ≡ run_next vars.now (outcome_at given.now self) job.now) }
-    {
-        let found = job.try_run(alloc, self.text(given), vars)?;
-        match found {
-            Some(outcome) => Ok(Progress {
-                changed: Some(outcome.text),
-                hits: self.hits.saturating_add(outcome.hits),
-            }),
-            None => Ok(self),
-        }
-    }
+    ghost view = { λ f. f.jobs.items };
+}
 
-    fn finish(self, alloc: Global, given: &[u8]) -> Result<Outcome, Mem>
-        ensures { IfOk result (λ outcome. outcome ≡ outcome_at given.now self) }
-    {
-        let Progress { changed, hits } = self;
-        match changed {
-            Some(text) => Ok(Outcome { text, hits }),
-            None => Ok(Outcome {
-                text: Text::from_bytes(alloc, given)?,
-                hits,
-            }),
-        }
+/// The text after some of the jobs.
+fn text_of<'t>(done: &'t Option<Outcome>, given: &'t [u8]) -> &'t [u8]
+    ensures { result.now ≡ (unwrap_or done.now (unchanged given.now)).text }
+{
+    match done {
+        Some(outcome) => outcome.text.as_bytes(),
+        None => given,
     }
+}
+
+fn hits_of(done: &Option<Outcome>) -> u64
+    ensures { (given : _) → result ≡ (unwrap_or done.now (unchanged given)).hits }
+{
+    match done {
+        Some(outcome) => outcome.hits,
+        None => 0,
+    }
+}
+
+/// What some of the jobs give, with what the next found in their text.
+fn added(done: Option<Outcome>, found: Option<Outcome>, given: &[u8]) -> Option<Outcome>
+    requires done { IfSome done (λ outcome. 0 < outcome.hits) }
+    requires found { IfSome found (λ outcome. 0 < outcome.hits) }
+    ensures value { unwrap_or result (unchanged given.now)
+        ≡ with_hits (unwrap_or done (unchanged given.now)).hits (unwrap_or found (unchanged (unwrap_or done (unchanged given.now)).text)) }
+    ensures hit { IfSome result (λ outcome. 0 < outcome.hits) }
+{
+    match found {
+        Some(outcome) => Some(Outcome {
+            text: outcome.text,
+            hits: hits_of(&done).saturating_add(outcome.hits),
+        }),
+        None => done,
+    }
+}
+
+/// Runs one job more. `done` is what the jobs before gave, or None while nothing was hit, so that no copy is made.
+fn run_next(
+    alloc: Global,
+    done: Option<Outcome>,
+    job: &mut KeptJob<'_>,
+    given: &[u8],
+    vars: &Vars,
+) -> Result<Option<Outcome>, Mem>
+    requires { IfSome done (λ outcome. 0 < outcome.hits) }
+    ensures value { IfOk result (λ next. unwrap_or next (unchanged given.now)
+        ≡ run_next vars.now (unwrap_or done (unchanged given.now)) job.old) }
+    ensures hit { IfOk result (λ next. IfSome next (λ outcome. 0 < outcome.hits)) }
+    ensures same { job.new ≡ job.old }
+{
+    let found = job.try_run(alloc, text_of(&done, given), vars)?;
+    Ok(added(done, found, given))
 }
 
 impl Filter {
-    ghost use Rattle.px_subst.specs.Jobs.{run_filter};
-
     /// The filter of these jobs, which takes no memory.
     pub fn new(jobs: List<Job>) -> Filter
         ensures { result ≡ jobs }
@@ -82,17 +102,61 @@ impl Filter {
         Filter { jobs }
     }
 
+    /// The filter with what its jobs keep from run to run. What searches is made at the first.
+    pub fn keep(&self, alloc: Global) -> Result<KeptFilter<'_>, Mem>
+        ensures { IfOk result (λ kept. kept ≡ self.now) }
+    {
+        let lent = self.jobs.as_slice();
+        let mut jobs = Vec::with_capacity(alloc, lent.len())?;
+        'jobs: for job in lent {
+            jobs.push(job.keep())?;
+        }
+        Ok(KeptFilter { jobs })
+    }
+
     /// What the jobs make of a text, each of the text of the one before. The hits are added, up to the greatest u64.
     pub fn run(&self, alloc: Global, text: &[u8], vars: &Vars) -> Result<Outcome, Mem>
         ensures { IfOk result (λ outcome. outcome ≡ run_filter self.now vars.now text.now) }
     {
-        let mut progress = Progress {
-            changed: None,
-            hits: 0,
-        };
-        for job in self.jobs.as_slice() {
-            progress = progress.run_next(alloc, job, text, vars)?;
+        let mut kept = self.keep(alloc)?;
+        kept.run(alloc, text, vars)
+    }
+
+    /// The same, or None where nothing is hit, so that no copy is made.
+    pub fn try_run(&self, alloc: Global, text: &[u8], vars: &Vars) -> Result<Option<Outcome>, Mem>
+        ensures value { IfOk result (λ found. unwrap_or found (unchanged text.now) ≡ run_filter self.now vars.now text.now) }
+        ensures hit { IfOk result (λ found. IfSome found (λ outcome. 0 < outcome.hits)) }
+    {
+        let mut kept = self.keep(alloc)?;
+        kept.try_run(alloc, text, vars)
+    }
+}
+
+impl<'r> KeptFilter<'r> {
+    /// What the jobs make of a text, as `Filter::run`. After want of memory it may be run again.
+    pub fn run(&mut self, alloc: Global, text: &[u8], vars: &Vars) -> Result<Outcome, Mem>
+        ensures value { IfOk result (λ outcome. outcome ≡ run_filter self.old vars.now text.now) }
+        ensures same { self.new ≡ self.old }
+    {
+        let found = self.try_run(alloc, text, vars)?;
+        Outcome::or_unchanged(alloc, found, text)
+    }
+
+    /// The same, or None where nothing is hit, so that no copy is made.
+    pub fn try_run(
+        &mut self,
+        alloc: Global,
+        text: &[u8],
+        vars: &Vars,
+    ) -> Result<Option<Outcome>, Mem>
+        ensures value { IfOk result (λ found. unwrap_or found (unchanged text.now) ≡ run_filter self.old vars.now text.now) }
+        ensures hit { IfOk result (λ found. IfSome found (λ outcome. 0 < outcome.hits)) }
+        ensures same { self.new ≡ self.old }
+    {
+        let mut done = None;
+        'jobs: for index in 0..self.jobs.len() {
+            done = run_next(alloc, done, &mut self.jobs[index], text, vars)?;
         }
-        progress.finish(alloc, text)
+        Ok(done)
     }
 }

@@ -1,36 +1,41 @@
 // A substitution job.
-ghost use Rattle.std.specs.Prelude.{◌≡◌, ◌≢◌, ◌<◌, Err, true, unwrap_or, IfOk, IfSome};
-ghost use Rattle.px_subst.specs.Jobs.{job_of, with_delimiter, checked, run_job, unchanged};
+ghost use Rattle.std.specs.Prelude.{◌≡◌, ◌≢◌, Err, IfOk};
+ghost use Rattle.px_subst.specs.Jobs.{job_of, job_with, with_delimiter, run_job};
 
 use crate::faults::JobFault;
 use crate::fields::{field_end, is_delimiter, unescaped};
 use crate::flags::Flags;
+use crate::kept_jobs::KeptJob;
 use crate::outcomes::Outcome;
 use crate::replacers::Replacer;
-use crate::words::{Vars, filled};
+use crate::worded::WordedJob;
+use crate::words::Vars;
 use px_base::{Mem, Text};
 use std::alloc::Global;
 use std::marker::Model;
 
-/// A substitution job, seen as its pattern, its substitute and its flags.
+/// The two kinds of jobs. Both are boxed, so that a job is small.
+#[derive(Drop)]
+pub(crate) enum Form {
+    /// The expression is built when the job is read.
+    Fixed(Box<Replacer>),
+    /// A job with the flag `D`: the expression is built at a run.
+    Worded(Box<WordedJob>),
+}
+
+/// A substitution job, seen as its pattern, what it writes and its flags.
 #[derive(Drop)]
 pub struct Job {
-    pattern: Text,
-    substitute: Text,
-    flags: Flags,
-    /// None for a job with the flag `D`, whose expression is built at each run.
-    ready: Option<Replacer>,
+    form: Form,
 }
 
 impl Model for Job {
     ghost use Rattle.px_subst.specs.Jobs.{JobParts};
-    ghost use Rattle.px_subst.specs.Replacers.{IsReady};
+    ghost use Rattle.px_subst.specs.Kept.{job_in};
 
     ghost Value = { JobParts };
 
-    ghost view = { λ j. record { pattern = j.pattern; substitute = j.substitute; flags = j.flags } };
-
-    ghost invariant = { λ j. IsReady (record { pattern = j.pattern; substitute = j.substitute; flags = j.flags }) j.ready };
+    ghost view = { λ j. job_in j.form };
 }
 
 impl Job {
@@ -62,40 +67,43 @@ impl Job {
         };
         let pattern = unescaped(alloc, delimiter, &rest[..first])?;
         let substitute = unescaped(alloc, delimiter, &behind[..second])?;
-        Job::from_parts(
-            alloc,
-            Text::from_vec(pattern),
-            Text::from_vec(substitute),
-            flags,
-        )
+        Job::from_parts(alloc, pattern, substitute, flags)
     }
 
     /// The job of these parts.
     fn from_parts(
         alloc: Global,
-        pattern: Text,
-        substitute: Text,
+        pattern: Vec<u8>,
+        substitute: Vec<u8>,
         flags: Flags,
     ) -> Result<Job, JobFault>
-        ensures { result ≢ Err JobFault.Mem
-            → result ≡ checked (record { pattern = pattern; substitute = substitute; flags = flags }) }
+        ensures { result ≢ Err JobFault.Mem → result ≡ job_with pattern.items substitute.items flags }
     {
         if flags.dynamic {
-            return Ok(Job {
-                pattern,
-                substitute,
+            let worded = WordedJob {
+                pattern: Text::from_vec(pattern),
+                substitute: Text::from_vec(substitute),
                 flags,
-                ready: None,
+            };
+            return Ok(Job {
+                form: Form::Worded(Box::new(alloc, worded)?),
             });
         }
-        match Replacer::new(alloc, flags, pattern.as_bytes(), substitute.as_bytes())? {
+        match Replacer::new(alloc, flags, pattern.as_slice(), substitute.as_slice())? {
             Some(replacer) => Ok(Job {
-                pattern,
-                substitute,
-                flags,
-                ready: Some(replacer),
+                form: Form::Fixed(Box::new(alloc, replacer)?),
             }),
             None => Err(JobFault::BadRegex),
+        }
+    }
+
+    /// The job with what it keeps from run to run. Nothing is made before the first.
+    pub fn keep(&self) -> KeptJob<'_>
+        ensures { result ≡ self.now }
+    {
+        match &self.form {
+            Form::Fixed(replacer) => KeptJob::fixed(replacer),
+            Form::Worded(worded) => KeptJob::worded(worded),
         }
     }
 
@@ -103,42 +111,8 @@ impl Job {
     pub fn run(&self, alloc: Global, text: &[u8], vars: &Vars) -> Result<Outcome, Mem>
         ensures { IfOk result (λ outcome. outcome ≡ run_job self.now vars.now text.now) }
     {
-        match self.try_run(alloc, text, vars)? {
-            Some(outcome) => Ok(outcome),
-            None => Ok(Outcome {
-                text: Text::from_bytes(alloc, text)?,
-                hits: 0,
-            }),
-        }
-    }
-
-    /// What the job makes of a text, or None where it hits nothing, so that no copy is made.
-    pub(crate) fn try_run(
-        &self,
-        alloc: Global,
-        text: &[u8],
-        vars: &Vars,
-    ) -> Result<Option<Outcome>, Mem>
-        ensures value { IfOk result (λ found. unwrap_or found (unchanged text.now) ≡ run_job self.now vars.now text.now) }
-        ensures hit { IfOk result (λ found. IfSome found (λ outcome. 0 < outcome.hits)) }
-    {
-        match &self.ready {
-            Some(replacer) => replacer.run(alloc, text),
-            None => self.run_filled(alloc, text, vars),
-        }
-    }
-
-    /// The same, with values in the place of the words in pattern and substitute.
-    fn run_filled(&self, alloc: Global, text: &[u8], vars: &Vars) -> Result<Option<Outcome>, Mem>
-        requires { self.now.flags.dynamic ≡ true }
-        ensures value { IfOk result (λ found. unwrap_or found (unchanged text.now) ≡ run_job self.now vars.now text.now) }
-        ensures hit { IfOk result (λ found. IfSome found (λ outcome. 0 < outcome.hits)) }
-    {
-        let pattern = filled(alloc, vars, self.pattern.as_bytes())?;
-        let substitute = filled(alloc, vars, self.substitute.as_bytes())?;
-        match Replacer::new(alloc, self.flags, pattern.as_slice(), substitute.as_slice())? {
-            Some(replacer) => replacer.run(alloc, text),
-            None => Ok(None),
-        }
+        let mut kept = self.keep();
+        let found = kept.try_run(alloc, text, vars)?;
+        Outcome::or_unchanged(alloc, found, text)
     }
 }

@@ -8,17 +8,20 @@ mod filters;
 mod flags;
 mod items;
 mod jobs;
-mod matches;
+mod kept_jobs;
 mod outcomes;
 mod replacers;
+mod searches;
 #[cfg(test)]
 mod tests;
+mod worded;
 mod words;
 
 pub use faults::JobFault;
-pub use filters::Filter;
+pub use filters::{Filter, KeptFilter};
 pub use flags::Flags;
 pub use items::Item;
 pub use jobs::Job;
+pub use kept_jobs::KeptJob;
 pub use outcomes::Outcome;
 pub use words::Vars;

@@ -1,5 +1,8 @@
 // What a job or a filter gives.
-use px_base::Text;
+ghost use Rattle.std.specs.Prelude.{◌≡◌, unwrap_or, IfOk};
+
+use px_base::{Mem, Text};
+use std::alloc::Global;
 
 /// What a job or a filter makes of bytes.
 #[derive(Drop)]
@@ -7,4 +10,25 @@ pub struct Outcome {
     pub text: Text,
     /// How many matches were replaced; of a filter the sum over its jobs, up to the greatest u64.
     pub hits: u64,
+}
+
+impl Outcome {
+    ghost use Rattle.px_subst.specs.Jobs.{unchanged};
+
+    /// What was found, or a copy of the text where nothing was hit.
+    pub(crate) fn or_unchanged(
+        alloc: Global,
+        found: Option<Outcome>,
+        text: &[u8],
+    ) -> Result<Outcome, Mem>
+        ensures { IfOk result (λ outcome. outcome ≡ unwrap_or found (unchanged text.now)) }
+    {
+        match found {
+            Some(outcome) => Ok(outcome),
+            None => Ok(Outcome {
+                text: Text::from_bytes(alloc, text)?,
+                hits: 0,
+            }),
+        }
+    }
 }

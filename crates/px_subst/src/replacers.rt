@@ -1,29 +1,45 @@
 // An expression that is built, with the parts of its substitute.
 ghost use Rattle.std.specs.Prelude.{◌≡◌, ◌<◌, None, unwrap_or, IfOk, IfSome, MatchOption};
-ghost use Rattle.regex.specs.Bytes.{regex_pattern};
+ghost use Rattle.px_subst.specs.Expressions.{expression};
+ghost use Rattle.px_subst.specs.Jobs.{unchanged};
+ghost use Rattle.px_subst.specs.Substitutes.{items_by};
+ghost use Rattle.px_subst.specs.Replacers.{Spells, IsSearchOf, replaces};
 
 use crate::expressions::build;
 use crate::flags::Flags;
 use crate::items::{Part, read_parts};
-use crate::matches::replace_matches;
 use crate::outcomes::Outcome;
+use crate::searches::Search;
 use px_base::Mem;
 use regex::bytes::Regex;
 use std::alloc::Global;
+use std::marker::Model;
 
-/// What a job does once its words are known.
+/// What a job does once its words are known, seen as its pattern, its items and its flags.
 #[derive(Drop)]
 pub(crate) struct Replacer {
     expression: Regex,
     parts: Vec<Part>,
-    every: bool,
+    flags: Flags,
+}
+
+impl Model for Replacer {
+    ghost use Rattle.regex.specs.Bytes.{regex_pattern, regex_source};
+    ghost use Rattle.px_subst.specs.Expressions.{IsBuiltFrom};
+    ghost use Rattle.px_subst.specs.Replacers.{Built, items_in_all};
+
+    ghost Value = { Built };
+
+    ghost view = { λ r. record {
+      pattern = regex_source r.expression;
+      items = items_in_all r.parts.items;
+      flags = r.flags;
+    } };
+
+    ghost invariant = { λ r. IsBuiltFrom r.flags (regex_source r.expression) (regex_pattern r.expression) };
 }
 
 impl Replacer {
-    ghost use Rattle.px_subst.specs.Expressions.{expression};
-    ghost use Rattle.px_subst.specs.Jobs.{unchanged, replaced};
-    ghost use Rattle.px_subst.specs.Replacers.{Spells, items_in_all};
-
     /// The expression of a pattern with the parts of a substitute, or None where the expression isn't read.
     pub(crate) fn new(
         alloc: Global,
@@ -32,7 +48,7 @@ impl Replacer {
         substitute: &[u8],
     ) -> Result<Option<Replacer>, Mem>
         ensures { IfOk result (λ made. MatchOption made (expression flags pattern.now ≡ None)
-            (Spells flags pattern.now substitute.now)) }
+            (Spells pattern.now (items_by flags.plain substitute.now) flags)) }
     {
         match build(alloc, flags, pattern)? {
             Some(expression) => {
@@ -40,30 +56,33 @@ impl Replacer {
                 Ok(Some(Replacer {
                     expression,
                     parts,
-                    every: flags.every,
+                    flags,
                 }))
             }
             None => Ok(None),
         }
     }
 
-    /// What it makes of a text, or None where nothing matches.
-    pub(crate) fn run(&self, alloc: Global, text: &[u8]) -> Result<Option<Outcome>, Mem>
-        ensures value { IfOk result (λ found. unwrap_or found (unchanged text.now)
-            ≡ replaced self.now.every (items_in_all self.now.parts.items) (regex_pattern self.now.expression) text.now) }
-        ensures hit { IfOk result (λ found. IfSome found (λ outcome. 0 < outcome.hits)) }
+    /// What searches for its expression.
+    pub(crate) fn search(&self, alloc: Global) -> Result<Search<'_>, Mem>
+        ensures { IfOk result (IsSearchOf self.now) }
     {
-        let mut matcher = self.expression.matcher(alloc)?;
-        let mut places = self.expression.capture_locations(alloc)?;
-        let limit = if self.every { u64::MAX } else { 1 };
-        let found = replace_matches(
-            alloc,
-            &mut matcher,
-            &mut places,
-            self.parts.as_slice(),
-            limit,
-            text,
-        )?;
-        Ok(found)
+        Search::new(alloc, &self.expression)
+    }
+
+    /// What it makes of a text, or None where nothing matches.
+    pub(crate) fn run(
+        &self,
+        alloc: Global,
+        search: &mut Search<'_>,
+        text: &[u8],
+    ) -> Result<Option<Outcome>, Mem>
+        requires { IsSearchOf self.now search.old }
+        ensures value { IfOk result (λ found. unwrap_or found (unchanged text.now) ≡ replaces self.now text.now) }
+        ensures hit { IfOk result (λ found. IfSome found (λ outcome. 0 < outcome.hits)) }
+        ensures same { IsSearchOf self.now search.new }
+    {
+        let limit = if self.flags.every { u64::MAX } else { 1 };
+        Ok(search.replace_matches(alloc, self.parts.as_slice(), limit, text)?)
     }
 }

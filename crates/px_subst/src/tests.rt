@@ -31,6 +31,14 @@ fn refusal(alloc: Global, job: &str) -> Option<JobFault> {
     }
 }
 
+fn filter(alloc: Global, jobs: &[&str]) -> Result<Filter, JobFault> {
+    let mut read = Vec::new(alloc);
+    for job in jobs {
+        read.push(Job::read(alloc, job)?)?;
+    }
+    Ok(Filter::new(List::from_vec(read)))
+}
+
 fn shared<T: Send + Sync>(_value: &T) {}
 
 #[test]
@@ -46,6 +54,12 @@ fn replaces_matches(rt: HostRuntime) -> Result<(), Fail> {
         ("s/(a+)/<$&>/gU", "aa", "<a><a>", 2),
         ("s/A/\\$1/i", "a", "$1", 1),
         ("s/b/c/g", "aaa", "aaa", 0),
+        ("s/^A: 1$/X: a\\r\\nY: b/", "A: 1", "X: a\r\nY: b", 1),
+        ("s/x(a)y/<$&|$1>/", "-xay-", "-<xay|a>-", 1),
+        ("s/a/\\t\\f\\n\\r\\0\\a/", "a", "\t\x0c\n\r0a", 1),
+        ("s/(a)/$10\\10$9\\9-/", "a", "a0a0-", 1),
+        ("s/a/$-$$&$/", "a", "$-$a$", 1),
+        ("s/b?/<$&>/g", "ab", "<>a<b>", 2),
     ];
     for (job, given, text, hits) in rows {
         let outcome = outcome(alloc, job, given, "a.test")?;
@@ -70,6 +84,8 @@ fn takes_each_flag(rt: HostRuntime) -> Result<(), Fail> {
         ("s/B/c/oigg", "abb", "acc", 2),
         ("s@b@[$url]@D", "abc", "a[http://a.test/p]c", 1),
         ("s@$host@H@D", "xa.test", "xH", 1),
+        ("s@b@$origin$path-$pat@D", "abc", "a127.0.0.1/p-$patc", 1),
+        ("s@b@<\\\\@D", "abc", "a<\\c", 1),
     ];
     for (job, given, text, hits) in rows {
         let outcome = outcome(alloc, job, given, "a.test")?;
@@ -80,22 +96,23 @@ fn takes_each_flag(rt: HostRuntime) -> Result<(), Fail> {
 }
 
 #[test]
-fn does_not_search_a_value_that_was_put_in(rt: HostRuntime) -> Result<(), Fail> {
-    let outcome = outcome(rt.alloc(), "s@x@<$host>@D", "x", "$url")?;
-    assert_eq!(rt; outcome.text.as_bytes(), b"<$url>".as_slice());
+fn takes_values_as_they_are(rt: HostRuntime) -> Result<(), Fail> {
+    let alloc = rt.alloc();
+    let rows = [
+        ("s@x@<$host>@D", "x", "$url", "<$url>", 1),
+        ("s@x@<$host@D", "x", "\\", "<\\", 1),
+        ("s/$host/b/gD", "a(", "(", "a(", 0),
+    ];
+    for (job, given, host, text, hits) in rows {
+        let outcome = outcome(alloc, job, given, host)?;
+        assert_eq!(rt; outcome.text.as_bytes(), text.as_bytes(), "{job}");
+        assert_eq!(rt; outcome.hits, hits, "{job}");
+    }
     Ok(())
 }
 
 #[test]
-fn leaves_a_text_where_the_words_make_no_expression(rt: HostRuntime) -> Result<(), Fail> {
-    let outcome = outcome(rt.alloc(), "s/$host/b/gD", "a(", "(")?;
-    assert_eq!(rt; outcome.text.as_bytes(), b"a(".as_slice());
-    assert_eq!(rt; outcome.hits, 0);
-    Ok(())
-}
-
-#[test]
-fn gives_the_first_refusal(rt: HostRuntime) {
+fn gives_the_first_refusal(rt: HostRuntime) -> Result<(), Fail> {
     let alloc = rt.alloc();
     let rows = [
         ("a/b/c/", JobFault::NoDelimiter, 21, "NoDelimiter"),
@@ -114,23 +131,46 @@ fn gives_the_first_refusal(rt: HostRuntime) {
         assert_eq!(rt; fault.name(), name);
     }
     assert_eq!(rt; refusal(alloc, "s/(/b/D"), None);
+    let deep = format!(in alloc;
+        "s/{}a{}/b/",
+        "(".repeat(alloc, 251)?,
+        ")".repeat(alloc, 251)?
+    )?;
+    assert_eq!(rt; refusal(alloc, &deep), Some(JobFault::BadRegex));
+    Ok(())
 }
 
 #[test]
 fn runs_jobs_in_order(rt: HostRuntime) -> Result<(), Fail> {
     let alloc = rt.alloc();
-    let mut jobs = Vec::new(alloc);
-    for job in ["s/a/bb/g", "s/x/y/", "s/b/c/g"] {
-        jobs.push(Job::read(alloc, job)?)?;
-    }
-    let filter = Filter::new(List::from_vec(jobs));
+    let filter = filter(alloc, &["s/a/bb/g", "s/x/y/", "s/b/c/g"])?;
     shared(&filter);
     let vars = vars(alloc, "a.test")?;
     let outcome = filter.run(alloc, b"a-a", &vars)?;
     assert_eq!(rt; outcome.text.as_bytes(), b"cc-cc".as_slice());
     assert_eq!(rt; outcome.hits, 6);
-    let outcome = filter.run(alloc, b"---", &vars)?;
-    assert_eq!(rt; outcome.text.as_bytes(), b"---".as_slice());
-    assert_eq!(rt; outcome.hits, 0);
+    assert!(rt; filter.try_run(alloc, b"---", &vars)?.is_none());
+    assert!(rt; filter.try_run(alloc, b"-x-", &vars)?.is_some());
+    Ok(())
+}
+
+#[test]
+fn a_kept_filter_runs_again_and_again(rt: HostRuntime) -> Result<(), Fail> {
+    let alloc = rt.alloc();
+    let filter = filter(alloc, &["s/a/bb/g", "s@$host@$path@D", "s/b/c/g"])?;
+    let mut kept = filter.keep(alloc)?;
+    let rows = [
+        ("x", "a-x", "cc-/p", 4),
+        ("x", "---", "---", 0),
+        ("x", "xa", "/pcc", 4),
+        ("y", "xya", "x/pcc", 4),
+        ("y", "y", "/p", 1),
+    ];
+    for (host, given, text, hits) in rows {
+        let vars = vars(alloc, host)?;
+        let outcome = kept.run(alloc, given.as_bytes(), &vars)?;
+        assert_eq!(rt; outcome.text.as_bytes(), text.as_bytes(), "{given}");
+        assert_eq!(rt; outcome.hits, hits, "{given}");
+    }
     Ok(())
 }

@@ -1,5 +1,5 @@
 // The words that a job with the flag `D` replaces.
-ghost use Rattle.std.specs.Prelude.{◌≡◌, ◌++◌, ◌≤◌, length, IfOk, IfSome};
+ghost use Rattle.std.specs.Prelude.{◌≡◌, ◌++◌, ◌≤◌, length, IfOk, IfSome, IsTrue};
 ghost use Rattle.px_subst.specs.Words.{word_at, text_of, value_of, filled};
 
 use px_base::{Mem, Text};
@@ -17,6 +17,33 @@ pub struct Vars {
     /// `$url`
     pub url: Text,
 }
+
+impl Vars {
+    /// A copy of the values.
+    pub(crate) fn copy(&self, alloc: Global) -> Result<Vars, Mem>
+        ensures { IfOk result (λ vars. vars ≡ self.now) }
+    {
+        Ok(Vars {
+            host: Text::from_bytes(alloc, self.host.as_bytes())?,
+            origin: Text::from_bytes(alloc, self.origin.as_bytes())?,
+            path: Text::from_bytes(alloc, self.path.as_bytes())?,
+            url: Text::from_bytes(alloc, self.url.as_bytes())?,
+        })
+    }
+
+    /// Whether each value is the same.
+    pub(crate) fn is_same(&self, vars: &Vars) -> bool
+        ensures { IsTrue result → self.now ≡ vars.now }
+    {
+        self.host.as_bytes() == vars.host.as_bytes()
+            && self.origin.as_bytes() == vars.origin.as_bytes()
+            && self.path.as_bytes() == vars.path.as_bytes()
+            && self.url.as_bytes() == vars.url.as_bytes()
+    }
+}
+
+/// The words, in the order in which they are looked for.
+const WORDS: [Word; 4] = [Word::Host, Word::Origin, Word::Path, Word::Url];
 
 #[derive(Clone, Copy, Debug, PartialEq, Eq)]
 enum Word {
@@ -55,17 +82,10 @@ fn word_at(text: &[u8]) -> Option<Word>
     ensures word { result ≡ word_at text.now }
     ensures within { IfSome result (λ word. length (text_of word) ≤ length text.now) }
 {
-    if text.starts_with(Word::Host.text()) {
-        Some(Word::Host)
-    } else if text.starts_with(Word::Origin.text()) {
-        Some(Word::Origin)
-    } else if text.starts_with(Word::Path.text()) {
-        Some(Word::Path)
-    } else if text.starts_with(Word::Url.text()) {
-        Some(Word::Url)
-    } else {
-        None
-    }
+    WORDS
+        .iter()
+        .copied()
+        .find(|word| text.starts_with(word.text()))
 }
 
 /// The text with a value in the place of each word. A value isn't searched.

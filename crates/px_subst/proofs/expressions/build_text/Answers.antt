@@ -1,4 +1,6 @@
-use Rattle.std.proofs.Common.{◌∙◌}
+use Rattle.std.proofs.Common.{◌∙◌, subst, sym}
+use Rattle.regex.specs.Bytes.{regex_pattern}
+use Rattle.px_subst.specs.Expressions.{IsBuiltFrom}
 use Rattle.regex.specs.Names.{names_of}
 use Rattle.px_subst.proofs.ExpressionLemmas.{built_expression, refused_expression, options_of, source_of}
 use Rattle.px_subst.proofs.expressions.build_text.Goals as goal
@@ -6,13 +8,14 @@ use Rattle.px_subst.proofs.expressions.build_text.Goals as goal
 pub returns-in-Ok : goal.returns-in-Ok
 returns-in-Ok c =
     let p = c.in-Ok.regex.pattern in
-    built_expression c.args.flags c.args.source.now c.utf8.source p.config _ p.program.hir (names_of p.names.items)
+    let source_is = c.in-Ok.ensures.source
+    ∙ source_of c.args.flags _ _ _ _ _ _ c.new.ensures.config c.case_insensitive.ensures c.multi_line.ensures c.dot_matches_new_line.ensures c.swap_greed.ensures c.ignore_whitespace.ensures
+    ∙ c.new.ensures.source in
+    let built = built_expression c.args.flags c.args.source.now c.utf8.source p.config _ p.program.hir (names_of p.names.items)
     (c.in-Ok.ensures.config
     ∙ options_of c.args.flags _ _ _ _ _ _ c.new.ensures.config c.case_insensitive.ensures c.multi_line.ensures c.dot_matches_new_line.ensures c.swap_greed.ensures c.ignore_whitespace.ensures)
-    (c.in-Ok.ensures.source
-    ∙ source_of c.args.flags _ _ _ _ _ _ c.new.ensures.config c.case_insensitive.ensures c.multi_line.ensures c.dot_matches_new_line.ensures c.swap_greed.ensures c.ignore_whitespace.ensures
-    ∙ c.new.ensures.source)
-    c.in-Ok.ensures.read
+    source_is c.in-Ok.ensures.read in
+    (source_is, subst (λ text. IsBuiltFrom c.args.flags text (regex_pattern c.in-Ok.regex)) (sym source_is) built)
 
 pub returns-in-Err-Syntax : goal.returns-in-Err-Syntax
 returns-in-Err-Syntax c =

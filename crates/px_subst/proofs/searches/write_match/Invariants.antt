@@ -1,6 +1,6 @@
 use Rattle.std.proofs.Common.{◌≡◌, ◌++◌, take, flat_map}
 use Rattle.px_subst.specs.Replacers.{part_bytes}
-use Rattle.px_subst.proofs.matches.write_match.Given as goal
+use Rattle.px_subst.proofs.searches.write_match.Given as goal
 
 abbrev pub invariant-loop-part : goal.invariant-loop-part
 invariant-loop-part l =
