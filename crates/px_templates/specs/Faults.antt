@@ -13,5 +13,5 @@ name_of Mem = codes "Mem"
 
 -- the refusal is at this line, or it is want of memory, which has no cause in the text
 abbrev pub IsAt : Option ℕ → TemplateFault → Type 0
-IsAt open (OpenCondition line) = open ≡ Some line
-IsAt open Mem = Unit {0}
+IsAt at (OpenCondition line) = at ≡ Some line
+IsAt at Mem = Unit {0}

@@ -71,17 +71,18 @@ pieces_behind zero (b ∷ bs) = let f = front_at (b ∷ bs) in front_pieces f (b
 abbrev pub pieces_of : List ℕ → List Piece
 pieces_of text = pieces_behind 0 text
 
--- the place of the first mark that isn't ended, where the text begins at `at`
+-- a place where a first mark isn't ended, or a later such place
+abbrev pub open_or : ℕ → Front → Option ℕ → Option ℕ
+open_or at front.Open later = Some at
+open_or at front.Byte later = later
+open_or at (front.Value s) later = later
+open_or at (front.Block c n) later = later
+
+-- the first place at which a first mark isn't ended, where the text begins at `at`
 unfoldable pub open_behind : ℕ → ℕ → List ℕ → Option ℕ
 open_behind at n [] = None
 open_behind at (suc n) (b ∷ bs) = open_behind (at + 1) n bs
-open_behind at zero (b ∷ bs) = open_or at (front_at (b ∷ bs)) (open_behind (at + 1) (width (front_at (b ∷ bs)) - 1) bs)
-  where
-    open_or : ℕ → Front → Option ℕ → Option ℕ
-    open_or here front.Open later = Some here
-    open_or here front.Byte later = later
-    open_or here (front.Value s) later = later
-    open_or here (front.Block c n) later = later
+open_behind at zero (b ∷ bs) = let f = front_at (b ∷ bs) in open_or at f (open_behind (at + 1) (width f - 1) bs)
 
 -- the number of the line in which a place lies, from 1; a greater number than a u32 holds is given as the greatest
 abbrev pub line_at : List ℕ → ℕ → ℕ

@@ -11,6 +11,9 @@ crlf = 13 ∷ 10 ∷ []
 abbrev pub field : List ℕ → List ℕ → List ℕ
 field name value = name ++ codes ": " ++ value ++ crlf
 
+abbrev pub status_line : List ℕ → List ℕ
+status_line status = codes "HTTP/1.1 " ++ status ++ crlf
+
 -- the status and its phrase
 abbrev pub status_of : Local → List ℕ
 status_of (kind.Page page) = page_status page
@@ -44,7 +47,7 @@ close_word close = if close then codes "close" else codes "keep-alive"
 -- the head of a reply with a body of that length
 unfoldable pub head_of : Local → ℕ → Bool → List ℕ
 head_of kind n close =
-    codes "HTTP/1.1 " ++ status_of kind ++ crlf ++ field (first_name kind) (first_value kind) ++ field (codes "Content-Length") (decimal n)
+    status_line (status_of kind) ++ field (first_name kind) (first_value kind) ++ field (codes "Content-Length") (decimal n)
     ++ field (codes "Cache-Control") (codes "no-cache") ++ field (codes "Connection") (close_word close) ++ crlf
 
 -- the reply; where it has no body, the fields stay

@@ -1,7 +1,7 @@
 // Replies that are returned in place of an origin's answer.
-ghost use Rattle.std.specs.Prelude.{◌≡◌, ◌++◌, IfOk, OnOk, flat_map, length};
+ghost use Rattle.std.specs.Prelude.{◌≡◌, ◌++◌, IfOk, OnOk, length};
 ghost use Rattle.std.specs.Fmt.{decimal};
-ghost use Rattle.px_templates.specs.Replies.{close_word, head_of, reply_of};
+ghost use Rattle.px_templates.specs.Replies.{close_word, field, head_of, reply_of, status_line};
 
 use crate::pages::Page;
 use itoa::Buffer;
@@ -10,6 +10,8 @@ use std::alloc::Global;
 
 /// The bytes of a head besides its target: no status, length and field name of the table takes more.
 const HEAD_ROOM: usize = 256;
+
+const LINE_END: &[u8] = b"\r\n";
 
 /// What a local reply is.
 #[derive(Drop)]
@@ -101,33 +103,33 @@ fn push_head(kind: &Local, len: usize, close: bool, out: &mut Text) -> Result<()
     ensures { OnOk result (out.new ≡ out.old ++ head_of kind.now len close) }
 {
     let mut buffer = Buffer::new();
-    let parts: [&[u8]; 11] = [
-        b"HTTP/1.1 ",
-        kind.status(),
-        b"\r\n",
-        kind.first_name(),
-        b": ",
-        kind.first_value(),
-        b"\r\nContent-Length: ",
-        buffer.format(len).as_bytes(),
-        b"\r\nCache-Control: no-cache\r\nConnection: ",
-        close_word(close),
-        b"\r\n\r\n",
-    ];
-    push_parts(&parts, out)
+    push_status(kind.status(), out)?;
+    push_field(kind.first_name(), kind.first_value(), out)?;
+    push_field(b"Content-Length", buffer.format(len).as_bytes(), out)?;
+    push_field(b"Cache-Control", b"no-cache", out)?;
+    push_field(b"Connection", close_word(close), out)?;
+    out.push_all(LINE_END)
+}
+
+fn push_status(status: &[u8], out: &mut Text) -> Result<(), Mem>
+    ensures { OnOk result (out.new ≡ out.old ++ status_line status.now) }
+{
+    out.push_all(b"HTTP/1.1 ")?;
+    out.push_all(status)?;
+    out.push_all(LINE_END)
+}
+
+fn push_field(name: &[u8], value: &[u8], out: &mut Text) -> Result<(), Mem>
+    ensures { OnOk result (out.new ≡ out.old ++ field name.now value.now) }
+{
+    out.push_all(name)?;
+    out.push_all(b": ")?;
+    out.push_all(value)?;
+    out.push_all(LINE_END)
 }
 
 fn close_word(close: bool) -> &'static [u8]
     ensures { result.now ≡ close_word close }
 {
     if close { b"close" } else { b"keep-alive" }
-}
-
-fn push_parts(parts: &[&[u8]], out: &mut Text) -> Result<(), Mem>
-    ensures { OnOk result (out.new ≡ out.old ++ flat_map (λ part. part.now) parts.now) }
-{
-    for part in parts {
-        out.push_all(part)?;
-    }
-    Ok(())
 }

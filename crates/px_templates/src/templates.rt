@@ -57,7 +57,7 @@ impl Template {
         ensures { IfOk result (λ page. page ≡ rendered symbols.now self.now) }
     {
         let mut page = Text::new(alloc);
-        for run in &self.runs {
+        for run in self.runs.as_slice() {
             run.write(symbols, &mut page)?;
         }
         Ok(page)
@@ -106,5 +106,9 @@ fn line_at(text: &[u8], at: usize) -> u32
     ensures { result ≡ line_at text.now at }
 {
     let before = text[..at].iter().filter(|byte| **byte == b'\n').count();
-    u32::try_from(before + 1).unwrap_or(u32::MAX)
+    if before < u32::MAX as usize {
+        before as u32 + 1
+    } else {
+        u32::MAX
+    }
 }
