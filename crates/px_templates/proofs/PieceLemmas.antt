@@ -226,8 +226,8 @@ parts_byte before c text slice from at runs h within slice_is none = record {
   order = let o = h.order in omega arith;
   within = omega arith;
   parts = kept-byte c text from at (held before ++ parts_behind c 0 text) (held runs) (parts_behind c 0 (drop at text)) (parts_behind c 0 (drop (at + 1) text)) h.order h.parts
-    (parts_behind-byte c (drop at text) (omega (arith, length-drop at text)) (ap symbol_at (sym slice_is) ∙ sym none)
-    ∙ ap (λ l. plain c (take 1 (drop at text)) ++ parts_behind c 0 l) (drop-drop 1 at text));
+      (parts_behind-byte c (drop at text) (omega (arith, length-drop at text)) (ap symbol_at (sym slice_is) ∙ sym none)
+      ∙ ap (λ l. plain c (take 1 (drop at text)) ++ parts_behind c 0 l) (drop-drop 1 at text));
 }
 
 pub parts_value : (before : List Run) (c : Option Condition) (text slice mark : List ℕ) (from at : ℕ) (s : Symbol) (runs mid new : List Run) →
@@ -237,14 +237,14 @@ pub parts_value : (before : List Run) (c : Option Condition) (text slice mark : 
 parts_value before c text slice mark from at s runs mid new h within slice_is is fits mark_is mid_is new_is =
     let wide : length mark ≡ length (mark_of s) = ap length mark_is in
     let slice_len : length slice ≡ length (drop at text) = ap length slice_is in record {
-  order = omega arith;
-  within = omega (arith, length-drop at text);
-  parts = kept-front c text (at + length mark) (held before ++ parts_behind c 0 text) (held runs) (plain c (take (at - from) (drop from text)))
-    (parts_behind c 0 (drop at text)) (part_in c (Part.value s) ∷ []) (parts_behind c 0 (drop (at + length mark) text)) (held mid) (held new) h.parts
-    (parts_behind-value c s (drop at text) (omega (arith, length-drop at text)) (ap symbol_at (sym slice_is) ∙ sym is)
-    ∙ ap (λ l. part_in c (Part.value s) ∷ parts_behind c 0 l) (drop-drop (length (mark_of s)) at text ∙ ap (λ n. drop (at + n) text) (sym wide)))
-    mid_is new_is;
-}
+      order = omega arith;
+      within = omega (arith, length-drop at text);
+      parts = kept-front c text (at + length mark) (held before ++ parts_behind c 0 text) (held runs) (plain c (take (at - from) (drop from text)))
+          (parts_behind c 0 (drop at text)) (part_in c (Part.value s) ∷ []) (parts_behind c 0 (drop (at + length mark) text)) (held mid) (held new) h.parts
+          (parts_behind-value c s (drop at text) (omega (arith, length-drop at text)) (ap symbol_at (sym slice_is) ∙ sym is)
+          ∙ ap (λ l. part_in c (Part.value s) ∷ parts_behind c 0 l) (drop-drop (length (mark_of s)) at text ∙ ap (λ n. drop (at + n) text) (sym wide)))
+          mid_is new_is;
+    }
 
 pub parts_end : (before : List Run) (c : Option Condition) (text : List ℕ) (from at : ℕ) (runs : List Run) →
     HasParts before c text from at runs → length text ≤ at →
@@ -271,13 +271,13 @@ pub pieces_byte : (text slice : List ℕ) (from at : ℕ) (runs : List Run) →
 pieces_byte text slice from at runs h within slice_is is =
     let some : 0 < length (drop at text) = omega (arith, length-drop at text) in
     let here : front.Byte ≡ front_at (drop at text) = is ∙ ap front_at slice_is in record {
-  order = let o = h.order in omega arith;
-  within = omega arith;
-  pieces = kept-byte None text from at (pieces_behind 0 text) (held runs) (pieces_behind 0 (drop at text)) (pieces_behind 0 (drop (at + 1) text)) h.order h.pieces
-    (pieces_behind-front front.Byte (drop at text) some here
-    ∙ ap (λ l. plain None (take 1 (drop at text)) ++ pieces_behind 0 l) (drop-drop 1 at text));
-  unended = h.unended ∙ open_behind-front at front.Byte (drop at text) some here (λ e. cc) ∙ ap (open_behind (at + 1) 0) (drop-drop 1 at text);
-}
+      order = let o = h.order in omega arith;
+      within = omega arith;
+      pieces = kept-byte None text from at (pieces_behind 0 text) (held runs) (pieces_behind 0 (drop at text)) (pieces_behind 0 (drop (at + 1) text)) h.order h.pieces
+          (pieces_behind-front front.Byte (drop at text) some here
+          ∙ ap (λ l. plain None (take 1 (drop at text)) ++ pieces_behind 0 l) (drop-drop 1 at text));
+      unended = h.unended ∙ open_behind-front at front.Byte (drop at text) some here (λ e. cc) ∙ ap (open_behind (at + 1) 0) (drop-drop 1 at text);
+    }
 
 pub pieces_front : (text slice : List ℕ) (from at to : ℕ) (f : Front) (runs mid new : List Run) →
     HasPieces text from at runs → at < length text → slice ≡ drop at text → f ≡ front_at slice → width f ≤ length slice → f ≢ front.Open → to ≡ at + width f →
@@ -288,14 +288,14 @@ pieces_front text slice from at to f runs mid new h within slice_is is fits ende
     let some : 0 < length (drop at text) = omega (arith, length-drop at text) in
     let here : f ≡ front_at (drop at text) = is ∙ ap front_at slice_is in
     let behind : drop (width f) (drop at text) ≡ drop to text = drop-drop (width f) at text ∙ ap (λ n. drop n text) (sym to_is) in record {
-  order = omega arith;
-  within = omega (arith, length-drop at text);
-  pieces = kept-front None text to (pieces_behind 0 text) (held runs) (plain None (take (at - from) (drop from text)))
-    (pieces_behind 0 (drop at text)) (front_pieces f (drop at text)) (pieces_behind 0 (drop to text)) (held mid) (held new) h.pieces
-    (pieces_behind-front f (drop at text) some here ∙ ap (λ l. front_pieces f (drop at text) ++ pieces_behind 0 l) behind)
-    mid_is new_is;
-  unended = h.unended ∙ open_behind-front at f (drop at text) some here ended ∙ ap (open_behind (at + width f) 0) behind ∙ ap (λ n. open_behind n 0 (drop to text)) (sym to_is);
-}
+      order = omega arith;
+      within = omega (arith, length-drop at text);
+      pieces = kept-front None text to (pieces_behind 0 text) (held runs) (plain None (take (at - from) (drop from text)))
+          (pieces_behind 0 (drop at text)) (front_pieces f (drop at text)) (pieces_behind 0 (drop to text)) (held mid) (held new) h.pieces
+          (pieces_behind-front f (drop at text) some here ∙ ap (λ l. front_pieces f (drop at text) ++ pieces_behind 0 l) behind)
+          mid_is new_is;
+      unended = h.unended ∙ open_behind-front at f (drop at text) some here ended ∙ ap (open_behind (at + width f) 0) behind ∙ ap (λ n. open_behind n 0 (drop to text)) (sym to_is);
+    }
 
 -- what a block holds between its marks
 pub inside-is : (k : Condition) (n at begin : ℕ) (text mark : List ℕ) → mark ≡ start_of k → begin ≡ at + length mark →

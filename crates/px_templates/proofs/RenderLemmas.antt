@@ -1,12 +1,13 @@
 -- The text of pieces.
-use Rattle.std.proofs.Common.{◌≡◌, ℕ, List, [], ◌∷◌, ◌++◌, refl, ap, sym, ◌∙◌, append-nil, ◌+◌, ◌<◌, length, take, get_or, Option, Bool, true, false, if◌then◌else◌}
+use Rattle.std.proofs.Common.{◌≡◌, ℕ, List, [], ◌∷◌, ◌++◌, refl, ap, sym, ◌∙◌, append-nil, ◌+◌, ◌<◌, ◌≤◌, length, take, get_or, arith, length-append, min, Option, Bool, true, false, if◌then◌else◌}
+use Rattle.std.specs.Prelude.{flat_map}
 use Rattle.std.proofs.lemmas.Grind.{flat_map-append}
 use Rattle.std.proofs.lemmas.List.{take_more}
 use Rattle.px_templates.specs.declared.symbols.Symbols.{Symbols}
 use Rattle.px_templates.specs.declared.conditions.Condition.{Condition}
 use Rattle.px_templates.specs.declared.runs.Run.{Run}
 use Rattle.px_templates.specs.Pieces.{Piece, plain}
-use Rattle.px_templates.specs.Rendering.{escaped, piece_text, rendered, stands}
+use Rattle.px_templates.specs.Rendering.{escaped, escaped_byte, piece_text, rendered, stands}
 use Rattle.px_templates.specs.declared.runs.Content.{Content}
 use Rattle.px_templates.specs.declared.runs.Content.TheVariants as content
 use Rattle.px_templates.specs.declared.symbols.Symbol.{Symbol}
@@ -57,3 +58,27 @@ rendered-more symbols runs i r within is =
     ∙ ap (rendered symbols) (held-append (take i runs) (get_or runs i r ∷ []))
     ∙ rendered-append symbols (held (take i runs)) (held (get_or runs i r ∷ []))
     ∙ ap (λ l. rendered symbols (held (take i runs)) ++ rendered symbols l) (held-one (get_or runs i r) ∙ ap run_pieces (sym is))
+
+-- one byte more
+pub escaped-more : (value : List ℕ) (i : ℕ) → i < length value → escaped (take (i + 1) value) ≡ escaped (take i value) ++ escaped_byte (get_or value i 0)
+unfolding escaped
+escaped-more value i within =
+    ap (λ l. flat_map escaped_byte l) (take_more value i 0 within) ∙ flat_map-append escaped_byte (take i value) (get_or value i 0 ∷ [])
+    ∙ ap (λ l. flat_map escaped_byte (take i value) ++ l) (append-nil (escaped_byte (get_or value i 0)))
+
+-- sums of lengths, up to a greatest number
+pub room-more : (most room more : ℕ) (before behind both : List ℕ) → room ≡ min (length before) most → more ≡ min (length behind) most → both ≡ before ++ behind →
+    min (room + more) most ≡ min (length both) most
+room-more most room more before behind both room_is more_is both_is =
+    let sum : length both ≡ length before + length behind = ap length both_is ∙ length-append before behind in omega arith
+
+pub room-exact : (most room more : ℕ) (before behind both : List ℕ) → room ≡ min (length before) most → more ≡ length behind → both ≡ before ++ behind →
+    min (room + more) most ≡ min (length both) most
+room-exact most room more before behind both room_is more_is both_is =
+    let sum : length both ≡ length before + length behind = ap length both_is ∙ length-append before behind in omega arith
+
+pub room-none : (most : ℕ) (bytes : List ℕ) → bytes ≡ [] → 0 ≡ min (length bytes) most
+room-none most bytes none = let e : length bytes ≡ 0 = ap length none in omega arith
+
+pub room-all : (most room : ℕ) (bytes : List ℕ) → room ≡ length bytes → room ≤ most → room ≡ min (length bytes) most
+room-all most room bytes room_is fits = omega arith

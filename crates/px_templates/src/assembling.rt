@@ -24,14 +24,10 @@ pub fn included_names(alloc: Global, text: &[u8]) -> Result<List<Text>, Mem>
 
 /// The text of a template: lines that begin with `#` are left out, and one that includes another text stands for it.
 #[tactic(auto, unfolding(crate::specs::Lines::assembled))]
-pub(crate) fn assemble(
-    alloc: Global,
-    text: &[u8],
-    includes: &[(Text, Text)],
-) -> Result<Text, Mem>
+pub(crate) fn assemble(alloc: Global, text: &[u8], includes: &[(Text, Text)]) -> Result<Text, Mem>
     ensures { IfOk result (λ out. out ≡ assembled includes.now text.now) }
 {
-    let mut out = Text::new(alloc);
+    let mut out = Text::with_capacity(alloc, text.len())?;
     let mut rest = text;
     'lines: while !rest.is_empty() {
         let (line, after) = split_line(rest);

@@ -13,8 +13,6 @@ mod symbols;
 mod templates;
 #[cfg(test)]
 mod tests;
-#[cfg(test)]
-mod tests;
 
 pub use assembling::included_names;
 pub use faults::TemplateFault;

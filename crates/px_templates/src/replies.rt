@@ -92,7 +92,7 @@ pub fn local_reply(
     let body = kind.body(body);
     let sent = if bodiless { b"" } else { body };
     let room = kind.first_value().len().saturating_add(sent.len());
-    let mut out = Text::from_vec(Vec::with_capacity(alloc, room.saturating_add(HEAD_ROOM))?);
+    let mut out = Text::with_capacity(alloc, room.saturating_add(HEAD_ROOM))?;
     push_head(kind, body.len(), close, &mut out)?;
     out.push_all(sent)?;
     Ok(out)

@@ -1,5 +1,5 @@
 // The pieces of a template as they are kept.
-ghost use Rattle.std.specs.Prelude.{◌≡◌, ◌++◌, ◌∷◌, [], OnOk, option_map, unwrap_or};
+ghost use Rattle.std.specs.Prelude.{◌≡◌, ◌++◌, ◌∷◌, [], ◌-◌, ◌^◌, OnOk, length, min, option_map, unwrap_or};
 ghost use Rattle.px_templates.specs.Pieces.{Part, part_in, parts_behind, plain};
 ghost use Rattle.px_templates.specs.Rendering.{escaped, escaped_byte, rendered, stands};
 ghost use Rattle.px_templates.specs.Runs.{held};
@@ -100,6 +100,19 @@ impl Run {
         }
     }
 
+    /// How many bytes the run gives with these values, up to the greatest `usize`.
+    pub(crate) fn room(&self, symbols: &Symbols) -> usize
+        ensures { result ≡ min (length (rendered symbols.now (run_pieces self.now))) (2 ^ 64 - 1) }
+    {
+        if !self.stands(symbols) {
+            return 0;
+        }
+        match &self.content {
+            Content::Bytes(bytes) => bytes.len(),
+            Content::Value(symbol) => escaped_room(symbols.value(*symbol)),
+        }
+    }
+
     /// Whether the block that the run stands in stands, if it stands in one.
     fn stands(&self, symbols: &Symbols) -> bool
         ensures { result ≡ stands symbols.now self.now.condition }
@@ -123,6 +136,26 @@ fn push_escaped(value: &[u8], out: &mut Text) -> Result<(), Mem>
         }
     }
     Ok(())
+}
+
+/// How many bytes a value takes in HTML, up to the greatest `usize`.
+fn escaped_room(value: &[u8]) -> usize
+    ensures { result ≡ min (length (escaped value.now)) (2 ^ 64 - 1) }
+{
+    let mut room: usize = 0;
+    for byte in value {
+        room = room.saturating_add(escaped_len(*byte));
+    }
+    room
+}
+
+fn escaped_len(byte: u8) -> usize
+    ensures { result ≡ length (escaped_byte byte) }
+{
+    match escape(byte) {
+        Some(escape) => escape.len(),
+        None => 1,
+    }
 }
 
 /// What a byte is written as in HTML, where that isn't itself.

@@ -1,5 +1,5 @@
 // Templates of pages.
-ghost use Rattle.std.specs.Prelude.{◌≡◌, ◌++◌, ◌<◌, ◌≤◌, length, None, IfErr, IfOk, OnOk};
+ghost use Rattle.std.specs.Prelude.{◌≡◌, ◌-◌, ◌^◌, ◌≤◌, length, min, None, IfErr, IfOk, OnOk};
 ghost use Rattle.px_templates.specs.Faults.{IsAt};
 ghost use Rattle.px_templates.specs.Lines.{assembled};
 ghost use Rattle.px_templates.specs.Pieces.{line_at, open_line, pieces_of};
@@ -56,11 +56,22 @@ impl Template {
     pub fn render(&self, alloc: Global, symbols: &Symbols) -> Result<Text, Mem>
         ensures { IfOk result (λ page. page ≡ rendered symbols.now self.now) }
     {
-        let mut page = Text::new(alloc);
+        let mut page = Text::with_capacity(alloc, self.room(symbols))?;
         for run in self.runs.as_slice() {
             run.write(symbols, &mut page)?;
         }
         Ok(page)
+    }
+
+    /// How many bytes the page has, up to the greatest `usize`.
+    fn room(&self, symbols: &Symbols) -> usize
+        ensures { result ≡ min (length (rendered symbols.now self.now)) (2 ^ 64 - 1) }
+    {
+        let mut room: usize = 0;
+        for run in self.runs.as_slice() {
+            room = room.saturating_add(run.room(symbols));
+        }
+        room
     }
 }
 

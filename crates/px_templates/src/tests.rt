@@ -1,4 +1,6 @@
-use crate::{Local, PAGES, Page, Symbols, Template, TemplateFault, built_in, included_names, local_reply};
+use crate::{
+    Local, PAGES, Page, Symbols, Template, TemplateFault, built_in, included_names, local_reply,
+};
 use px_base::Text;
 use std::alloc::Global;
 use std::test::Fail;
@@ -18,7 +20,12 @@ fn symbols(alloc: Global, hostname: &[u8], reason: &[u8], error: &[u8]) -> Resul
 
 /// A template, the host, the reason of a block, and the page.
 const PAGES_OF_TEMPLATES: &[(&[u8], &[u8], &[u8], &[u8])] = &[
-    (b"a\n# x\n@hostname@ @x@\n", b"a&b", b"", b"a\na&amp;b @x@\n"),
+    (
+        b"a\n# x\n@hostname@ @x@\n",
+        b"a&b",
+        b"",
+        b"a\na&amp;b @x@\n",
+    ),
     (
         b"[@if-block-reason-start r=@block-reason@ if-block-reason-end@]",
         b"",
@@ -48,7 +55,12 @@ const PAGES_OF_TEMPLATES: &[(&[u8], &[u8], &[u8], &[u8])] = &[
         b"",
         b"x",
     ),
-    (b"@port@ @path@ @url@ @parent@.\r\n", b"", b"", b"81 /p http://h:81/p .\r\n"),
+    (
+        b"@port@ @path@ @url@ @parent@.\r\n",
+        b"",
+        b"",
+        b"81 /p http://h:81/p .\r\n",
+    ),
 ];
 
 /// The text that `#include head` names.
@@ -89,7 +101,11 @@ fn a_block_that_is_not_ended_is_refused_at_its_line(rt: HostRuntime) -> Result<(
         let Err(fault) = Template::read(alloc, text, &includes) else {
             panic!(rt; "{text:?} is read");
         };
-        assert_eq!(rt; fault, TemplateFault::OpenCondition { line: *line }, "{text:?}");
+        assert_eq!(rt;
+            fault,
+            TemplateFault::OpenCondition { line: *line },
+            "{text:?}"
+        );
         if fault != TemplateFault::Mem {
             assert_eq!(rt; fault.number(), 28, "{text:?}");
         }
@@ -100,7 +116,10 @@ fn a_block_that_is_not_ended_is_refused_at_its_line(rt: HostRuntime) -> Result<(
 
 #[test]
 fn the_names_that_a_template_includes_are_listed(rt: HostRuntime) -> Result<(), Fail> {
-    let names = included_names(rt.alloc(), b"#include a\n# b\n#include\tc d \r\n#include \n#includee\n x")?;
+    let names = included_names(
+        rt.alloc(),
+        b"#include a\n# b\n#include\tc d \r\n#include \n#includee\n x",
+    )?;
     let wanted: [&[u8]; 2] = [b"a", b"c d"];
     let names = names.as_slice();
     assert_eq!(rt; names.len(), wanted.len());
@@ -141,7 +160,13 @@ fn each_page_has_its_name_status_and_length(rt: HostRuntime) -> Result<(), Fail>
     Ok(())
 }
 
-fn reply(alloc: Global, kind: Local, body: &[u8], close: bool, bodiless: bool) -> Result<Text, Fail> {
+fn reply(
+    alloc: Global,
+    kind: Local,
+    body: &[u8],
+    close: bool,
+    bodiless: bool,
+) -> Result<Text, Fail> {
     Ok(local_reply(alloc, &kind, body, close, bodiless)?)
 }
 
@@ -149,17 +174,35 @@ fn reply(alloc: Global, kind: Local, body: &[u8], close: bool, bodiless: bool) -
 fn a_reply_has_its_head_and_body(rt: HostRuntime) -> Result<(), Fail> {
     let alloc = rt.alloc();
     let page = reply(alloc, Local::Page(Page::Blocked), b"<p>", true, false)?;
-    assert_eq!(rt; page.as_bytes(), b"HTTP/1.1 403 Forbidden\r\nContent-Type: text/html\r\nContent-Length: 3\r\nCache-Control: no-cache\r\nConnection: close\r\n\r\n<p>");
+    assert_eq!(rt;
+        page.as_bytes(),
+        b"HTTP/1.1 403 Forbidden\r\nContent-Type: text/html\r\nContent-Length: 3\r\nCache-Control: no-cache\r\nConnection: close\r\n\r\n<p>"
+    );
     let bare = reply(alloc, Local::Page(Page::NoSuchDomain), b"<p>", false, true)?;
-    assert_eq!(rt; bare.as_bytes(), b"HTTP/1.1 404 Not Found\r\nContent-Type: text/html\r\nContent-Length: 3\r\nCache-Control: no-cache\r\nConnection: keep-alive\r\n\r\n");
+    assert_eq!(rt;
+        bare.as_bytes(),
+        b"HTTP/1.1 404 Not Found\r\nContent-Type: text/html\r\nContent-Length: 3\r\nCache-Control: no-cache\r\nConnection: keep-alive\r\n\r\n"
+    );
     let image = reply(alloc, Local::Image, b"GIF", false, false)?;
-    assert_eq!(rt; image.as_bytes(), b"HTTP/1.1 403 Forbidden\r\nContent-Type: image/gif\r\nContent-Length: 3\r\nCache-Control: no-cache\r\nConnection: keep-alive\r\n\r\nGIF");
+    assert_eq!(rt;
+        image.as_bytes(),
+        b"HTTP/1.1 403 Forbidden\r\nContent-Type: image/gif\r\nContent-Length: 3\r\nCache-Control: no-cache\r\nConnection: keep-alive\r\n\r\nGIF"
+    );
     let good = reply(alloc, Local::Empty(true), b"x", false, false)?;
-    assert_eq!(rt; good.as_bytes(), b"HTTP/1.1 200 OK\r\nContent-Type: text/html\r\nContent-Length: 1\r\nCache-Control: no-cache\r\nConnection: keep-alive\r\n\r\n ");
+    assert_eq!(rt;
+        good.as_bytes(),
+        b"HTTP/1.1 200 OK\r\nContent-Type: text/html\r\nContent-Length: 1\r\nCache-Control: no-cache\r\nConnection: keep-alive\r\n\r\n "
+    );
     let empty = reply(alloc, Local::Empty(false), b"x", true, false)?;
-    assert_eq!(rt; empty.as_bytes(), b"HTTP/1.1 403 Forbidden\r\nContent-Type: text/html\r\nContent-Length: 1\r\nCache-Control: no-cache\r\nConnection: close\r\n\r\n ");
+    assert_eq!(rt;
+        empty.as_bytes(),
+        b"HTTP/1.1 403 Forbidden\r\nContent-Type: text/html\r\nContent-Length: 1\r\nCache-Control: no-cache\r\nConnection: close\r\n\r\n "
+    );
     let target = Text::from_bytes(alloc, b"http://b.test/x")?;
     let redirect = reply(alloc, Local::Redirect(target), b"x", false, false)?;
-    assert_eq!(rt; redirect.as_bytes(), b"HTTP/1.1 302 Found\r\nLocation: http://b.test/x\r\nContent-Length: 0\r\nCache-Control: no-cache\r\nConnection: keep-alive\r\n\r\n");
+    assert_eq!(rt;
+        redirect.as_bytes(),
+        b"HTTP/1.1 302 Found\r\nLocation: http://b.test/x\r\nContent-Length: 0\r\nCache-Control: no-cache\r\nConnection: keep-alive\r\n\r\n"
+    );
     Ok(())
 }
