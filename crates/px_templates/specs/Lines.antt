@@ -1,6 +1,6 @@
 -- The lines of a template (Privoxy's manual, "Privoxy's Template Files"): lines that begin with `#` are left out, and one that
 -- includes another text stands for that text.
-use Rattle.std.specs.Prelude.{ℕ, ◌-◌, Bool, ◌&&◌, ◌==◌, nat_eq, List, [], ◌∷◌, ◌++◌, length, take, drop, slice_index, find, filter_map, flat_map, Option, Some, None, option_map, option_and_then, codes, if◌then◌else◌}
+use Rattle.std.specs.Prelude.{ℕ, ◌-◌, Bool, ◌&&◌, ◌==◌, nat_eq, List, [], ◌∷◌, length, take, drop, slice_index, find, filter_map, flat_map, Option, Some, None, option_map, option_and_then, codes, if◌then◌else◌}
 use Rattle.std.specs.List.{starts_with, ends_with}
 use Rattle.std.specs.Option.{option_map_or}
 use Rattle.std.specs.Str.{bytes_eq}

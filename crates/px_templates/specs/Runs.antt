@@ -1,5 +1,5 @@
 -- The pieces of a template as they are kept: bytes that follow each other stand together.
-use Rattle.std.specs.Prelude.{ℕ, List, [], ◌∷◌, flat_map, Option}
+use Rattle.std.specs.Prelude.{List, [], ◌∷◌, flat_map, Option}
 use Rattle.px_templates.specs.declared.conditions.Condition.{Condition}
 use Rattle.px_templates.specs.declared.runs.Content.{Content}
 use Rattle.px_templates.specs.declared.runs.Content.TheVariants as content

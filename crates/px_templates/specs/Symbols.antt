@@ -1,5 +1,5 @@
 -- The symbols of a template, its conditions, and their marks.
-use Rattle.std.specs.Prelude.{ℕ, Bool, not, ◌==◌, nat_eq, List, [], ◌∷◌, ◌++◌, length, find, Option, codes}
+use Rattle.std.specs.Prelude.{ℕ, Bool, not, ◌==◌, nat_eq, List, [], ◌∷◌, length, find, Option, codes}
 use Rattle.std.specs.List.{starts_with}
 use Rattle.px_templates.specs.declared.symbols.Symbol.{Symbol}
 use Rattle.px_templates.specs.declared.symbols.Symbol.TheVariants as symbol

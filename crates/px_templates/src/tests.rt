@@ -160,49 +160,60 @@ fn each_page_has_its_name_status_and_length(rt: HostRuntime) -> Result<(), Fail>
     Ok(())
 }
 
-fn reply(
-    alloc: Global,
-    kind: Local,
-    body: &[u8],
-    close: bool,
-    bodiless: bool,
-) -> Result<Text, Fail> {
-    Ok(local_reply(alloc, &kind, body, close, bodiless)?)
-}
+/// Whether the connection closes, whether the reply has no body, what is given as body, and the reply.
+const REPLIES: [(bool, bool, &[u8], &[u8]); 6] = [
+    (
+        true,
+        false,
+        b"<p>",
+        b"HTTP/1.1 403 Forbidden\r\nContent-Type: text/html\r\nContent-Length: 3\r\nCache-Control: no-cache\r\nConnection: close\r\n\r\n<p>",
+    ),
+    (
+        false,
+        true,
+        b"<p>",
+        b"HTTP/1.1 404 Not Found\r\nContent-Type: text/html\r\nContent-Length: 3\r\nCache-Control: no-cache\r\nConnection: keep-alive\r\n\r\n",
+    ),
+    (
+        false,
+        false,
+        b"GIF",
+        b"HTTP/1.1 403 Forbidden\r\nContent-Type: image/gif\r\nContent-Length: 3\r\nCache-Control: no-cache\r\nConnection: keep-alive\r\n\r\nGIF",
+    ),
+    (
+        false,
+        false,
+        b"x",
+        b"HTTP/1.1 200 OK\r\nContent-Type: text/html\r\nContent-Length: 1\r\nCache-Control: no-cache\r\nConnection: keep-alive\r\n\r\n ",
+    ),
+    (
+        true,
+        false,
+        b"x",
+        b"HTTP/1.1 403 Forbidden\r\nContent-Type: text/html\r\nContent-Length: 1\r\nCache-Control: no-cache\r\nConnection: close\r\n\r\n ",
+    ),
+    (
+        false,
+        false,
+        b"x",
+        b"HTTP/1.1 302 Found\r\nLocation: http://b.test/x\r\nContent-Length: 0\r\nCache-Control: no-cache\r\nConnection: keep-alive\r\n\r\n",
+    ),
+];
 
 #[test]
 fn a_reply_has_its_head_and_body(rt: HostRuntime) -> Result<(), Fail> {
     let alloc = rt.alloc();
-    let page = reply(alloc, Local::Page(Page::Blocked), b"<p>", true, false)?;
-    assert_eq!(rt;
-        page.as_bytes(),
-        b"HTTP/1.1 403 Forbidden\r\nContent-Type: text/html\r\nContent-Length: 3\r\nCache-Control: no-cache\r\nConnection: close\r\n\r\n<p>"
-    );
-    let bare = reply(alloc, Local::Page(Page::NoSuchDomain), b"<p>", false, true)?;
-    assert_eq!(rt;
-        bare.as_bytes(),
-        b"HTTP/1.1 404 Not Found\r\nContent-Type: text/html\r\nContent-Length: 3\r\nCache-Control: no-cache\r\nConnection: keep-alive\r\n\r\n"
-    );
-    let image = reply(alloc, Local::Image, b"GIF", false, false)?;
-    assert_eq!(rt;
-        image.as_bytes(),
-        b"HTTP/1.1 403 Forbidden\r\nContent-Type: image/gif\r\nContent-Length: 3\r\nCache-Control: no-cache\r\nConnection: keep-alive\r\n\r\nGIF"
-    );
-    let good = reply(alloc, Local::Empty(true), b"x", false, false)?;
-    assert_eq!(rt;
-        good.as_bytes(),
-        b"HTTP/1.1 200 OK\r\nContent-Type: text/html\r\nContent-Length: 1\r\nCache-Control: no-cache\r\nConnection: keep-alive\r\n\r\n "
-    );
-    let empty = reply(alloc, Local::Empty(false), b"x", true, false)?;
-    assert_eq!(rt;
-        empty.as_bytes(),
-        b"HTTP/1.1 403 Forbidden\r\nContent-Type: text/html\r\nContent-Length: 1\r\nCache-Control: no-cache\r\nConnection: close\r\n\r\n "
-    );
-    let target = Text::from_bytes(alloc, b"http://b.test/x")?;
-    let redirect = reply(alloc, Local::Redirect(target), b"x", false, false)?;
-    assert_eq!(rt;
-        redirect.as_bytes(),
-        b"HTTP/1.1 302 Found\r\nLocation: http://b.test/x\r\nContent-Length: 0\r\nCache-Control: no-cache\r\nConnection: keep-alive\r\n\r\n"
-    );
+    let kinds = [
+        Local::Page(Page::Blocked),
+        Local::Page(Page::NoSuchDomain),
+        Local::Image,
+        Local::Empty(true),
+        Local::Empty(false),
+        Local::Redirect(Text::from_bytes(alloc, b"http://b.test/x")?),
+    ];
+    for (kind, (close, bodiless, body, wanted)) in kinds.iter().zip(REPLIES.iter()) {
+        let reply = local_reply(alloc, kind, body, *close, *bodiless)?;
+        assert_eq!(rt; reply.as_bytes(), *wanted);
+    }
     Ok(())
 }

@@ -1,4 +1,4 @@
-use Rattle.std.proofs.Common.{◌≡◌, ◌++◌, ◌+◌, ◌∙◌, sym, ap, Some, length, arith, refl}
+use Rattle.std.proofs.Common.{◌≡◌, ◌++◌, ◌+◌, ◌∙◌, ap, Some, length, arith, refl}
 use Rattle.std.proofs.lemmas.List.{take_rest}
 use Rattle.px_templates.specs.declared.fronts.Front.TheVariants as front
 use Rattle.px_templates.specs.Pieces.{parts_behind}

@@ -1,4 +1,4 @@
-use Rattle.std.proofs.Common.{◌≡◌, ◌∙◌, ◌-◌, ◌^◌, sym, ap, arith, length, min}
+use Rattle.std.proofs.Common.{◌∙◌, ◌-◌, ◌^◌, sym, ap, arith, length, min}
 use Rattle.px_templates.specs.Rendering.{escaped}
 use Rattle.px_templates.proofs.RenderLemmas.{content_bytes, content_falls, content_value, room-all, room-none}
 use Rattle.px_templates.proofs.runs.Run.room.Goals as goal
