@@ -1,0 +1,4 @@
+pub mod LineLemmas
+pub mod PieceLemmas
+pub mod RenderLemmas
+pub mod ReplyLemmas

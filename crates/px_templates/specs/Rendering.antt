@@ -1,0 +1,32 @@
+-- The text of a page.
+use Rattle.std.specs.Prelude.{ℕ, Bool, true, ◌==◌, List, [], ◌∷◌, flat_map, Option, Some, None, codes, if◌then◌else◌}
+use Rattle.std.specs.Str.{byte}
+use Rattle.px_templates.specs.declared.symbols.Symbols.{Symbols}
+use Rattle.px_templates.specs.declared.conditions.Condition.{Condition}
+use Rattle.px_templates.specs.Symbols.{value_of, holds}
+use Rattle.px_templates.specs.Pieces.{Part, Piece}
+
+-- a byte of a value as it stands in HTML
+abbrev pub escaped_byte : ℕ → List ℕ
+escaped_byte b =
+    if b == byte "&" then codes "&amp;" else if b == byte "<" then codes "&lt;"
+    else if b == byte ">" then codes "&gt;" else if b == 34 then codes "&quot;" else b ∷ []
+
+unfoldable pub escaped : List ℕ → List ℕ
+escaped value = flat_map escaped_byte value
+
+abbrev pub part_text : Symbols → Part → List ℕ
+part_text symbols (Part.byte b) = b ∷ []
+part_text symbols (Part.value s) = escaped (value_of symbols s)
+
+-- what isn't in a block stands, and a block stands where its value isn't empty
+abbrev pub stands : Symbols → Option Condition → Bool
+stands symbols None = true
+stands symbols (Some c) = holds symbols c
+
+-- what a piece gives: its part, or nothing in a block that falls
+abbrev pub piece_text : Symbols → Piece → List ℕ
+piece_text symbols p = if stands symbols p.condition then part_text symbols p.part else []
+
+unfoldable pub rendered : Symbols → List Piece → List ℕ
+rendered symbols pieces = flat_map (piece_text symbols) pieces

@@ -1,0 +1,56 @@
+-- What is returned in place of an origin's answer: a head and a body.
+use Rattle.std.specs.Prelude.{ℕ, Bool, List, [], ◌∷◌, ◌++◌, length, codes, if◌then◌else◌}
+use Rattle.std.specs.Fmt.{decimal}
+use Rattle.px_templates.specs.declared.replies.Local.{Local}
+use Rattle.px_templates.specs.declared.replies.Local.TheVariants as kind
+use Rattle.px_templates.specs.Pages.{page_status}
+
+abbrev pub crlf : List ℕ
+crlf = 13 ∷ 10 ∷ []
+
+abbrev pub field : List ℕ → List ℕ → List ℕ
+field name value = name ++ codes ": " ++ value ++ crlf
+
+abbrev pub status_line : List ℕ → List ℕ
+status_line status = codes "HTTP/1.1 " ++ status ++ crlf
+
+-- the status and its phrase
+abbrev pub status_of : Local → List ℕ
+status_of (kind.Page page) = page_status page
+status_of kind.Image = codes "403 Forbidden"
+status_of (kind.Empty ok) = if ok then codes "200 OK" else codes "403 Forbidden"
+status_of (kind.Redirect target) = codes "302 Found"
+
+-- the field behind the status line: the type of the body, or where to go instead
+abbrev pub first_name : Local → List ℕ
+first_name (kind.Page page) = codes "Content-Type"
+first_name kind.Image = codes "Content-Type"
+first_name (kind.Empty ok) = codes "Content-Type"
+first_name (kind.Redirect target) = codes "Location"
+
+abbrev pub first_value : Local → List ℕ
+first_value (kind.Page page) = codes "text/html"
+first_value kind.Image = codes "image/gif"
+first_value (kind.Empty ok) = codes "text/html"
+first_value (kind.Redirect target) = target
+
+-- the body: the page or the image that is given, a space, or nothing
+abbrev pub body_of : Local → List ℕ → List ℕ
+body_of (kind.Page page) body = body
+body_of kind.Image body = body
+body_of (kind.Empty ok) body = codes " "
+body_of (kind.Redirect target) body = []
+
+abbrev pub close_word : Bool → List ℕ
+close_word close = if close then codes "close" else codes "keep-alive"
+
+-- the head of a reply with a body of that length
+unfoldable pub head_of : Local → ℕ → Bool → List ℕ
+head_of kind n close =
+    status_line (status_of kind) ++ field (first_name kind) (first_value kind) ++ field (codes "Content-Length") (decimal n)
+    ++ field (codes "Cache-Control") (codes "no-cache") ++ field (codes "Connection") (close_word close) ++ crlf
+
+-- the reply; where it has no body, the fields stay
+unfoldable pub reply_of : Local → List ℕ → Bool → Bool → List ℕ
+reply_of kind body close bodiless =
+    head_of kind (length (body_of kind body)) close ++ (if bodiless then [] else body_of kind body)

@@ -1,0 +1,56 @@
+-- The symbols of a template, its conditions, and their marks.
+use Rattle.std.specs.Prelude.{ℕ, Bool, not, ◌==◌, nat_eq, List, [], ◌∷◌, length, find, Option, codes}
+use Rattle.std.specs.List.{starts_with}
+use Rattle.px_templates.specs.declared.symbols.Symbol.{Symbol}
+use Rattle.px_templates.specs.declared.symbols.Symbol.TheVariants as symbol
+use Rattle.px_templates.specs.declared.symbols.Symbols.{Symbols}
+use Rattle.px_templates.specs.declared.conditions.Condition.{Condition}
+use Rattle.px_templates.specs.declared.conditions.Condition.TheVariants as condition
+
+-- what a symbol's value takes the place of
+abbrev pub mark_of : Symbol → List ℕ
+mark_of symbol.Hostname = codes "@hostname@"
+mark_of symbol.Port = codes "@port@"
+mark_of symbol.Path = codes "@path@"
+mark_of symbol.Url = codes "@url@"
+mark_of symbol.BlockReason = codes "@block-reason@"
+mark_of symbol.Error = codes "@error@"
+mark_of symbol.Parent = codes "@parent@"
+
+abbrev pub value_of : Symbols → Symbol → List ℕ
+value_of symbols symbol.Hostname = symbols.hostname
+value_of symbols symbol.Port = symbols.port
+value_of symbols symbol.Path = symbols.path
+value_of symbols symbol.Url = symbols.url
+value_of symbols symbol.BlockReason = symbols.block_reason
+value_of symbols symbol.Error = symbols.error
+value_of symbols symbol.Parent = symbols.parent
+
+abbrev pub all_symbols : List Symbol
+all_symbols = symbol.Hostname ∷ symbol.Port ∷ symbol.Path ∷ symbol.Url ∷ symbol.BlockReason ∷ symbol.Error ∷ symbol.Parent ∷ []
+
+-- the symbol with whose mark a text begins
+unfoldable pub symbol_at : List ℕ → Option Symbol
+symbol_at text = find (λ s. starts_with nat_eq text (mark_of s)) all_symbols
+
+-- the marks that a block of a condition stands between
+abbrev pub start_of : Condition → List ℕ
+start_of condition.BlockReason = codes "@if-block-reason-start"
+start_of condition.Parent = codes "@if-parent-start"
+
+abbrev pub end_of : Condition → List ℕ
+end_of condition.BlockReason = codes "if-block-reason-end@"
+end_of condition.Parent = codes "if-parent-end@"
+
+-- the condition with whose first mark a text begins
+unfoldable pub condition_at : List ℕ → Option Condition
+condition_at text = find (λ c. starts_with nat_eq text (start_of c)) (condition.BlockReason ∷ condition.Parent ∷ [])
+
+-- the symbol by whose value a block stands or falls
+abbrev pub symbol_of : Condition → Symbol
+symbol_of condition.BlockReason = symbol.BlockReason
+symbol_of condition.Parent = symbol.Parent
+
+-- the value isn't empty
+abbrev pub holds : Symbols → Condition → Bool
+holds symbols c = not (length (value_of symbols (symbol_of c)) == 0)
