@@ -1,10 +1,9 @@
 -- What one physical line makes of a joining.
 use Rattle.std.proofs.Common.{◌≡◌, ℕ, ◌+◌, ◌<◌, ◌≤◌, Bool, true, false, List, [], ◌∷◌, ◌++◌, length, refl, ap, sym, ◌∙◌, subst, arith, append_assoc, inl, inr, Option, None, Some}
-use Rattle.std.specs.Prelude.{Result, Ok, Err, is_ok, is_some, not, ◌==◌, MatchResult}
-use Rattle.std.specs.Str.{IsUtf8, is_utf8}
+use Rattle.std.specs.Prelude.{is_some, not, ◌==◌}
+use Rattle.std.specs.Str.{is_utf8}
 use Rattle.std.specs.Str.Lines.{lines}
 use Rattle.std.proofs.lemmas.Bool.{cases_Bool, eqb-true, eqb-false, lt-ltb, le-ltb}
-use Rattle.std.proofs.lemmas.Str.{IsUtf8-from_is_utf8, is_utf8-from_IsUtf8}
 use Rattle.px_base.specs.Blanks.{trimmed}
 use Rattle.px_text.specs.declared.TheConstants.{LINE_LIMIT}
 use Rattle.px_text.specs.declared.faults.TextFault.{TextFault}

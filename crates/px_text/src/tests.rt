@@ -39,11 +39,7 @@ const LONG_FILES: &[(&[(usize, &[u8])], Option<TextFault>, &str)] = &[
         Some(TextFault::TooLong { line: 1 }),
         "white space counts",
     ),
-    (
-        &[(1, b"#"), (9000, b"\n")],
-        None,
-        "a comment doesn't count",
-    ),
+    (&[(1, b"#"), (9000, b"\n")], None, "a comment doesn't count"),
     (
         &[(8191, b" b\n\xff\n")],
         Some(TextFault::TooLong { line: 1 }),
