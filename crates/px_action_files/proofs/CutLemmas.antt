@@ -37,7 +37,7 @@ blocks-step true line lines h e = rw h refl
 blocks-step false line lines h e = let none = rw h at e in absurd (cc)
 
 -- where nothing stands before the first heading, the first line is the heading of the first block
-first_block : (line : Line) (lines : List Line) → (cut (line ∷ lines)).front ≡ [] → (cut (line ∷ lines)).blocks ≡ lines_of line (cut lines).front ∷ (cut lines).blocks
+pub first_block : (line : Line) (lines : List Line) → (cut (line ∷ lines)).front ≡ [] → (cut (line ∷ lines)).blocks ≡ lines_of line (cut lines).front ∷ (cut lines).blocks
 first_block line lines e = blocks-step (is_heading line) line lines refl e
 
 -- what the blocks add is what the first adds, and then the others

@@ -1,7 +1,7 @@
 -- Words, and the aliases that stand for words (the manual's chapter on actions files, aliases).
-use Rattle.std.specs.Prelude.{ℕ, ◌+◌, ◌==◌, ◌&&◌, ◌||◌, Bool, not, if◌then◌else◌, List, [], ◌∷◌, ◌++◌, length, take, drop, Option, Some, None, Result, Ok, Err, is_some}
+use Rattle.std.specs.Prelude.{ℕ, ◌+◌, ◌==◌, ◌&&◌, ◌||◌, Bool, not, if◌then◌else◌, List, [], ◌∷◌, ◌++◌, length, take, drop, Option, Some, None, Result, Ok, Err, is_some, option_map}
 use Rattle.std.specs.List.{find, list_any, position}
-use Rattle.std.specs.Str.{str_eq_ignore_ascii_case}
+use Rattle.std.specs.Str.{byte, str_eq_ignore_ascii_case}
 use Rattle.px_base.specs.Blanks.{is_blank, trimmed}
 use Rattle.px_text.specs.declared.lines.Line.{Line}
 use Rattle.px_actions.specs.Braces.{balances, words}
@@ -11,7 +11,6 @@ use Rattle.px_actions.specs.declared.kinds.Kind.{Kind}
 use Rattle.px_actions.specs.declared.changes.Change.{Change}
 use Rattle.px_action_files.specs.Faults.{result_map, Refused, refused, word_number, at_line, and_then}
 use Rattle.px_action_files.specs.Meanings.{AliasSeen}
-use Rattle.px_action_files.specs.declared.faults.TheConstants.{OPEN_BRACE, BAD_BLOCK, ALIAS_TWICE}
 
 -- ---- words
 
@@ -39,10 +38,10 @@ words_updates known (word ∷ rest) before = and_then (word_updates known word) 
 -- ---- alias lines
 
 abbrev pub is_equals : ℕ → Bool
-is_equals b = b == 61
+is_equals b = b == byte "="
 
 abbrev pub is_brace_or_blank : ℕ → Bool
-is_brace_or_blank b = is_blank b || (b == 123 || b == 125)
+is_brace_or_blank b = is_blank b || (b == byte "{" || b == byte "}")
 
 -- a name isn't empty, and holds no white space and no brace
 unfoldable pub is_alias_name : List ℕ → Bool
@@ -54,19 +53,22 @@ named_alias name updates = record { name = name; updates = updates }
 -- the alias of a name and its words, where aliases are known before
 abbrev pub alias_by : List AliasSeen → ℕ → List ℕ → List ℕ → Result AliasSeen Refused
 alias_by known line name text =
-    if not (is_alias_name name) then refused line BAD_BLOCK
-    else if is_some (alias_named known name) then refused line ALIAS_TWICE
+    if not (is_alias_name name) then refused line 44
+    else if is_some (alias_named known name) then refused line 20
     else result_map (named_alias name) (at_line line word_number (words_updates known (words text) []))
 
--- a name up to the first `=`, and words
-abbrev pub alias_cut : List AliasSeen → ℕ → List ℕ → Option ℕ → Result AliasSeen Refused
-alias_cut known line text None = refused line BAD_BLOCK
-alias_cut known line text (Some at) = alias_by known line (trimmed (take at text)) (drop (at + 1) text)
+-- the name up to the first `=`, without the white space at its ends, and the text behind that `=`
+unfoldable pub name_and_words : List ℕ → Option (List ℕ × List ℕ)
+name_and_words text = option_map (λ at. (trimmed (take at text), drop (at + 1) text)) (position is_equals text)
+
+abbrev pub alias_cut : List AliasSeen → ℕ → Option (List ℕ × List ℕ) → Result AliasSeen Refused
+alias_cut known line None = refused line 44
+alias_cut known line (Some parts) = alias_by known line parts.0 parts.1
 
 -- the alias of a line
 unfoldable pub alias_of : List AliasSeen → Line → Result AliasSeen Refused
 alias_of known line =
-    if balances line.text then alias_cut known line.number line.text (position is_equals line.text) else refused line.number OPEN_BRACE
+    if balances line.text then alias_cut known line.number (name_and_words line.text) else refused line.number 16
 
 -- the aliases of lines behind those known, each of which sees those before it, or the first refusal
 unfoldable pub aliases_of : List Line → List AliasSeen → Result (List AliasSeen) Refused

@@ -1,11 +1,9 @@
 -- The refusals of actions files: a line and a number.
-use Rattle.std.specs.Prelude.{◌≡◌, ℕ, Result, Ok, Err}
+use Rattle.std.specs.Prelude.{◌≡◌, ℕ, ◌==◌, if◌then◌else◌, List, [], Result, Ok, Err, codes}
 use Rattle.px_patterns.specs.Faults.{pattern_fault_number}
 use Rattle.px_patterns.specs.declared.faults.PatternFault.{PatternFault}
-use Rattle.px_patterns.specs.declared.faults.PatternFault.TheVariants as pattern
 use Rattle.px_actions.specs.Faults.{refusal}
 use Rattle.px_actions.specs.declared.faults.ActionFault.{ActionFault}
-use Rattle.px_actions.specs.declared.faults.ActionFault.TheVariants as action
 use Rattle.px_action_files.specs.declared.faults.FileFault.{FileFault}
 use Rattle.px_action_files.specs.declared.faults.FileFault.TheVariants as fault
 
@@ -41,20 +39,43 @@ abbrev pub IsReported : {X : Type 0} → Result X Refused → FileFault → Type
 IsReported {X} meaning (fault.At line number) = meaning ≡ refused line number
 IsReported {X} meaning fault.Mem = Unit {0}
 
+-- a refusal with its number as it is reported; want of memory has the number 0
+abbrev pub reported : ℕ → ℕ → FileFault
+reported line number = if number == 0 then fault.Mem else fault.At line number
+
 -- a refused word as it is reported
 abbrev pub reported_word : ℕ → ActionFault → FileFault
-reported_word line action.Mem = fault.Mem
-reported_word line action.UnknownAction = fault.At line (word_number action.UnknownAction)
-reported_word line action.ParameterWanted = fault.At line (word_number action.ParameterWanted)
-reported_word line action.ParameterUnwanted = fault.At line (word_number action.ParameterUnwanted)
-reported_word line action.BadParameter = fault.At line (word_number action.BadParameter)
+reported_word line f = reported line (word_number f)
 
 -- a refused pattern as it is reported
 abbrev pub reported_pattern : ℕ → PatternFault → FileFault
-reported_pattern line pattern.Mem = fault.Mem
-reported_pattern line pattern.HasProtocol = fault.At line (pattern_fault_number pattern.HasProtocol)
-reported_pattern line pattern.BadPort = fault.At line (pattern_fault_number pattern.BadPort)
-reported_pattern line pattern.BadClass = fault.At line (pattern_fault_number pattern.BadClass)
-reported_pattern line pattern.BadRegex = fault.At line (pattern_fault_number pattern.BadRegex)
-reported_pattern line pattern.EmptyLabel = fault.At line (pattern_fault_number pattern.EmptyLabel)
-reported_pattern line pattern.BadAddress = fault.At line (pattern_fault_number pattern.BadAddress)
+reported_pattern line f = reported line (pattern_fault_number f)
+
+-- the names of the refusals of files, and of the words and patterns in them, by their numbers
+unfoldable pub refusal_name : ℕ → List ℕ
+refusal_name number =
+    if number == 3 then codes "HasProtocol"
+    else if number == 4 then codes "BadPort"
+    else if number == 5 then codes "BadClass"
+    else if number == 6 then codes "BadRegex"
+    else if number == 7 then codes "EmptyLabel"
+    else if number == 12 then codes "UnknownAction"
+    else if number == 13 then codes "ParameterWanted"
+    else if number == 14 then codes "ParameterUnwanted"
+    else if number == 15 then codes "BadParameter"
+    else if number == 16 then codes "OpenBrace"
+    else if number == 17 then codes "PatternBeforeSection"
+    else if number == 18 then codes "SecondAliasBlock"
+    else if number == 19 then codes "LateAliasBlock"
+    else if number == 20 then codes "AliasTwice"
+    else if number == 42 then codes "BadAddress"
+    else if number == 44 then codes "BadBlock"
+    else []
+
+abbrev pub fault_number : FileFault → ℕ
+fault_number (fault.At line number) = number
+fault_number fault.Mem = 0
+
+abbrev pub fault_name : FileFault → List ℕ
+fault_name (fault.At line number) = refusal_name number
+fault_name fault.Mem = codes "Mem"

@@ -1,6 +1,6 @@
 -- Actions files: blocks of lines, each with a heading (the manual's chapter on actions files).
-use Rattle.std.specs.Prelude.{ℕ, ◌-◌, ◌==◌, ◌||◌, Bool, false, not, if◌then◌else◌, List, [], ◌∷◌, ◌++◌, length, take, drop, slice_index, Option, Some, None, Result, Ok, Err, is_some, unwrap_or, codes}
-use Rattle.std.specs.Str.{str_eq_ignore_ascii_case}
+use Rattle.std.specs.Prelude.{ℕ, ◌-◌, ◌==◌, ◌||◌, Bool, true, false, not, if◌then◌else◌, List, [], ◌∷◌, ◌++◌, length, take, drop, Result, Ok, Err, codes}
+use Rattle.std.specs.Str.{byte, str_eq_ignore_ascii_case}
 use Rattle.px_base.specs.Blanks.{trimmed}
 use Rattle.px_text.specs.declared.lines.Line.{Line}
 use Rattle.px_actions.specs.Braces.{is_closed, words}
@@ -8,7 +8,6 @@ use Rattle.px_action_files.specs.Aliases.{words_updates, aliases_of}
 use Rattle.px_action_files.specs.Faults.{result_map, Refused, refused, word_number, at_line, and_then}
 use Rattle.px_action_files.specs.Meanings.{SectionSeen, AliasSeen}
 use Rattle.px_action_files.specs.Patterns.{patterns_of}
-use Rattle.px_action_files.specs.declared.faults.TheConstants.{OPEN_BRACE, PATTERN_BEFORE_SECTION, SECOND_ALIAS_BLOCK, LATE_ALIAS_BLOCK, BAD_BLOCK}
 use Rattle.px_action_files.specs.declared.patterns.Pattern.{Pattern}
 use Rattle.px_actions.specs.declared.kinds.Kind.{Kind}
 use Rattle.px_actions.specs.declared.changes.Change.{Change}
@@ -18,7 +17,7 @@ use Rattle.px_actions.specs.declared.changes.Change.{Change}
 -- a text begins with an open brace
 abbrev pub begins_open : List ℕ → Bool
 begins_open [] = false
-begins_open (b ∷ rest) = b == 123
+begins_open (b ∷ rest) = b == byte "{"
 
 abbrev pub is_heading : Line → Bool
 is_heading line = begins_open line.text
@@ -44,20 +43,16 @@ abbrev pub block_named : List ℕ → Result HeadingSeen ℕ
 block_named name =
     if is_named name (codes "alias") then Ok alias_block
     else if is_named name (codes "settings") || is_named name (codes "description") then Ok ignored_block
-    else Err BAD_BLOCK
-
-abbrev pub ends_closed : List ℕ → Bool
-ends_closed text = slice_index text (length text - 1) == 125
+    else Err 44
 
 -- what stands between the braces of a heading: a name in braces of its own, or words
 abbrev pub heading_within : List ℕ → Result HeadingSeen ℕ
 heading_within inner =
-    if begins_open inner then (if ends_closed inner then block_named (trimmed (between_ends inner)) else Err BAD_BLOCK)
-    else Ok (section_of_words inner)
+    if begins_open inner then block_named (trimmed (between_ends inner)) else Ok (section_of_words inner)
 
 -- the heading of a text that begins with an open brace: its last byte is the brace that balances the first
 unfoldable pub heading_of : List ℕ → Result HeadingSeen ℕ
-heading_of text = if is_closed (drop 1 text) then heading_within (between_ends text) else Err OPEN_BRACE
+heading_of text = if is_closed (drop 1 text) then heading_within (between_ends text) else Err 16
 
 -- ---- blocks
 
@@ -85,16 +80,17 @@ cut (line ∷ lines) = with_line line (cut lines)
 
 -- ---- what blocks give
 
--- what a file gave so far: the aliases of its alias block, if it came, and the sections
+-- what a file gave so far: whether its alias block came, that block's aliases, and the sections
 pub record Given : Type 0 where
-  pub known : Option (List AliasSeen)
+  pub aliases_came : Bool
+  pub known : List AliasSeen
   pub sections : List SectionSeen
 
 abbrev pub with_aliases : Given → List AliasSeen → Given
-with_aliases given aliases = record { known = Some aliases; sections = given.sections }
+with_aliases given aliases = record { aliases_came = true; known = aliases; sections = given.sections }
 
 abbrev pub with_section : Given → SectionSeen → Given
-with_section given s = record { known = given.known; sections = given.sections ++ s ∷ [] }
+with_section given s = record { aliases_came = given.aliases_came; known = given.known; sections = given.sections ++ s ∷ [] }
 
 abbrev pub section_seen : ℕ → List (Kind × Change) → List Pattern → SectionSeen
 section_seen line updates patterns = record { line = line; updates = updates; patterns = patterns }
@@ -107,15 +103,15 @@ section_of known text line body =
 -- an alias block is the only one, and stands before the first section
 unfoldable pub alias_block_of : Given → ℕ → List Line → Result (List AliasSeen) Refused
 alias_block_of given line body =
-    if is_some given.known then refused line SECOND_ALIAS_BLOCK
-    else if not (length given.sections == 0) then refused line LATE_ALIAS_BLOCK
+    if given.aliases_came then refused line 18
+    else if not (length given.sections == 0) then refused line 19
     else aliases_of body []
 
 -- what a block adds
 abbrev pub after_heading : Given → ℕ → List Line → HeadingSeen → Result Given Refused
 after_heading given line body alias_block = result_map (with_aliases given) (alias_block_of given line body)
 after_heading given line body ignored_block = Ok given
-after_heading given line body (section_of_words text) = result_map (with_section given) (section_of (unwrap_or given.known []) text line body)
+after_heading given line body (section_of_words text) = result_map (with_section given) (section_of given.known text line body)
 
 unfoldable pub after_block : Given → Lines → Result Given Refused
 after_block given b = and_then (at_line b.heading.number (λ number. number) (heading_of b.heading.text)) (after_heading given b.heading.number b.body)
@@ -128,11 +124,11 @@ after_blocks (b ∷ blocks) given = and_then (after_block given b) (after_blocks
 -- ---- files
 
 abbrev pub nothing_given : Given
-nothing_given = record { known = None; sections = [] }
+nothing_given = record { aliases_came = false; known = []; sections = [] }
 
 abbrev pub behind_front : List Line → Result Given Refused → Result Given Refused
 behind_front [] given = given
-behind_front (line ∷ lines) given = refused line.number PATTERN_BEFORE_SECTION
+behind_front (line ∷ lines) given = refused line.number 17
 
 -- the sections of a file, or its first refusal: a line before the first heading comes first
 unfoldable pub file_sections : List Line → Result (List SectionSeen) Refused

@@ -1,5 +1,5 @@
 -- The patterns of sections (the manual's chapter on actions files, patterns).
-use Rattle.std.specs.Prelude.{ℕ, Bool, nat_eq, if◌then◌else◌, List, [], ◌∷◌, ◌++◌, length, drop, Option, Some, None, Result, Ok, Err}
+use Rattle.std.specs.Prelude.{ℕ, Bool, nat_eq, if◌then◌else◌, List, [], ◌∷◌, ◌++◌, length, drop, Option, Some, None, Result, Ok, Err, codes}
 use Rattle.std.specs.List.{starts_with}
 use Rattle.std.specs.Str.{is_utf8}
 use Rattle.px_text.specs.declared.lines.Line.{Line}
@@ -9,7 +9,6 @@ use Rattle.px_patterns.specs.declared.faults.PatternFault.{PatternFault}
 use Rattle.px_patterns.specs.declared.faults.PatternFault.TheVariants as fault
 use Rattle.px_patterns.specs.declared.patterns.TagPattern.{TagPattern}
 use Rattle.px_action_files.specs.Faults.{result_map, Refused, at_line, and_then}
-use Rattle.px_action_files.specs.declared.patterns.TheConstants.{TAG, NO_REQUEST_TAG, NO_RESPONSE_TAG, CLIENT_TAG}
 use Rattle.px_action_files.specs.declared.patterns.Pattern.{Pattern}
 use Rattle.px_action_files.specs.declared.patterns.Pattern.TheVariants as pattern
 use Rattle.px_action_files.specs.declared.patterns.Tags.{Tags}
@@ -17,10 +16,10 @@ use Rattle.px_action_files.specs.declared.patterns.Tags.TheVariants as tags
 
 -- the word with which the patterns of some tags begin
 abbrev pub word_of : Tags → List ℕ
-word_of tags.Any = TAG.now
-word_of tags.NoneOfRequest = NO_REQUEST_TAG.now
-word_of tags.NoneOfResponse = NO_RESPONSE_TAG.now
-word_of tags.OfClient = CLIENT_TAG.now
+word_of tags.Any = codes "TAG:"
+word_of tags.NoneOfRequest = codes "NO-REQUEST-TAG:"
+word_of tags.NoneOfResponse = codes "NO-RESPONSE-TAG:"
+word_of tags.OfClient = codes "CLIENT-TAG:"
 
 abbrev pub begins : List ℕ → Tags → Bool
 begins text which = starts_with nat_eq text (word_of which)

@@ -1,5 +1,5 @@
 -- Headings and readings of the program as plain data.
-use Rattle.std.specs.Prelude.{map, option_map}
+use Rattle.std.specs.Prelude.{map}
 use Rattle.px_action_files.specs.Files.{HeadingSeen, alias_block, ignored_block, section_of_words, Given}
 use Rattle.px_action_files.specs.Meanings.{seen_section, seen_alias}
 use Rattle.px_action_files.specs.declared.headings.Heading.{Heading}
@@ -12,4 +12,4 @@ seen_heading heading.Ignored = ignored_block
 seen_heading (heading.Section words) = section_of_words words.now
 
 abbrev pub seen_reading : Reading → Given
-seen_reading r = record { known = option_map (map seen_alias) r.known; sections = map seen_section r.sections }
+seen_reading r = record { aliases_came = r.aliases_came; known = map seen_alias r.known; sections = map seen_section r.sections }

@@ -1,12 +1,14 @@
 // Actions files.
-ghost use Rattle.std.specs.Prelude.{◌≡◌, ◌≤◌, [], length, map, Ok, IfErr, IfOk, OnOk};
+ghost use Rattle.std.specs.Prelude.{◌≡◌, ◌≤◌, [], length, map, option_map, slice_get, Ok, IfErr, IfOk, OnOk};
 ghost use Rattle.std.specs.List.{position_or_len};
 ghost use Rattle.px_action_files.specs.Faults.{IsReported};
-ghost use Rattle.px_action_files.specs.Files.{file_sections, cut, is_heading};
+ghost use Rattle.px_text.specs.declared.lines.Line.{Line};
+ghost use Rattle.px_action_files.specs.Files.{file_sections, cut, heading_of, is_heading};
+ghost use Rattle.px_action_files.specs.PatternLines.{pattern_lines, patterns_under};
 ghost use Rattle.px_action_files.specs.Meanings.{seen_section};
 
 use crate::faults::{FileFault, PATTERN_BEFORE_SECTION};
-use crate::headings::is_heading;
+use crate::headings::{is_heading, read_heading};
 use crate::readings::Reading;
 use crate::sections::Section;
 use px_base::List;
@@ -42,6 +44,34 @@ impl ActionFile {
         Ok(ActionFile {
             sections: reading.sections,
         })
+    }
+
+    /// The number of the line of a file's pattern number `n`, from 0, if its lines have so many patterns.
+    pub fn line_of_pattern(lines: &[Line], n: usize) -> Option<u32>
+        ensures { result ≡ option_map (λ (l : Line). l.number) (slice_get (pattern_lines lines.now) n) }
+    {
+        let (_, mut rest) = split_body(lines);
+        let mut left = n;
+        'headings: while let Some((heading, others)) = rest.split_first() {
+            let (body, later) = split_body(others);
+            let patterns = patterns_under(heading, body);
+            if left < patterns.len() {
+                return Some(patterns[left].number);
+            }
+            left -= patterns.len();
+            rest = later;
+        }
+        None
+    }
+}
+
+/// The lines below a heading that are patterns: all of them where it begins a section, else none.
+fn patterns_under<'l>(heading: &Line, body: &'l [Line]) -> &'l [Line]
+    ensures { result.now ≡ patterns_under (heading_of heading.now.text) body.now }
+{
+    match read_heading(heading.text.as_bytes()) {
+        Ok(headed) => { if headed.begins_section() { body } else { &[] } }
+        Err(_) => &[],
     }
 }
 

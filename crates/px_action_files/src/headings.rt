@@ -1,12 +1,12 @@
 // The headings of blocks.
-ghost use Rattle.std.specs.Prelude.{◌≡◌, ◌<◌, ◌-◌, Ok, Err, length, drop};
+ghost use Rattle.std.specs.Prelude.{◌≡◌, Ok, Err, drop};
 ghost use Rattle.px_action_files.specs.Faults.{result_map};
-ghost use Rattle.px_action_files.specs.Files.{begins_open, ends_closed, between_ends, is_heading, block_named, heading_within, heading_of};
+ghost use Rattle.px_action_files.specs.Files.{begins_open, without_last, between_ends, is_heading, block_named, heading_within, heading_of};
 ghost use Rattle.px_action_files.specs.Readings.{seen_heading};
 
 use crate::faults::{BAD_BLOCK, OPEN_BRACE};
-use px_actions::{is_closed, same_without_case};
-use px_base::trim;
+use px_actions::is_closed;
+use px_base::{same_without_case, trim};
 use px_text::Line;
 
 /// What a heading begins.
@@ -17,6 +17,24 @@ pub(crate) enum Heading<'a> {
     Ignored,
     /// A section of these words.
     Section(&'a [u8]),
+}
+
+impl Heading<'_> {
+    ghost use Rattle.std.specs.Prelude.{◌≡◌, List, [], Ok, if◌then◌else◌};
+    ghost use Rattle.px_text.specs.declared.lines.Line.{Line};
+    ghost use Rattle.px_action_files.specs.PatternLines.{patterns_under};
+    ghost use Rattle.px_action_files.specs.Readings.{seen_heading};
+
+    /// Whether the lines below are patterns.
+    pub(crate) fn begins_section(&self) -> bool
+        ensures { (body : List Line) → patterns_under (Ok (seen_heading self.now)) body ≡ (if result then body else []) }
+    {
+        match self {
+            Heading::Aliases => false,
+            Heading::Ignored => false,
+            Heading::Section(_) => true,
+        }
+    }
 }
 
 fn begins_open(text: &[u8]) -> bool
@@ -33,13 +51,6 @@ pub(crate) fn is_heading(line: &Line) -> bool
     ensures { result ≡ is_heading line.now }
 {
     begins_open(line.text.as_bytes())
-}
-
-fn ends_closed(text: &[u8]) -> bool
-    requires { 0 < length text.now }
-    ensures { result ≡ ends_closed text.now }
-{
-    text[text.len() - 1] == b'}'
 }
 
 /// The block of a name in braces of its own, without case.
@@ -62,10 +73,17 @@ fn heading_within(inner: &[u8]) -> Result<Heading<'_>, u8>
     if !begins_open(inner) {
         return Ok(Heading::Section(inner));
     }
-    if !ends_closed(inner) {
-        return Err(BAD_BLOCK);
+    block_named(trim(without_last(behind_first(inner))))
+}
+
+/// Without the last byte.
+fn without_last(text: &[u8]) -> &[u8]
+    ensures { result.now ≡ without_last text.now }
+{
+    match text.split_last() {
+        Some((_, rest)) => rest,
+        None => text,
     }
-    block_named(trim(&inner[1..inner.len() - 1]))
 }
 
 /// Without the first byte.
@@ -85,7 +103,7 @@ pub(crate) fn read_heading(text: &[u8]) -> Result<Heading<'_>, u8>
 {
     let rest = behind_first(text);
     if is_closed(rest) {
-        heading_within(&rest[..rest.len() - 1])
+        heading_within(without_last(rest))
     } else {
         Err(OPEN_BRACE)
     }

@@ -7,19 +7,18 @@ ghost use Rattle.px_action_files.specs.Faults.{result_map, IsReported, at_line};
 ghost use Rattle.px_action_files.specs.Patterns.{word_of, tags_of, pattern_on, pattern_by, line_pattern, patterns_of};
 
 use crate::faults::FileFault;
-use px_actions::as_text;
-use px_base::List;
+use px_base::{List, as_text};
 use px_patterns::{PatternFault, TagPattern, UrlPattern};
 use px_text::Line;
 use std::alloc::Global;
 
-pub const TAG: &str = "TAG:";
+const TAG: &str = "TAG:";
 
-pub const NO_REQUEST_TAG: &str = "NO-REQUEST-TAG:";
+const NO_REQUEST_TAG: &str = "NO-REQUEST-TAG:";
 
-pub const NO_RESPONSE_TAG: &str = "NO-RESPONSE-TAG:";
+const NO_RESPONSE_TAG: &str = "NO-RESPONSE-TAG:";
 
-pub const CLIENT_TAG: &str = "CLIENT-TAG:";
+const CLIENT_TAG: &str = "CLIENT-TAG:";
 
 /// A pattern that switches a section on.
 #[derive(Drop)]
@@ -149,12 +148,12 @@ pub(crate) fn read_patterns(alloc: Global, lines: &[Line]) -> Result<List<Patter
     ensures patterns { IfOk result (λ ps. patterns_of lines.now [] ≡ Ok ps) }
     ensures refused { IfErr result (IsReported (patterns_of lines.now [])) }
 {
-    let mut patterns = Vec::new(alloc);
+    let mut patterns = List::with_capacity(alloc, lines.len())?;
     let mut rest = lines;
     'lines: while let Some((line, others)) = rest.split_first() {
         let pattern = pattern_at(alloc, line)?;
-        patterns.push(pattern)?;
+        patterns.add(pattern)?;
         rest = others;
     }
-    Ok(List::from_vec(patterns))
+    Ok(patterns)
 }

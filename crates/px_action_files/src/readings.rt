@@ -1,5 +1,6 @@
 // Reading the blocks of a file one after another.
-use crate::aliases::{Alias, read_aliases};
+use crate::alias_tables::AliasTable;
+use crate::aliases::read_aliases;
 use crate::faults::{FileFault, LATE_ALIAS_BLOCK, SECOND_ALIAS_BLOCK};
 use crate::headings::{Heading, read_heading};
 use crate::section_readings::read_section;
@@ -8,16 +9,25 @@ use px_base::List;
 use px_text::Line;
 use std::alloc::Global;
 
+/// The most updates for which the aliases and the sections of a file may stand; more are want of memory. A file of
+/// 1,048,576 bytes has fewer updates of its own, since the shortest word and the white space behind it take seven bytes.
+/// Without this bound a chain of aliases, each of which names the one before twice, would take memory that doubles with
+/// each line.
+const MOST_UPDATES: usize = 262_144;
+
 /// What the blocks of a file gave so far.
 #[derive(Drop)]
 pub struct Reading {
-    /// The aliases of the alias block, if it came.
-    pub known: Option<List<Alias>>,
+    /// Whether the alias block came.
+    pub aliases_came: bool,
+    pub known: AliasTable,
     pub sections: List<Section>,
+    /// How many updates the blocks to come may stand for.
+    pub room: usize,
 }
 
 impl Reading {
-    ghost use Rattle.std.specs.Prelude.{◌≡◌, ◌==◌, [], Ok, None, IfErr, IfOk, OnOk, is_some, not, length, map, unwrap_or};
+    ghost use Rattle.std.specs.Prelude.{◌≡◌, ◌==◌, [], Ok, false, IfErr, IfOk, OnOk, not, length, map};
     ghost use Rattle.px_action_files.specs.Faults.{IsReported};
     ghost use Rattle.px_action_files.specs.Files.{lines_of, after_block, after_heading, alias_block_of, section_of};
     ghost use Rattle.px_action_files.specs.Meanings.{seen_alias, seen_section};
@@ -25,12 +35,15 @@ impl Reading {
 
     /// No block came.
     pub(crate) fn begin(alloc: Global) -> Reading
-        ensures known { result.known ≡ None }
+        ensures came { result.aliases_came ≡ false }
+        ensures known { result.known ≡ [] }
         ensures sections { result.sections ≡ [] }
     {
         Reading {
-            known: None,
+            aliases_came: false,
+            known: AliasTable::new(alloc),
             sections: List::new(alloc),
+            room: MOST_UPDATES,
         }
     }
 
@@ -68,27 +81,28 @@ impl Reading {
         match headed {
             Heading::Aliases => {
                 let aliases = self.alias_block(alloc, line, body)?;
-                self.known = Some(aliases);
+                self.room = self.room.saturating_sub(aliases.update_count());
+                self.known = aliases;
+                self.aliases_came = true;
                 Ok(())
             }
             Heading::Ignored => Ok(()),
             Heading::Section(words) => {
-                let section = self.section(alloc, words, line, body)?;
-                match self.sections.push(section) {
-                    Ok(()) => Ok(()),
-                    Err(_) => Err(FileFault::Mem),
-                }
+                let section = read_section(alloc, &self.known, words, line, body, self.room)?;
+                self.room = self.room.saturating_sub(section.updates.len());
+                self.sections.add(section)?;
+                Ok(())
             }
         }
     }
 
     /// The aliases of an alias block, which is the only one and stands before the first section.
     #[tactic(auto, unfolding(crate::specs::Files::alias_block_of))]
-    fn alias_block(&self, alloc: Global, line: u32, body: &[Line]) -> Result<List<Alias>, FileFault>
+    fn alias_block(&self, alloc: Global, line: u32, body: &[Line]) -> Result<AliasTable, FileFault>
         ensures aliases { IfOk result (λ known. alias_block_of (seen_reading self.now) line body.now ≡ Ok (map seen_alias known)) }
         ensures refused { IfErr result (IsReported (alias_block_of (seen_reading self.now) line body.now)) }
     {
-        if self.has_aliases() {
+        if self.aliases_came {
             return Err(FileFault::At {
                 line,
                 number: SECOND_ALIAS_BLOCK,
@@ -100,45 +114,12 @@ impl Reading {
                 number: LATE_ALIAS_BLOCK,
             });
         }
-        read_aliases(alloc, body)
-    }
-
-    fn has_aliases(&self) -> bool
-        ensures { result ≡ is_some (seen_reading self.now).known }
-    {
-        match &self.known {
-            Some(_) => true,
-            None => false,
-        }
+        read_aliases(alloc, body, self.room)
     }
 
     fn has_sections(&self) -> bool
         ensures { result ≡ not (length (seen_reading self.now).sections == 0) }
     {
         !self.sections.is_empty()
-    }
-
-    /// The aliases that sections see.
-    fn in_force(&self) -> &[Alias]
-        ensures { map seen_alias result.now ≡ unwrap_or (seen_reading self.now).known [] }
-    {
-        match &self.known {
-            Some(aliases) => aliases.as_slice(),
-            None => &[],
-        }
-    }
-
-    /// The section of a heading's words and of the lines below it.
-    fn section(
-        &self,
-        alloc: Global,
-        words: &[u8],
-        line: u32,
-        body: &[Line],
-    ) -> Result<Section, FileFault>
-        ensures section { IfOk result (λ s. section_of (unwrap_or (seen_reading self.now).known []) words.now line body.now ≡ Ok (seen_section s)) }
-        ensures refused { IfErr result (IsReported (section_of (unwrap_or (seen_reading self.now).known []) words.now line body.now)) }
-    {
-        read_section(alloc, self.in_force(), words, line, body)
     }
 }
