@@ -334,6 +334,16 @@ none-held : (raw held : List ℕ) → length (raw ++ held) ≤ length raw → he
 none-held raw [] h = refl
 none-held raw (x ∷ held) h = absurd (omega (arith, length-append raw (x ∷ held)))
 
+-- a whole chunked body is whole elements from its start
+pub whole-raw : (bytes : List ℕ) (p : Part) → IsChunked bytes p → p.state ≡ Whole → p.used ≡ length bytes → AreWhole Size bytes p.plain
+whole-raw bytes p x e n =
+    let body = subst (λ (s : State). Says s bytes p.used) e x.says in
+    let all : take p.used bytes ≡ bytes = take_all p.used bytes (omega arith) in
+    let most : length (take p.used bytes) ≤ length p.raw = x.longest (take p.used bytes) body.0 [] Done body.1 (sym (append-nil (take p.used bytes))) in
+    let none : x.held ≡ [] = none-held p.raw x.held (subst (λ (w : List ℕ). length w ≤ length p.raw) x.front most) in
+    let same : bytes ≡ p.raw = sym all ∙ x.front ∙ ap (λ (w : List ℕ). p.raw ++ w) none ∙ append-nil p.raw in
+    record { elements = x.elements.elements; next = x.next; leads = x.elements.leads; bytes_are = same ∙ x.elements.bytes_are; data_is = x.elements.data_is }
+
 -- the raw bytes of a whole chunked body are one
 pub raw-whole : (bytes : List ℕ) (p : Part) → IsChunked bytes p → p.state ≡ Whole → IsChunked p.raw (record p { used = length p.raw })
 raw-whole bytes p x e =

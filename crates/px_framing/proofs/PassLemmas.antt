@@ -202,7 +202,8 @@ end-due r settled_ = end-due-at r.stage r.kept settled_.settled ∙ ap (λ (p : 
 
 -- ---- data
 
-raw-put : (old new : Reading) (piece put : List ℕ) (used : ℕ) → PassesOn old.stage old.kept piece put used new.stage new.kept → IsSettled new → (goes_on old piece).raw ≡ put
+-- what is settled is what the reader reads in the piece
+pub raw-put : (old new : Reading) (piece put : List ℕ) (used : ℕ) → PassesOn old.stage old.kept piece put used new.stage new.kept → IsSettled new → (goes_on old piece).raw ≡ put
 unfolding goes_on
 raw-put old new piece put used a settled_ =
     let now : goes_on old piece ≡ before put a.data_put used (goes_on new []) = ap (goes_on old) (sym (append-nil piece)) ∙ a.same [] in

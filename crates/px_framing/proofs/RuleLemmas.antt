@@ -1,19 +1,21 @@
 -- Codings and lengths that are read one by one.
-use Rattle.std.proofs.Common.{◌≡◌, ℕ, ◌+◌, ◌-◌, ◌<◌, ◌≤◌, Bool, true, false, ◌==◌, not, ◌&&◌, ◌||◌, cond, List, [], ◌∷◌, ◌++◌, length, drop, get_or, Option, Some, None, Result, Ok, Err, refl, sym, ◌∙◌, ap, subst, ◌^◌, drop-cons, add-one, flat_map}
+use Rattle.std.proofs.Common.{◌≡◌, ℕ, ◌+◌, ◌-◌, ◌<◌, ◌≤◌, Bool, true, false, ◌==◌, not, ◌&&◌, ◌||◌, cond, List, [], ◌∷◌, ◌++◌, length, drop, get_or, Option, Some, None, Result, Ok, Err, refl, sym, ◌∙◌, ap, subst, drop-cons, add-one, flat_map}
 use Rattle.std.specs.Prelude.{option_map}
 use Rattle.std.specs.List.{list_all, slice_split}
 use Rattle.std.proofs.lemmas.List.{drop_all}
 use Rattle.px_base.specs.Blanks.{trimmed}
 use Rattle.px_base.specs.Cuts.{parts_of}
 use Rattle.px_base.specs.Numbers.{decimal}
+use Rattle.px_head.specs.Names.{has_name}
 use Rattle.px_head.specs.declared.fields.Field.{Field}
+use Rattle.px_framing.specs.Body.{body_limit}
 use Rattle.px_framing.specs.declared.rules.Seen.{Seen}
 use Rattle.px_framing.specs.declared.rules.Lengths.{Lengths}
 use Rattle.px_framing.specs.declared.rules.BodyRule.{BodyRule}
 use Rattle.px_framing.specs.declared.rules.BodyRule.TheVariants.{Length}
 use Rattle.px_framing.specs.declared.rules.BodyFault.{BodyFault}
 use Rattle.px_framing.specs.declared.rules.BodyFault.TheVariants.{TwoLengths, BadLength}
-use Rattle.px_framing.specs.Rules.{same_word, values, some_items, items_of, codings_name, lengths_name, are_chunked, end_chunked, with_length, lengths, length_rule}
+use Rattle.px_framing.specs.Rules.{values, some_items, items_of, codings_name, lengths_name, are_chunked, end_chunked, with_length, lengths, length_rule}
 use Rattle.px_framing.specs.Seen.{seen_one, seen_all, field_seen, length_at, length_seen, length_field, by_lengths}
 
 -- the items of what is left of a list
@@ -27,7 +29,7 @@ left (Some bs) = length bs + 1
 -- ---- fields one by one
 
 pub next-field : (name : List ℕ) (fields : List Field) (i : ℕ) (f : Field) → i < length fields → f ≡ get_or fields i f
-    → values name (drop i fields) ≡ cond (same_word f.name name) (f.value ∷ values name (drop (i + 1) fields)) (values name (drop (i + 1) fields))
+    → values name (drop i fields) ≡ cond (has_name name f) (f.value ∷ values name (drop (i + 1) fields)) (values name (drop (i + 1) fields))
 next-field name fields i f within is = rw (drop-cons fields i f, ← is, add-one) refl
 
 pub no-fields : (name : List ℕ) (fields : List Field) (i : ℕ) → length fields ≤ i → values name (drop i fields) ≡ []
@@ -47,7 +49,7 @@ seen-at false s v us = refl
 pub seen-next : (s t : Seen) (fields : List Field) (i : ℕ) (f : Field) → i < length fields → f ≡ get_or fields i f → t ≡ field_seen s f
     → seen_all s (flat_map items_of (values codings_name (drop i fields))) ≡ seen_all t (flat_map items_of (values codings_name (drop (i + 1) fields)))
 seen-next s t fields i f within is e =
-    ap (λ vs. seen_all s (flat_map items_of vs)) (next-field codings_name fields i f within is) ∙ seen-at (same_word f.name codings_name) s f.value (values codings_name (drop (i + 1) fields))
+    ap (λ vs. seen_all s (flat_map items_of vs)) (next-field codings_name fields i f within is) ∙ seen-at (has_name codings_name f) s f.value (values codings_name (drop (i + 1) fields))
     ∙ ap (λ (u : Seen). seen_all u (flat_map items_of (values codings_name (drop (i + 1) fields)))) (sym e)
 
 not-alone : (cs : List (List ℕ)) (c : List ℕ) (s : Seen) → s.any ≡ true → (seen_all s (c ∷ cs)).alone ≡ false
@@ -121,7 +123,7 @@ some-first : (o : Option ℕ) (d : Bool) (m : ℕ) → (length_at o d m).first �
 some-first None d m e = cc
 some-first (Some n) d m e = cc
 
-goes-at : (c : Bool) (o : Option ℕ) (other : BodyRule) (s : Lengths) (v : List ℕ) (us : List (List ℕ)) → decimal (2 ^ 63 - 1) v ≡ o → (s.first ≡ None → s.differ ≡ false)
+goes-at : (c : Bool) (o : Option ℕ) (other : BodyRule) (s : Lengths) (v : List ℕ) (us : List (List ℕ)) → decimal body_limit v ≡ o → (s.first ≡ None → s.differ ≡ false)
     → Goes other s (lengths (cond c (v ∷ us) us)) (lengths us) (cond c (option_map (length_seen s) o) (Some s))
 goes-at false o other s v us e none = (refl, none)
 goes-at true None other s v us e none = ap (λ x. finish other s.first s.differ (with_length x (lengths us))) e ∙ length-bad other s.first s.differ (lengths us)
@@ -132,9 +134,25 @@ goes-to : (other : BodyRule) (s : Lengths) (fields : List Field) (i : ℕ) (f : 
     → Goes other s (lengths (values lengths_name (drop i fields))) (lengths (values lengths_name (drop (i + 1) fields))) (length_field s f)
 goes-to other s fields i f within is none =
     subst (λ vs. Goes other s (lengths vs) (lengths (values lengths_name (drop (i + 1) fields))) (length_field s f)) (sym (next-field lengths_name fields i f within is))
-    (goes-at (same_word f.name lengths_name) (decimal (2 ^ 63 - 1) f.value) other s f.value (values lengths_name (drop (i + 1) fields)) refl none)
+    (goes-at (has_name lengths_name f) (decimal body_limit f.value) other s f.value (values lengths_name (drop (i + 1) fields)) refl none)
 
 pub length-next : (other : BodyRule) (s : Lengths) (fields : List Field) (i : ℕ) (f : Field) (o : Option Lengths) → i < length fields → f ≡ get_or fields i f → (s.first ≡ None → s.differ ≡ false) → o ≡ length_field s f
     → Goes other s (lengths (values lengths_name (drop i fields))) (lengths (values lengths_name (drop (i + 1) fields))) o
 length-next other s fields i f o within is none e =
     subst (Goes other s (lengths (values lengths_name (drop i fields))) (lengths (values lengths_name (drop (i + 1) fields)))) (sym e) (goes-to other s fields i f within is none)
+
+-- ---- the codings as a list
+
+-- the items of what is left, with the first one and without it
+pub items-next : (bytes first : List ℕ) (more : Option (List ℕ)) → slice_split (λ b. b == 44) bytes ≡ first ∷ parts_of 44 more
+    → items_left (Some bytes) ≡ cond (length (trimmed first) == 0) (items_left more) (trimmed first ∷ items_left more)
+items-next bytes first more is = ap some_items is
+
+-- one more field
+pub codings-next : (fields : List Field) (i : ℕ) (f : Field) → i < length fields → f ≡ get_or fields i f
+    → flat_map items_of (values codings_name (drop i fields)) ≡ cond (has_name codings_name f) (items_of f.value) [] ++ flat_map items_of (values codings_name (drop (i + 1) fields))
+codings-next fields i f within is = ap (flat_map items_of) (next-field codings_name fields i f within is) ∙ by (has_name codings_name f) f.value (values codings_name (drop (i + 1) fields))
+  where
+    by : (c : Bool) (v : List ℕ) (us : List (List ℕ)) → flat_map items_of (cond c (v ∷ us) us) ≡ cond c (items_of v) [] ++ flat_map items_of us
+    by true v us = refl
+    by false v us = refl

@@ -38,6 +38,10 @@ IsDataOf (stage.Chunks place room) bytes data_bytes = AreWhole place bytes data_
 abbrev pub data_in : Reading → List ℕ → List ℕ
 data_in r bytes = (goes_on r bytes).plain
 
+-- the bytes of whole elements among the bytes to come, behind those kept
+abbrev pub raw_in : Reading → List ℕ → List ℕ
+raw_in r bytes = (goes_on r bytes).raw
+
 -- From a stage, behind the bytes kept, so many bytes of a piece were used, and these put out. What all bytes are read to is the
 -- same before and behind.
 pub record PassesOn (old : Stage) (kept piece put : List ℕ) (used : ℕ) (new : Stage) (kept' : List ℕ) : Type 0 where

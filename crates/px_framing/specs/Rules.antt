@@ -1,12 +1,13 @@
 -- By which rule a body is read (RFC 9112, section 6.3).
-use Rattle.std.specs.Prelude.{ℕ, ◌-◌, ◌^◌, Bool, true, false, ◌&&◌, ◌||◌, ◌==◌, nat_le, if◌then◌else◌, List, [], ◌∷◌, length, map, codes, flat_map, Option, Some, None, Result, Ok, Err}
+use Rattle.std.specs.Prelude.{ℕ, Bool, true, false, ◌&&◌, ◌||◌, ◌==◌, nat_le, if◌then◌else◌, List, [], ◌∷◌, length, codes, flat_map, Option, Some, None, Result, Ok, Err}
 use Rattle.std.specs.List.{slice_split, list_all}
-use Rattle.std.specs.Char.{to_ascii_lowercase}
-use Rattle.std.specs.Str.{bytes_eq}
+use Rattle.std.specs.Str.{bytes_eq, str_eq_ignore_ascii_case}
 use Rattle.px_base.specs.Blanks.{trimmed}
 use Rattle.px_base.specs.Numbers.{decimal}
+use Rattle.px_head.specs.Names.{has_name}
 use Rattle.px_head.specs.declared.fields.Field.{Field}
 use Rattle.px_head.specs.declared.responses.ResponseHead.{ResponseHead}
+use Rattle.px_framing.specs.Body.{body_limit}
 use Rattle.px_framing.specs.declared.rules.BodyRule.{BodyRule}
 use Rattle.px_framing.specs.declared.rules.BodyRule.TheVariants.{Absent, Length, Chunked, ToClose}
 use Rattle.px_framing.specs.declared.rules.BodyFault.{BodyFault}
@@ -24,14 +25,10 @@ fault_name BadLength = codes "BadLength"
 fault_name LengthAndChunks = codes "LengthAndChunks"
 fault_name UnknownCoding = codes "UnknownCoding"
 
--- two words are the same without case
-unfoldable pub same_word : List ℕ → List ℕ → Bool
-same_word a b = bytes_eq (map to_ascii_lowercase a) (map to_ascii_lowercase b)
-
 -- the values of the fields of that name
 abbrev pub values : List ℕ → List Field → List (List ℕ)
 values name [] = []
-values name (f ∷ fs) = if same_word f.name name then f.value ∷ values name fs else values name fs
+values name (f ∷ fs) = if has_name name f then f.value ∷ values name fs else values name fs
 
 abbrev pub codings_name : List ℕ
 codings_name = codes "Transfer-Encoding"
@@ -58,7 +55,7 @@ abbrev pub codings_of : List Field → List (List ℕ)
 codings_of fields = flat_map items_of (values codings_name fields)
 
 abbrev pub is_chunked : List ℕ → Bool
-is_chunked coding = same_word coding (codes "chunked")
+is_chunked coding = str_eq_ignore_ascii_case coding (codes "chunked")
 
 -- the codings are `chunked` alone
 abbrev pub are_chunked : List (List ℕ) → Bool
@@ -81,7 +78,7 @@ with_length (Some n) (Some ns) = Some (n ∷ ns)
 -- the numbers below 2^63 that the values are, where each is one
 abbrev pub lengths : List (List ℕ) → Option (List ℕ)
 lengths [] = Some []
-lengths (v ∷ vs) = with_length (decimal (2 ^ 63 - 1) v) (lengths vs)
+lengths (v ∷ vs) = with_length (decimal body_limit v) (lengths vs)
 
 -- the rule that lengths give, and that other rule where there are none
 abbrev pub length_rule : BodyRule → Option (List ℕ) → Result BodyRule BodyFault

@@ -1,5 +1,5 @@
 -- What is remembered of codings and of lengths that are read one by one.
-use Rattle.std.specs.Prelude.{ℕ, ◌-◌, ◌^◌, option_map, Bool, true, not, ◌&&◌, ◌||◌, ◌==◌, if◌then◌else◌, List, [], ◌∷◌, Option, Some, None, Result, Ok, Err}
+use Rattle.std.specs.Prelude.{ℕ, option_map, Bool, true, not, ◌&&◌, ◌||◌, ◌==◌, if◌then◌else◌, List, [], ◌∷◌, Option, Some, None, Result, Ok, Err}
 use Rattle.px_framing.specs.declared.rules.Seen.{Seen}
 use Rattle.px_framing.specs.declared.rules.Lengths.{Lengths}
 use Rattle.px_framing.specs.declared.rules.BodyRule.{BodyRule}
@@ -7,8 +7,10 @@ use Rattle.px_framing.specs.declared.rules.BodyRule.TheVariants.{Length}
 use Rattle.px_framing.specs.declared.rules.BodyFault.{BodyFault}
 use Rattle.px_framing.specs.declared.rules.BodyFault.TheVariants.{TwoLengths}
 use Rattle.px_base.specs.Numbers.{decimal}
+use Rattle.px_head.specs.Names.{has_name}
 use Rattle.px_head.specs.declared.fields.Field.{Field}
-use Rattle.px_framing.specs.Rules.{is_chunked, same_word, items_of, codings_name, lengths_name}
+use Rattle.px_framing.specs.Body.{body_limit}
+use Rattle.px_framing.specs.Rules.{is_chunked, items_of, codings_name, lengths_name}
 
 -- one more coding
 abbrev pub seen_one : Seen → List ℕ → Seen
@@ -21,7 +23,7 @@ seen_all s (c ∷ cs) = seen_all (seen_one s c) cs
 
 -- the codings of one more field
 abbrev pub field_seen : Seen → Field → Seen
-field_seen s f = if same_word f.name codings_name then seen_all s (items_of f.value) else s
+field_seen s f = if has_name codings_name f then seen_all s (items_of f.value) else s
 
 -- one more length
 abbrev pub length_at : Option ℕ → Bool → ℕ → Lengths
@@ -34,7 +36,7 @@ length_seen seen m = length_at seen.first seen.differ m
 -- the length of one more field, unless its value is no length
 abbrev pub length_field : Lengths → Field → Option Lengths
 length_field seen f =
-    if same_word f.name lengths_name then option_map (length_seen seen) (decimal (2 ^ 63 - 1) f.value) else Some seen
+    if has_name lengths_name f then option_map (length_seen seen) (decimal body_limit f.value) else Some seen
 
 -- the rule of a first length, where others differed from it or not
 abbrev pub by_lengths : BodyRule → Option ℕ → Bool → Result BodyRule BodyFault

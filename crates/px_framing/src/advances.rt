@@ -4,7 +4,7 @@ ghost use Rattle.px_framing.specs.Reading.{IsHeld, IsSettledAt, Room, is_last};
 ghost use Rattle.px_framing.specs.Passing.{HasLineRoom, IsDataOf, Passes, settled};
 
 use crate::LINE_LIMIT;
-use crate::extracts::gather;
+use crate::extracts::keep_whole;
 use crate::lines::front;
 use crate::passes::pass_piece;
 use crate::places::{Place, State};
@@ -174,10 +174,7 @@ pub fn keep_data(stage: Stage, out: &mut Vec<u8>, from: usize)
     ensures { (data_bytes : List ℕ) → IsDataOf stage (drop from out.old.items) data_bytes → out.new.items ≡ take from out.old.items ++ data_bytes }
 {
     match stage {
-        Stage::Chunks(place, _) => {
-            let len = gather(place, out.as_mut_slice(), from);
-            out.truncate(len);
-        }
+        Stage::Chunks(place, _) => keep_whole(place, out, from),
         Stage::Ended(_) => {}
         Stage::Bytes(_) => {}
         Stage::Rest(_) => {}

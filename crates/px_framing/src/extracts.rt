@@ -1,13 +1,15 @@
 // The data of whole elements.
-ghost use Rattle.std.specs.Prelude.{◌≡◌, ◌+◌, ◌++◌, ◌<◌, ◌≤◌, length, take, drop, IfSome, Some, None, IsTrue, true, List, ℕ};
+ghost use Rattle.std.specs.Prelude.{◌≡◌, ◌+◌, ◌++◌, ◌<◌, ◌≤◌, length, take, drop, vec_len, IfSome, Some, None, IsTrue, true, List, ℕ};
+ghost use Rattle.px_framing.specs.Body.{Body, Part};
 ghost use Rattle.px_framing.specs.Elements.{AreWhole};
 ghost use Rattle.px_framing.specs.Extracts.{Divides};
 ghost use Rattle.px_framing.specs.Lines.{after, crlf, may_stand};
 ghost use Rattle.px_framing.specs.Reading.{is_line};
 
 use crate::lines::{Line, next_place};
-use crate::places::Place;
-use px_base::place;
+use crate::places::{Place, State};
+use crate::rules::BodyRule;
+use px_base::{Text, place};
 
 /// A line, or some bytes of data, at the front of whole elements.
 #[derive(Clone, Copy)]
@@ -91,7 +93,7 @@ fn next_run(before: Place, bytes: &[u8]) -> Option<Run>
 
 /// Moves the data of the whole elements behind the first `from` bytes to their front, in order, and answers where they end. It
 /// takes no memory.
-pub fn gather(start: Place, bytes: &mut [u8], from: usize) -> usize
+fn gather(start: Place, bytes: &mut [u8], from: usize) -> usize
     requires { from ≤ length bytes.old }
     ensures within { result ≤ length bytes.new }
     ensures len { length bytes.new ≡ length bytes.old }
@@ -112,4 +114,23 @@ pub fn gather(start: Place, bytes: &mut [u8], from: usize) -> usize
         }
     }
     to
+}
+
+/// Keeps of the whole elements behind the first `from` bytes their data alone.
+pub fn keep_whole(start: Place, out: &mut Vec<u8>, from: usize)
+    requires { from ≤ vec_len out.old }
+    ensures { (data_bytes : List ℕ) → AreWhole start (drop from out.old.items) data_bytes → out.new.items ≡ take from out.old.items ++ data_bytes }
+{
+    let len = gather(start, out.as_mut_slice(), from);
+    out.truncate(len);
+}
+
+/// The data of a whole chunked body, in the memory of its bytes. It takes no memory.
+pub fn data_of_whole(raw: Text) -> Text
+    requires { (p : Part) × Body BodyRule.Chunked raw p × (p.state ≡ State.Whole) × (p.used ≡ length raw) }
+    ensures { (p : Part) → Body BodyRule.Chunked raw p → result ≡ p.plain }
+{
+    let mut bytes = raw.into_vec();
+    keep_whole(Place::Size, &mut bytes, 0);
+    Text::from_vec(bytes)
 }

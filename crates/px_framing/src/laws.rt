@@ -6,6 +6,13 @@ ghost use Rattle.px_framing.specs.declared.rules.BodyRule.{BodyRule};
 
 use crate::places::State;
 use crate::rules::BodyRule;
+use crate::{BODY_LIMIT, LINE_LIMIT};
+
+/// The limits of a body and of its lines.
+pub fn constants()
+    ensures body_limit { BODY_LIMIT ≡ 9223372036854775807 }
+    ensures line_limit { LINE_LIMIT ≡ 8192 }
+{}
 
 /// However bytes are cut into pieces, they have one raw, one plain, one count of used bytes and one state.
 pub fn cuts_agree()

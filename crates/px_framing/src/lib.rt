@@ -3,6 +3,7 @@
 #![tactic(auto)]
 
 mod advances;
+mod codings;
 mod extracts;
 mod laws;
 mod lines;
@@ -14,7 +15,9 @@ mod stages;
 #[cfg(test)]
 mod tests;
 
-pub use laws::{body_is_one, body_is_read, cuts_agree, raw_is_whole, read_is_said};
+pub use codings::{codings as transfer_codings, is_chunked_alone};
+pub use extracts::data_of_whole;
+pub use laws::{body_is_one, body_is_read, constants, cuts_agree, raw_is_whole, read_is_said};
 pub use places::{Place, State};
 pub use readers::{BodyReader, Fed, Passed};
 pub use rules::{BodyFault, BodyRule, request_body, response_body};

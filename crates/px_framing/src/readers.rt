@@ -54,7 +54,7 @@ impl BodyReader {
     ghost use Rattle.px_framing.specs.Body.{Body, at_end};
     ghost use Rattle.px_framing.specs.declared.rules.BodyRule.{BodyRule};
     ghost use Rattle.px_framing.specs.Reading.{After, IsSettled, Steps, added, before, first};
-    ghost use Rattle.px_framing.specs.Passing.{bytes_left, data_in, due};
+    ghost use Rattle.px_framing.specs.Passing.{bytes_left, data_in, due, raw_in};
 
     /// A reader at the start of a body, which has put out nothing. It takes no memory.
     pub fn new(alloc: Global, rule: BodyRule) -> BodyReader
@@ -152,6 +152,39 @@ impl BodyReader {
         }
     }
 
+    /// Takes the next piece of the body, and puts its data alone at the end of `plain`. Once the state isn't `More` it stays, and
+    /// no byte is used. After `Mem` nothing has changed.
+    pub fn decode(&mut self, piece: &[u8], plain: &mut Text) -> Result<Fed, Mem>
+        ensures steps { IfOk result (λ fed. Steps self.old piece.now (raw_in self.old piece.now) (added plain.old plain.new) fed.used self.new) }
+        ensures due { IfOk result (λ fed. (rest : List ℕ) → due self.old (piece.now ++ rest) ≡ before (raw_in self.old piece.now) (added plain.old plain.new) fed.used (due self.new rest)) }
+        ensures plain { IfOk result (λ fed. plain.new ≡ plain.old ++ added plain.old plain.new) }
+        ensures state { IfOk result (λ fed. fed.state ≡ stage_state self.new.stage) }
+        ensures used { IfOk result (λ fed. Uses piece.now fed.used fed.state) }
+        ensures left { IfOk result (λ fed. fed.state ≡ State.More → bytes_left self.new.stage + fed.used ≡ bytes_left self.old.stage) }
+        ensures stays { stage_state self.old.stage ≢ State.More → IfOk result (λ fed. (fed.used ≡ 0) × (self.new ≡ self.old)) }
+        ensures after { IfOk result (λ fed. (rule : BodyRule) (bytes raw_put plain_put : List ℕ) (count : ℕ) → After rule bytes raw_put plain_put count self.old
+            → After rule (bytes ++ piece.now) (raw_put ++ raw_in self.old piece.now) (plain_put ++ added plain.old plain.new) (count + fed.used) self.new) }
+        ensures body { IfOk result (λ fed. (rule : BodyRule) (bytes raw_put plain_put : List ℕ) (count : ℕ) → After rule bytes raw_put plain_put count self.old
+            → Body rule (bytes ++ piece.now) (record { raw = raw_put ++ raw_in self.old piece.now; plain = plain_put ++ added plain.old plain.new; used = count + fed.used; state = fed.state })) }
+        ensures kept { length self.new.kept ≤ 8192 }
+        ensures err { OnErr result ((self.new ≡ self.old) × (plain.new ≡ plain.old)) }
+    {
+        let alloc = *self.kept.allocator();
+        let mut plain_bytes = replace(plain, Text::new(alloc)).into_vec();
+        let advanced = extract(self.stage, &mut self.kept, piece, &mut plain_bytes);
+        *plain = Text::from_vec(plain_bytes);
+        match advanced {
+            Ok(far) => {
+                self.stage = far.stage;
+                Ok(Fed {
+                    used: far.used,
+                    state: state_of(far.stage),
+                })
+            }
+            Err(Mem) => Err(Mem),
+        }
+    }
+
     /// Takes the end of the bytes: a body to the close is whole, and any other that isn't is cut. It takes no memory.
     pub fn end(&mut self) -> State
         ensures state { result ≡ end_state_spec self.old.stage }
@@ -198,6 +231,22 @@ fn advance(
     let far = add_settled(stage, kept, piece, raw);
     let len = plain.len();
     append(plain, &raw[from..]);
+    keep_data(stage, plain, len);
+    Ok(far)
+}
+
+/// Takes a piece, its data into `plain`.
+fn extract(stage: Stage, kept: &mut Vec<u8>, piece: &[u8], plain: &mut Vec<u8>) -> Result<Far, Mem>
+    requires settled { IsSettledAt stage kept.old.items }
+    requires short { length kept.old.items ≤ 8192 }
+    ensures passes { IfOk result (λ far. Passes stage kept.old.items piece.now far kept.new.items) }
+    ensures plain { IfOk result (λ far. (data_bytes : List ℕ) → IsDataOf stage (settled kept.old.items piece.now far.whole) data_bytes → plain.new.items ≡ plain.old.items ++ data_bytes) }
+    ensures err { OnErr result ((kept.new.items ≡ kept.old.items) × (plain.new.items ≡ plain.old.items)) }
+{
+    line_room(stage, kept, piece)?;
+    plain.reserve(kept.len() + piece.len())?;
+    let len = plain.len();
+    let far = add_settled(stage, kept, piece, plain);
     keep_data(stage, plain, len);
     Ok(far)
 }

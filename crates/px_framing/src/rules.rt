@@ -1,11 +1,11 @@
 // By which rule a body is read.
 ghost use Rattle.std.specs.Prelude.{◌≡◌};
-ghost use Rattle.px_framing.specs.Rules.{are_chunked, codings_name, codings_of, end_chunked, fault_name, fault_number, is_bodiless as is_bodiless_spec, items_of, length_rule, lengths, lengths_name, request_rule, response_rule, same_word as same_word_spec, stands as stands_spec, values};
+ghost use Rattle.px_framing.specs.Rules.{are_chunked, codings_name, codings_of, end_chunked, fault_name, fault_number, is_bodiless as is_bodiless_spec, items_of, length_rule, lengths, lengths_name, request_rule, response_rule, stands as stands_spec, values};
 ghost use Rattle.px_framing.specs.Seen.{by_lengths as by_lengths_spec, field_seen, length_field, length_seen, seen_all, seen_one};
 
 use crate::BODY_LIMIT;
-use px_base::{cut, read_decimal, trim};
-use px_head::{Field, ResponseHead};
+use px_base::{cut, read_decimal, same_without_case, trim};
+use px_head::{Field, ResponseHead, has_name};
 use std::error::Error;
 use std::fmt;
 
@@ -130,20 +130,12 @@ fn is_bodiless(status: u16, method: &[u8]) -> bool
         || status == 304
 }
 
-/// Whether two words are the same without case.
-#[tactic(auto, unfolding(crate::specs::Rules::same_word))]
-fn same_word(word: &[u8], known: &[u8]) -> bool
-    ensures { result ≡ same_word_spec word.now known.now }
-{
-    word.eq_ignore_ascii_case(known)
-}
-
 /// Whether a field of that name stands.
 fn stands(fields: &[Field], name: &[u8]) -> bool
     ensures { result ≡ stands_spec (values name.now fields.now) }
 {
     for field in fields {
-        if same_word(field.name.as_bytes(), name) {
+        if has_name(field, name) {
             return true;
         }
     }
@@ -159,7 +151,7 @@ pub struct Seen {
 }
 
 /// Reads the codings of all Transfer-Encoding fields.
-fn read_codings(fields: &[Field]) -> Seen
+pub fn read_codings(fields: &[Field]) -> Seen
     ensures alone { result.alone ≡ are_chunked (codings_of fields.now) }
     ensures last { result.last ≡ end_chunked (codings_of fields.now) }
 {
@@ -178,7 +170,7 @@ fn read_codings(fields: &[Field]) -> Seen
 fn read_field(field: &Field, seen: Seen) -> Seen
     ensures { result ≡ field_seen seen field.now }
 {
-    if same_word(field.name.as_bytes(), b"Transfer-Encoding") {
+    if has_name(field, b"Transfer-Encoding") {
         read_items(field.value.as_bytes(), seen)
     } else {
         seen
@@ -206,7 +198,7 @@ fn read_items(value: &[u8], seen: Seen) -> Seen
 fn read_coding(coding: &[u8], seen: Seen) -> Seen
     ensures { result ≡ seen_one seen coding.now }
 {
-    let chunked = same_word(coding, b"chunked");
+    let chunked = same_without_case(coding, b"chunked");
     Seen {
         any: true,
         alone: !seen.any && chunked,
@@ -242,7 +234,7 @@ fn read_lengths(fields: &[Field], other: BodyRule) -> Result<BodyRule, BodyFault
 fn read_length(field: &Field, seen: Lengths) -> Option<Lengths>
     ensures { result ≡ length_field seen field.now }
 {
-    if same_word(field.name.as_bytes(), b"Content-Length") {
+    if has_name(field, b"Content-Length") {
         match read_decimal(field.value.as_bytes(), BODY_LIMIT) {
             None => None,
             Some(length) => Some(add_length(length, seen)),
@@ -268,6 +260,7 @@ fn add_length(length: u64, seen: Lengths) -> Lengths
     }
 }
 
+/// The rule that the lengths that were seen give.
 fn by_lengths(seen: Lengths, other: BodyRule) -> Result<BodyRule, BodyFault>
     ensures { result ≡ by_lengths_spec other seen.first seen.differ }
 {

@@ -1,5 +1,8 @@
 //! Body rules, and bodies in pieces.
-use crate::{BODY_LIMIT, BodyFault, BodyReader, BodyRule, State, request_body, response_body};
+use crate::{
+    BODY_LIMIT, BodyFault, BodyReader, BodyRule, State, is_chunked_alone, request_body,
+    response_body, transfer_codings,
+};
 use px_base::{List, Text};
 use px_head::{Field, RequestHead, ResponseHead};
 use std::alloc::Global;
@@ -30,22 +33,20 @@ fn fed(
     let mut state = reader.state();
     let mut at = 0usize;
     for cut in cuts {
-        if at <= *cut && *cut <= bytes.len() {
-            let took = reader
-                .feed(&bytes[at..*cut], &mut raw, &mut plain)
-                .expect(rt, "memory");
-            used = used.saturating_add(took.used);
-            state = took.state;
-            at = *cut;
-        }
-    }
-    if at <= bytes.len() {
+        assert!(rt; at <= *cut && *cut <= bytes.len());
         let took = reader
-            .feed(&bytes[at..], &mut raw, &mut plain)
+            .feed(&bytes[at..*cut], &mut raw, &mut plain)
             .expect(rt, "memory");
         used = used.saturating_add(took.used);
         state = took.state;
+        at = *cut;
     }
+    assert!(rt; at <= bytes.len());
+    let took = reader
+        .feed(&bytes[at..], &mut raw, &mut plain)
+        .expect(rt, "memory");
+    used = used.saturating_add(took.used);
+    state = took.state;
     if ends {
         state = reader.end();
     }
@@ -57,43 +58,47 @@ fn fed(
     }
 }
 
-/// Passes the bytes in pieces that end at the cuts, and answers with the raw bytes, how many were used, and the state.
+/// Passes a piece with one reader and decodes it with another.
+fn take(
+    rt: &impl Abort,
+    passing: &mut BodyReader,
+    decoding: &mut BodyReader,
+    piece: &[u8],
+    got: &mut Got,
+) {
+    let passed = passing.pass(piece, &mut got.raw).expect(rt, "memory");
+    assert!(rt; passed.whole <= piece.len());
+    got.raw
+        .push_all(&piece[..passed.whole])
+        .expect(rt, "memory");
+    let decoded = decoding.decode(piece, &mut got.plain).expect(rt, "memory");
+    assert!(rt; decoded.used == passed.used && decoded.state == passed.state);
+    got.used = got.used.saturating_add(passed.used);
+    got.state = passed.state;
+}
+
+/// Passes and decodes the bytes of a chunked body in pieces that end at the cuts.
 fn passed(rt: &impl Abort, alloc: Global, bytes: &[u8], cuts: &[usize], ends: bool) -> Got {
-    let mut reader = BodyReader::new(alloc, BodyRule::Chunked);
-    let mut raw = Text::new(alloc);
-    let mut used = 0usize;
-    let mut state = reader.state();
+    let mut passing = BodyReader::new(alloc, BodyRule::Chunked);
+    let mut decoding = BodyReader::new(alloc, BodyRule::Chunked);
+    let mut got = Got {
+        raw: Text::new(alloc),
+        plain: Text::new(alloc),
+        used: 0,
+        state: State::More,
+    };
     let mut at = 0usize;
     for cut in cuts {
-        if at <= *cut && *cut <= bytes.len() {
-            let piece = &bytes[at..*cut];
-            let took = reader.pass(piece, &mut raw).expect(rt, "memory");
-            if took.whole <= piece.len() {
-                raw.push_all(&piece[..took.whole]).expect(rt, "memory");
-            }
-            used = used.saturating_add(took.used);
-            state = took.state;
-            at = *cut;
-        }
+        assert!(rt; at <= *cut && *cut <= bytes.len());
+        take(rt, &mut passing, &mut decoding, &bytes[at..*cut], &mut got);
+        at = *cut;
     }
-    if at <= bytes.len() {
-        let piece = &bytes[at..];
-        let took = reader.pass(piece, &mut raw).expect(rt, "memory");
-        if took.whole <= piece.len() {
-            raw.push_all(&piece[..took.whole]).expect(rt, "memory");
-        }
-        used = used.saturating_add(took.used);
-        state = took.state;
-    }
+    assert!(rt; at <= bytes.len());
+    take(rt, &mut passing, &mut decoding, &bytes[at..], &mut got);
     if ends {
-        state = reader.end();
+        got.state = passing.end();
     }
-    Got {
-        raw,
-        plain: Text::new(alloc),
-        used,
-        state,
-    }
+    got
 }
 
 #[derive(Drop)]
@@ -114,43 +119,21 @@ fn is_row(got: &Got, row: &Row<'_>) -> bool {
         && got.raw.as_bytes() == &row.bytes[..row.raw]
 }
 
+/// A row for these cuts, fed, passed and decoded.
+fn check_cuts(rt: &impl Abort, alloc: Global, row: &Row<'_>, cuts: &[usize]) {
+    let got = fed(rt, alloc, BodyRule::Chunked, row.bytes, cuts, row.ends);
+    assert!(rt; is_row(&got, row));
+    assert!(rt; is_row(&passed(rt, alloc, row.bytes, cuts, row.ends), row));
+}
+
 /// A row for the bytes whole, for every cut into two, and for single bytes.
 fn check_row(rt: &impl Abort, alloc: Global, row: Row<'_>) {
     let mut all = Vec::new(alloc);
     for i in 0..row.bytes.len() {
-        let one = [i];
-        let got = fed(
-            rt,
-            alloc,
-            BodyRule::Chunked,
-            row.bytes,
-            one.as_slice(),
-            row.ends,
-        );
-        assert!(rt; is_row(&got, &row));
-        let other = passed(rt, alloc, row.bytes, one.as_slice(), row.ends);
-        assert!(rt;
-            other.raw.as_bytes() == got.raw.as_bytes()
-                && other.used == got.used
-                && other.state == got.state
-        );
+        check_cuts(rt, alloc, &row, [i].as_slice());
         all.push(i).expect(rt, "memory");
     }
-    let got = fed(
-        rt,
-        alloc,
-        BodyRule::Chunked,
-        row.bytes,
-        all.as_slice(),
-        row.ends,
-    );
-    assert!(rt; is_row(&got, &row));
-    let other = passed(rt, alloc, row.bytes, all.as_slice(), row.ends);
-    assert!(rt;
-        other.raw.as_bytes() == got.raw.as_bytes()
-            && other.used == got.used
-            && other.state == got.state
-    );
+    check_cuts(rt, alloc, &row, all.as_slice());
 }
 
 #[test]
@@ -241,6 +224,87 @@ fn a_size_line_has_at_most_256_bytes(rt: HostRuntime) {
             },
         );
     }
+}
+
+/// `front`, so many bytes, and `end`.
+fn with_filling(rt: &impl Abort, alloc: Global, front: &[u8], filling: usize, end: &[u8]) -> Text {
+    let mut text = Text::from_bytes(alloc, front).expect(rt, "memory");
+    for _ in 0..filling {
+        text.push(b'x').expect(rt, "memory");
+    }
+    text.push_all(end).expect(rt, "memory");
+    text
+}
+
+#[test]
+fn sizes_are_hexadecimal_in_either_case(rt: HostRuntime) {
+    let alloc = rt.alloc();
+    let rows: [(&[u8], usize, usize); 3] = [
+        (b"3f4\r\n", 1_012, 1_024),
+        (b"3f5\r\n", 1_013, 1_025),
+        (b"3F5\r\n", 1_013, 1_025),
+    ];
+    for (size, len, all) in rows {
+        let body = with_filling(&rt, alloc, size, len, b"\r\n0\r\n\r\n");
+        let got = fed(
+            &rt,
+            alloc,
+            BodyRule::Chunked,
+            body.as_bytes(),
+            [2, 700].as_slice(),
+            false,
+        );
+        assert!(rt; got.state == State::Whole && got.used == all && got.raw.len() == all);
+        assert!(rt; got.plain.len() == len);
+    }
+}
+
+#[test]
+fn a_trailer_line_has_at_most_8192_bytes(rt: HostRuntime) {
+    let alloc = rt.alloc();
+    for (len, state, used) in [
+        (8_190, State::Whole, 8_197),
+        (8_191, State::Misframed, 8_194),
+    ] {
+        let body = with_filling(&rt, alloc, b"0\r\n", len, b"\r\n\r\n");
+        let cuts = [4, 8_000];
+        let got = fed(
+            &rt,
+            alloc,
+            BodyRule::Chunked,
+            body.as_bytes(),
+            cuts.as_slice(),
+            false,
+        );
+        assert!(rt; got.state == state && got.used == used);
+        let got = passed(&rt, alloc, body.as_bytes(), cuts.as_slice(), false);
+        assert!(rt; got.state == state && got.used == used);
+    }
+}
+
+/// `0`, seven trailer lines of 8,192 bytes, one of so many, and the last line.
+fn trailers(rt: &impl Abort, alloc: Global, last: usize) -> Text {
+    let mut body = Text::from_bytes(alloc, b"0\r\n").expect(rt, "memory");
+    for _ in 0..7 {
+        let line = with_filling(rt, alloc, b"", 8_190, b"\r\n");
+        body.push_all(line.as_bytes()).expect(rt, "memory");
+    }
+    let line = with_filling(rt, alloc, b"", last, b"\r\n\r\n");
+    body.push_all(line.as_bytes()).expect(rt, "memory");
+    body
+}
+
+#[test]
+fn trailer_lines_have_at_most_65536_bytes(rt: HostRuntime) {
+    let alloc = rt.alloc();
+    let whole = trailers(&rt, alloc, 8_190);
+    let got = passed(&rt, alloc, whole.as_bytes(), [5].as_slice(), false);
+    assert!(rt; got.state == State::Whole && got.used == 65_541 && got.raw.len() == 65_541);
+    let mut longer = trailers(&rt, alloc, 8_189);
+    longer.truncate(65_538);
+    longer.push_all(b"x\r\n\r\n").expect(&rt, "memory");
+    let got = passed(&rt, alloc, longer.as_bytes(), [5].as_slice(), false);
+    assert!(rt; got.state == State::Misframed && got.raw.len() == 65_538);
 }
 
 #[test]
@@ -381,15 +445,52 @@ fn fields_give_a_rule_or_a_refusal(rt: HostRuntime) {
         let of_response = response_head(&rt, alloc, b"HTTP/1.1 200 OK", fields);
         assert_eq!(rt; response_body(&of_response, b"GET"), response);
         assert_eq!(rt; response_body(&of_response, b"HEAD"), Ok(BodyRule::Absent));
-        for line in [
-            b"HTTP/1.1 100 Continue".as_slice(),
-            b"HTTP/1.1 204 No Content".as_slice(),
-            b"HTTP/1.1 304 Not Modified".as_slice(),
-        ] {
-            let bodiless = response_head(&rt, alloc, line, fields);
-            assert_eq!(rt; response_body(&bodiless, b"GET"), Ok(BodyRule::Absent));
-        }
     }
     assert!(rt; BodyFault::TwoLengths.number() == 37 && BodyFault::UnknownCoding.number() == 40);
     assert_eq!(rt; BodyFault::LengthAndChunks.name(), "LengthAndChunks");
+}
+
+#[test]
+fn some_statuses_have_no_body(rt: HostRuntime) {
+    let alloc = rt.alloc();
+    let bodiless: [&[u8]; 4] = [
+        b"HTTP/1.1 100 Continue",
+        b"HTTP/1.1 199 x",
+        b"HTTP/1.1 204 No Content",
+        b"HTTP/1.1 304 Not Modified",
+    ];
+    let fields = b"content-LENGTH: 7\r\n";
+    for line in bodiless {
+        let head = response_head(&rt, alloc, line, fields);
+        assert_eq!(rt; response_body(&head, b"GET"), Ok(BodyRule::Absent));
+    }
+    let others: [&[u8]; 4] = [
+        b"HTTP/1.1 200 OK",
+        b"HTTP/1.1 205 x",
+        b"HTTP/1.1 303 x",
+        b"HTTP/1.1 305 x",
+    ];
+    for line in others {
+        let head = response_head(&rt, alloc, line, fields);
+        assert_eq!(rt; response_body(&head, b"head"), Ok(BodyRule::Length(7)));
+        assert_eq!(rt; response_body(&head, b"HEAD"), Ok(BodyRule::Absent));
+    }
+}
+
+#[test]
+fn codings_are_handed_out_as_received(rt: HostRuntime) {
+    let alloc = rt.alloc();
+    let fields = request_fields(
+        &rt,
+        alloc,
+        b"Transfer-Encoding: GZip ,, \r\nA: b\r\ntransfer-encoding: ,chunked\r\n",
+    );
+    let items = transfer_codings(alloc, fields.as_slice()).expect(&rt, "memory");
+    let items = items.as_slice();
+    assert!(rt; items.len() == 2 && !is_chunked_alone(fields.as_slice()));
+    assert!(rt;
+        items[0].as_bytes() == b"GZip".as_slice() && items[1].as_bytes() == b"chunked".as_slice()
+    );
+    let alone = request_fields(&rt, alloc, b"Transfer-Encoding: , Chunked\r\n");
+    assert!(rt; is_chunked_alone(alone.as_slice()));
 }

@@ -1,5 +1,5 @@
 use Rattle.std.proofs.Common.{◌∙◌, sym, ap}
-use Rattle.px_framing.specs.Rules.{lengths}
+use Rattle.px_framing.specs.Rules.{lengths, lengths_name}
 use Rattle.px_framing.proofs.RuleLemmas.{finish, length-next, length-end, no-fields}
 use Rattle.px_framing.proofs.rules.read_lengths.Goals as goal
 
@@ -16,5 +16,5 @@ loop-field-preserved c =
 pub returns : goal.returns
 returns c =
     c.by_lengths.ensures ∙ sym (length-end c.args.other c.loop-field.seen.first c.loop-field.seen.differ)
-    ∙ sym (ap (λ vs. finish c.args.other c.loop-field.seen.first c.loop-field.seen.differ (lengths vs)) (no-fields _ c.args.fields.now c.loop-field.field-index c.loop-field-test.false))
+    ∙ sym (ap (λ vs. finish c.args.other c.loop-field.seen.first c.loop-field.seen.differ (lengths vs)) (no-fields lengths_name c.args.fields.now c.loop-field.field-index c.loop-field-test.false))
     ∙ sym c.loop-field.invariant.rule
