@@ -78,14 +78,10 @@ seen_here seen worker number = by_test (worker == worker) refl
 used_sound : (seen : ℕ → ℕ) (worker number : ℕ) (ss : List Session) → seen worker ≤ number → All (Sound seen) ss
     → All (Sound (with_seen seen worker number)) (with_used worker number ss)
 used_sound seen worker number [] le all = all_none (Sound (with_seen seen worker number))
-used_sound seen worker number (s ∷ ss) le all = by_test (s.worker == worker) refl
+used_sound seen worker number (s ∷ ss) le all = by_test (s.worker == worker) refl (used_sound seen worker number ss le (all_tail (Sound seen) s ss all))
   where
-    P : Session → Type 0
-    P = Sound (with_seen seen worker number)
-    up : (w : ℕ) → seen w ≤ with_seen seen worker number w
-    up w = seen_rises seen worker number w le
-    by_test : (b : Bool) → (s.worker == worker) ≡ b → All (Sound (with_seen seen worker number)) (with_used worker number (s ∷ ss))
-    by_test true e =
+    by_test : (b : Bool) → (s.worker == worker) ≡ b → All (Sound (with_seen seen worker number)) (with_used worker number ss) → All (Sound (with_seen seen worker number)) (with_used worker number (s ∷ ss))
+    by_test true e rest =
         let same : s.worker ≡ worker = grind (arith, nat_tests) in
         let here : with_seen seen worker number s.worker ≡ number = rw same (seen_here seen worker number) in
         let old : Rises s.handed s.numbers (seen s.worker) = all_head (Sound seen) s ss all in
@@ -93,11 +89,10 @@ used_sound seen worker number (s ∷ ss) le all = by_test (s.worker == worker) r
         let more : Rises s.handed (s.numbers ++ number ∷ []) (with_seen seen worker number s.worker) = rw here (rises_more s.handed (seen s.worker) number s.numbers old below) in
         rw e (all_cons (Sound (with_seen seen worker number)) (record { worker = s.worker; handed = s.handed; numbers = s.numbers ++ number ∷ [] }) ss more
         (sound_up seen (with_seen seen worker number) ss (λ w. seen_rises seen worker number w le) (all_tail (Sound seen) s ss all)))
-    by_test false e =
+    by_test false e rest =
         let old : Rises s.handed s.numbers (seen s.worker) = all_head (Sound seen) s ss all in
         rw e (all_cons (Sound (with_seen seen worker number)) s (with_used worker number ss)
-        (rises_up s.handed (seen s.worker) (with_seen seen worker number s.worker) s.numbers old (seen_rises seen worker number s.worker le))
-        (used_sound seen worker number ss le (all_tail (Sound seen) s ss all)))
+        (rises_up s.handed (seen s.worker) (with_seen seen worker number s.worker) s.numbers old (seen_rises seen worker number s.worker le)) rest)
 
 module _ {C : Type 0} where
   kept_after : (core : Core C) (event : Event C) → MayCome core event → Kept core → Kept (after core event)
@@ -154,11 +149,11 @@ hands ss = map (λ (s : Session). s.handed) ss
 
 used_hands : (worker number : ℕ) (ss : List Session) → hands (with_used worker number ss) ≡ hands ss
 used_hands worker number [] = refl
-used_hands worker number (s ∷ ss) = by_test (s.worker == worker) refl
+used_hands worker number (s ∷ ss) = by_test (s.worker == worker) refl (used_hands worker number ss)
   where
-    by_test : (b : Bool) → (s.worker == worker) ≡ b → hands (with_used worker number (s ∷ ss)) ≡ hands (s ∷ ss)
-    by_test true e = rw e refl
-    by_test false e = rw e (ap (λ hs. s.handed ∷ hs) (used_hands worker number ss))
+    by_test : (b : Bool) → (s.worker == worker) ≡ b → hands (with_used worker number ss) ≡ hands ss → hands (with_used worker number (s ∷ ss)) ≡ hands (s ∷ ss)
+    by_test true e rest = rw e refl
+    by_test false e rest = rw e (ap (λ hs. s.handed ∷ hs) rest)
 
 -- those behind the first n, counted from the oldest, were handed out at m or later
 record Late (n m : ℕ) (hs : List ℕ) : Type 0 where
@@ -187,6 +182,9 @@ all_take : {A : Type 0} (P : A → Type 0) (k : ℕ) (xs : List A) → All P xs 
 all_take P zero xs all = all_none P
 all_take P (suc k) [] all = all_none P
 all_take P (suc k) (x ∷ xs) all = all_cons P x (take k xs) (all_head P x xs all) (all_take P k xs (all_tail P x xs all))
+
+join_all : {A : Type 0} (P Q R : A → Type 0) (xs : List A) → ((x : A) → P x → Q x → R x) → All P xs → All Q xs → All R xs
+join_all P Q R xs f p q k d lt = f _ (p k d lt) (q k d lt)
 
 hands_length : (ss : List Session) → length (hands ss) ≡ length ss
 hands_length [] = refl
@@ -217,9 +215,6 @@ module _ {C : Type 0} where
       let l = late_run old events (length old.sessions) m le (late_none (length old.sessions) m (hands old.sessions) (sym (hands_length old.sessions))) in
       late_sessions m (length now.sessions - length old.sessions) now.sessions
       (subst (λ k. All (λ h. m ≤ h) (take (k - length old.sessions) (hands now.sessions))) (hands_length now.sessions) l.late)
-
-  join_all : {A : Type 0} (P Q R : A → Type 0) (xs : List A) → ((x : A) → P x → Q x → R x) → All P xs → All Q xs → All R xs
-  join_all P Q R xs f p q k d lt = f _ (p k d lt) (q k d lt)
 
   pub none_older : (first : C) (before events : List (Event C)) → MayAllCome (start first) (before ++ events)
       → (s : Session) (number : ℕ) → Contains (run (start first) before).sessions s → Contains s.numbers number
