@@ -1,0 +1,5 @@
+mod ViewLemmas
+mod FrontLemmas
+mod Adding
+mod Keeps
+mod ScheduleLemmas
