@@ -1,5 +1,5 @@
 -- The schedule core, over every list of events.
-use Rattle.std.proofs.Common.{◌≡◌, ℕ, zero, suc, ◌+◌, ◌-◌, ◌≤◌, ◌<◌, ◌==◌, Bool, true, false, List, [], ◌∷◌, ◌++◌, length, take, map, All, Contains, refl, ap, sym, ◌∙◌, subst, arith, length-append}
+use Rattle.std.proofs.Common.{◌≡◌, ℕ, zero, suc, ◌+◌, ◌-◌, ◌≤◌, ◌==◌, Bool, true, false, List, [], ◌∷◌, ◌++◌, length, take, map, All, Contains, refl, ap, sym, subst, arith, length-append}
 use Rattle.std.proofs.lemmas.Bool.Decides.{nat_tests}
 use Rattle.px_publish.specs.Schedule.{Session, Core, Event, Publish, HandOut, Use, newest, start, with_seen, with_used, after, MayCome, run, MayAllCome, Rises, begun_since}
 
@@ -225,8 +225,8 @@ module _ {C : Type 0} where
       let rises : Rises s.handed s.numbers (newest old) = all_contains (λ (t : Session). Rises t.handed t.numbers (newest old)) old.sessions s (rise first before (front_may (start first) before events may)) has in
       let most : number ≤ newest old = all_contains (λ n. n ≤ newest old) s.numbers number (rises_most s.handed (newest old) s.numbers rises) uses in
       let late : All (λ (t : Session). number ≤ t.handed) (begun_since old now) =
-          subst (λ (core : Core C). All (λ (t : Session). number ≤ t.handed) (begun_since old core)) (sym (run_append (start first) before events)) (begun_late old events number most) in
+      subst (λ (core : Core C). All (λ (t : Session). number ≤ t.handed) (begun_since old core)) (sym (run_append (start first) before events)) (begun_late old events number most) in
       let sound : All (λ (t : Session). Rises t.handed t.numbers (newest now)) (begun_since old now) =
-          all_take (λ (t : Session). Rises t.handed t.numbers (newest now)) (length now.sessions - length old.sessions) now.sessions (rise first (before ++ events) may) in
+      all_take (λ (t : Session). Rises t.handed t.numbers (newest now)) (length now.sessions - length old.sessions) now.sessions (rise first (before ++ events) may) in
       join_all (λ (t : Session). number ≤ t.handed) (λ (t : Session). Rises t.handed t.numbers (newest now)) (λ (t : Session). Rises number t.numbers (newest now)) (begun_since old now)
       (λ t le r. rises_down t.handed number (newest now) t.numbers r le) late sound

@@ -126,13 +126,9 @@ impl<C> Front<C> {
         let mut offer: Offer<C, (), Law<C>, Nothing> = seen.plain::<Nothing, C, Add>(config);
         let mut pen = seen.no_pen();
         let number = self.number;
-        let found = head.word.compare_exchange::<Add, Nothing>(
-            number,
-            number + 1,
-            &mut seen,
-            &mut offer,
-            &mut pen,
-        );
+        let found = head
+            .word
+            .compare_exchange::<Add, Nothing>(number, number + 1, &mut seen, &mut offer, &mut pen);
         if found != number {
             return false;
         }

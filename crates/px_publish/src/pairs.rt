@@ -33,7 +33,12 @@ pub fn publish_pair<C: Drop, R: Wait>(
         config: first,
         front,
     };
-    let writer = Writer::new(alloc, Shared::of(&newest), Shared::of(&newest), count as usize)?;
+    let writer = Writer::new(
+        alloc,
+        Shared::of(&newest),
+        Shared::of(&newest),
+        count as usize,
+    )?;
     let (mut writer, told) = show(rt, writer, Shared::of(&newest));
     if !told {
         Publisher::over(writer, head, newest).end(rt);

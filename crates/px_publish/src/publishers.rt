@@ -69,7 +69,11 @@ impl<C: Drop> Publisher<C> {
         )
     }
 
-    fn published_by<R: Wait>(self, rt: &R, config: Arc<C>) -> (Publisher<C>, Result<Receipt<C>, Mem>)
+    fn published_by<R: Wait>(
+        self,
+        rt: &R,
+        config: Arc<C>,
+    ) -> (Publisher<C>, Result<Receipt<C>, Mem>)
         requires { length (published self) < 2 ^ 64 }
         ensures pair { pair_of result.0 ≡ pair_of self }
         ensures added { OnOk result.1 (published result.0 ≡ published self ++ arc_value config ∷ []) }

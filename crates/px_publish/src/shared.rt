@@ -60,7 +60,11 @@ impl<C: Drop> Absorb<Shared<C>> for Shared<C> {
 
     ghost never_fails = { Unit {0} };
 
-    fn absorb_first(&mut self, operation: &Shared<C>, _other: &Shared<C>) -> Result<(), AllocError> {
+    fn absorb_first(
+        &mut self,
+        operation: &Shared<C>,
+        _other: &Shared<C>,
+    ) -> Result<(), AllocError> {
         let config = match &operation.config {
             Some(config) => another_owner(config).ok(),
             None => None,

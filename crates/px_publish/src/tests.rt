@@ -5,6 +5,7 @@ ghost use Rattle.px_publish.specs.Views.{Pair};
 use crate::*;
 use px_base::List;
 use std::alloc::Global;
+use std::process::Abort;
 use std::sync::{Arc, Wait};
 use std::thread::{Threads, join};
 
@@ -22,7 +23,11 @@ fn config(rt: &impl Abort, alloc: Global, number: u64) -> Arc<u64> {
 }
 
 /// A pair whose first configuration is 70.
-fn pair<R: Abort + Wait>(rt: &R, alloc: Global, readers: u32) -> (Publisher<u64>, Vec<ConfigReader<u64>>)
+fn pair<R: Abort + Wait>(
+    rt: &R,
+    alloc: Global,
+    readers: u32,
+) -> (Publisher<u64>, Vec<ConfigReader<u64>>)
     requires some { 0 < readers }
     requires places { readers ≤ 64 }
     ensures list { length (published result.0) ≡ 1 }
@@ -35,15 +40,29 @@ fn pair<R: Abort + Wait>(rt: &R, alloc: Global, readers: u32) -> (Publisher<u64>
     }
 }
 
-fn first_of(rt: &impl Abort, mut readers: Vec<ConfigReader<u64>>) -> ConfigReader<u64>
+fn first_of(mut readers: Vec<ConfigReader<u64>>) -> ConfigReader<u64>
     requires { 0 < vec_len readers }
     ensures { (pair : Pair) → All (λ r. reader_pair r ≡ pair) readers.items → reader_pair result ≡ pair }
 {
-    let _ = rt;
     readers.remove(0)
 }
 
-fn publish<R: Abort + Wait>(rt: &R, alloc: Global, publisher: &mut Publisher<u64>, number: u64) -> Receipt<u64>
+/// A pair with one reader.
+fn pair_of_one<R: Abort + Wait>(rt: &R, alloc: Global) -> (Publisher<u64>, ConfigReader<u64>)
+    ensures list { length (published result.0) ≡ 1 }
+    ensures pair { reader_pair result.1 ≡ pair_of result.0 }
+{
+    let (publisher, readers) = pair(rt, alloc, 1);
+    let reader = first_of(readers);
+    (publisher, reader)
+}
+
+fn publish<R: Abort + Wait>(
+    rt: &R,
+    alloc: Global,
+    publisher: &mut Publisher<u64>,
+    number: u64,
+) -> Receipt<u64>
     requires { length (published publisher.old) < 2 ^ 64 }
     ensures pair { pair_of publisher.new ≡ pair_of publisher.old }
     ensures list { length (published publisher.new) ≡ length (published publisher.old) + 1 }
@@ -58,11 +77,13 @@ fn publish<R: Abort + Wait>(rt: &R, alloc: Global, publisher: &mut Publisher<u64
 #[test]
 fn a_reader_that_looks_after_each_publish_sees_it(rt: HostRuntime) {
     let alloc = rt.alloc();
-    let (mut publisher, readers) = pair(&rt, alloc, 1);
-    let mut reader = first_of(&rt, readers);
+    let (mut publisher, mut reader) = pair_of_one(&rt, alloc);
     assert_eq!(rt; entry(&reader), (0, 70));
     let first = publish(&rt, alloc, &mut publisher, 80);
-    assert_eq!(rt; (first.snapshot().number, *first.snapshot().config), (1, 80));
+    assert_eq!(rt;
+        (first.snapshot().number, *first.snapshot().config),
+        (1, 80)
+    );
     assert_eq!(rt; entry(&reader), (0, 70));
     reader.look();
     assert_eq!(rt; entry(&reader), (1, 80));
@@ -80,8 +101,7 @@ fn a_reader_that_looks_after_each_publish_sees_it(rt: HostRuntime) {
 #[test]
 fn a_reader_learns_receipts(rt: HostRuntime) {
     let alloc = rt.alloc();
-    let (mut publisher, readers) = pair(&rt, alloc, 1);
-    let mut reader = first_of(&rt, readers);
+    let (mut publisher, mut reader) = pair_of_one(&rt, alloc);
     let first = publish(&rt, alloc, &mut publisher, 80);
     let second = publish(&rt, alloc, &mut publisher, 90);
     assert!(rt; publisher.covers(&reader));
@@ -93,7 +113,10 @@ fn a_reader_learns_receipts(rt: HostRuntime) {
     assert_eq!(rt; entry(&reader), (2, 90));
     assert!(rt; publisher.covers(&reader));
     match publisher.receipt() {
-        Ok(newest) => assert_eq!(rt; (newest.snapshot().number, *newest.snapshot().config), (2, 90)),
+        Ok(newest) => assert_eq!(rt;
+            (newest.snapshot().number, *newest.snapshot().config),
+            (2, 90)
+        ),
         Err(_) => panic!(rt; "no receipt"),
     }
     match reader.owner() {
@@ -147,21 +170,22 @@ fn one_configuration_stays(rt: HostRuntime) {
     }
 }
 
-/// Publishes 1,000 configurations, and ends. It says whether all were published.
-fn publish_all<R: Wait>(rt: &R, alloc: Global, mut publisher: Publisher<u64>) -> bool
-    requires { length (published publisher) ≡ 1 }
-{
+/// Publishes 1,000 configurations, and says whether all were published.
+fn publish_all<R: Wait>(rt: &R, alloc: Global, publisher: &mut Publisher<u64>) -> bool {
+    let Ok(newest) = publisher.receipt() else {
+        return false;
+    };
+    if newest.snapshot().number > 0 {
+        return false;
+    }
     for number in 0..1000u64 {
         let Ok(config) = Arc::new(alloc, number) else {
-            publisher.end(rt);
             return false;
         };
         if publisher.publish(rt, config).is_err() {
-            publisher.end(rt);
             return false;
         }
     }
-    publisher.end(rt);
     true
 }
 
@@ -182,16 +206,12 @@ fn look_often(mut reader: ConfigReader<u64>) -> (bool, u64) {
 fn side_by_side<R: Threads + Wait + Sync>(
     rt: &R,
     alloc: Global,
-    publisher: Publisher<u64>,
+    publisher: &mut Publisher<u64>,
     reader: ConfigReader<u64>,
-) -> (bool, (bool, u64))
-    requires { length (published publisher) ≡ 1 }
-{
+) -> (bool, (bool, u64)) {
     join(
         rt,
-        move || -> bool
-            requires { length (published publisher) ≡ 1 }
-        { publish_all(rt, alloc, publisher) },
+        || publish_all(rt, alloc, publisher),
         move || look_often(reader),
     )
 }
@@ -199,9 +219,9 @@ fn side_by_side<R: Threads + Wait + Sync>(
 #[test]
 fn no_number_falls_beside_a_publisher(rt: HostRuntime) {
     let alloc = rt.alloc();
-    let (publisher, readers) = pair(&rt, alloc, 1);
-    let reader = first_of(&rt, readers);
-    let (published, (rose, last)) = side_by_side(&rt, alloc, publisher, reader);
+    let (mut publisher, reader) = pair_of_one(&rt, alloc);
+    let (published, (rose, last)) = side_by_side(&rt, alloc, &mut publisher, reader);
+    publisher.end(&rt);
     assert!(rt; published);
     assert!(rt; rose);
     assert!(rt; last <= 1000);

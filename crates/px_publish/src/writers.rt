@@ -11,7 +11,11 @@ use std::alloc::Global;
 use std::sync::Wait;
 
 /// Shows readers the entry, and says whether it did. It didn't where memory was wanting.
-pub fn show<C: Drop, R: Wait>(rt: &R, mut writer: ListWriter<C>, entry: Shared<C>) -> (ListWriter<C>, bool)
+pub fn show<C: Drop, R: Wait>(
+    rt: &R,
+    mut writer: ListWriter<C>,
+    entry: Shared<C>,
+) -> (ListWriter<C>, bool)
     requires { Begins writer.desk.shown.value.front.seen entry.front.seen }
     ensures shown { Begins result.0.desk.shown.value.front.seen entry.front.seen }
     ensures told { IsTrue result.1 → view result.0.desk.place ≡ Some entry.front.seen }

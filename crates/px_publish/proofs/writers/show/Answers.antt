@@ -1,4 +1,4 @@
-use Rattle.std.proofs.Common.{◌≡◌, ap, drop}
+use Rattle.std.proofs.Common.{ap, drop}
 use Rattle.px_publish.proofs.Keeps.{grows, step_grows, shown_begins, told_entry}
 use Rattle.px_publish.proofs.writers.show.Goals as goal
 

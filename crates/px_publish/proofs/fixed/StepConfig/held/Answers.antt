@@ -1,4 +1,4 @@
-use Rattle.std.proofs.Common.{◌≡◌, ◌-◌, arith}
+use Rattle.std.proofs.Common.{◌-◌, arith}
 use Rattle.std.specs.Arc.{arc_value}
 use Rattle.px_publish.proofs.ViewLemmas.{behind_first, behind_at}
 use Rattle.px_publish.proofs.fixed.StepConfig.held.Goals as goal

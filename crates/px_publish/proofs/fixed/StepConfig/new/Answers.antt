@@ -1,4 +1,3 @@
-use Rattle.std.proofs.Common.{◌≡◌, ap, sym, subst, length}
 use Rattle.std.specs.Arc.{arc_value}
 use Rattle.px_publish.proofs.ViewLemmas.{taken_in_turn}
 use Rattle.px_publish.proofs.fixed.StepConfig.new.Goals as goal

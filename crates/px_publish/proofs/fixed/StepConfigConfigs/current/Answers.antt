@@ -1,4 +1,4 @@
-use Rattle.std.proofs.Common.{◌≡◌, ◌∙◌, arith}
+use Rattle.std.proofs.Common.{◌∙◌, arith}
 use Rattle.std.specs.Arc.{arc_value}
 use Rattle.px_publish.proofs.ViewLemmas.{current_behind}
 use Rattle.px_publish.proofs.fixed.StepConfigConfigs.current.Goals as goal

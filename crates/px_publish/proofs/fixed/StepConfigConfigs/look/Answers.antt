@@ -1,4 +1,4 @@
-use Rattle.std.proofs.Common.{◌≡◌, ◌+◌, ◌≤◌, length, map, add-zero, arith}
+use Rattle.std.proofs.Common.{◌≡◌, ◌≤◌, length, map, add-zero, arith}
 use Rattle.std.proofs.lemmas.List.{length-map}
 use Rattle.std.specs.Arc.{arc_value}
 use Rattle.px_publish.proofs.ViewLemmas.{takes_on, ends_in, entry_past}

@@ -1,4 +1,4 @@
-use Rattle.std.proofs.Common.{◌≡◌, ◌∷◌, map, take, arith}
+use Rattle.std.proofs.Common.{◌∷◌, map, take, arith}
 use Rattle.std.specs.Arc.{arc_value}
 use Rattle.px_publish.proofs.ViewLemmas.{owner_behind, owner_is}
 use Rattle.px_publish.proofs.fixed.StepConfigConfigs.owner.Goals as goal

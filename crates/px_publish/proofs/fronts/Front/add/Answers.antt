@@ -1,6 +1,5 @@
-use Rattle.std.proofs.Common.{rules, ◌≡◌, ap, sym, ◌∙◌, length}
+use Rattle.std.proofs.Common.{ap, sym, ◌∙◌, length}
 use Rattle.px_publish.proofs.Adding.{adds_moves}
-use Rattle.px_publish.proofs.ViewLemmas.{last_added}
 use Rattle.px_publish.proofs.fronts.Front.add.Goals as goal
 
 pub compare_exchange-found-requires : goal.compare_exchange-found-requires

@@ -1,4 +1,4 @@
-use Rattle.std.proofs.Common.{◌≡◌, subst}
+use Rattle.std.proofs.Common.{subst}
 use Rattle.px_publish.specs.Views.{GoesOn}
 use Rattle.px_publish.proofs.ViewLemmas.{prefix_goes_on, not_false}
 use Rattle.px_publish.proofs.publishers.Publisher.covers.Goals as goal

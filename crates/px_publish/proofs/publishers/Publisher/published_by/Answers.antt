@@ -1,4 +1,4 @@
-use Rattle.std.proofs.Common.{◌≡◌, ap}
+use Rattle.std.proofs.Common.{ap}
 use Rattle.px_publish.proofs.Keeps.{begins_added}
 use Rattle.px_publish.proofs.publishers.Publisher.published_by.Goals as goal
 
