@@ -94,6 +94,11 @@ goes-line p n k k' text bytes l h e f a c =
           ∙ (λ i. before (sym a i) m.data_put (length (sym a i)) (reads (sym c i) (sym f i) rest));
     }
 
+-- the CRLF behind the data
+pub goes-gap : (k bytes : List ℕ) → k ≡ [] → bytes ≡ crlf → Goes Gap k bytes bytes Size k
+unfolding may_stand after
+goes-gap k bytes none is = goes-line Gap Size k k [] bytes refl refl none none is refl
+
 -- ---- what is held
 
 held-line : (p : Place) (k : List ℕ) → is_line p ≡ true → IsOpen p k → IsHeld p k
