@@ -1,15 +1,14 @@
 -- The data of whole elements, run by run.
-use Rattle.std.proofs.Common.{◌≡◌, ℕ, zero, suc, ◌+◌, ◌-◌, ◌<◌, ◌≤◌, ◌⊎◌, inl, inr, Bool, true, false, not, ◌==◌, cond, List, [], ◌∷◌, ◌++◌, length, take, drop, Option, Some, None, IsTrue, refl, sym, ◌∙◌, ap, subst, arith, append_assoc, flat_map, length-append, eqb-true, lt-ltb}
+use Rattle.std.proofs.Common.{◌≡◌, ℕ, zero, suc, ◌+◌, ◌-◌, ◌<◌, ◌≤◌, Bool, true, false, not, ◌==◌, cond, List, [], ◌∷◌, ◌++◌, length, take, drop, Option, Some, IsTrue, refl, sym, ◌∙◌, ap, subst, arith, append_assoc, flat_map, length-append, eqb-true, lt-ltb}
 use Rattle.std.specs.List.{position, position_or_len, copy_within}
-use Rattle.std.proofs.lemmas.List.{append-nil, take_all, take_at, drop_all, drop-drop, length-drop, length-take-le}
-use Rattle.std.proofs.lemmas.List.Edits.{take-paste, drop-paste, length-paste}
+use Rattle.std.proofs.lemmas.List.{append-nil, take_at, drop_all, drop-drop, length-drop}
+use Rattle.std.proofs.lemmas.List.Edits.{take-paste, drop-paste}
 use Rattle.std.proofs.Math.Seq.{drop-append_seam, paste}
 use Rattle.px_framing.specs.declared.places.Place.{Place}
 use Rattle.px_framing.specs.declared.places.Place.TheVariants.{Size, Data, Gap, Trailers, Done, Wrong}
 use Rattle.px_framing.specs.declared.lines.Line.{Line}
-use Rattle.px_framing.specs.declared.extracts.Run.{Run}
 use Rattle.px_framing.specs.Lines.{crlf, may_stand, after, data_place}
-use Rattle.px_framing.specs.Elements.{Element, print, data_of, Follows, Leads, AreWhole}
+use Rattle.px_framing.specs.Elements.{Element, print, data_of, Leads, AreWhole}
 use Rattle.px_framing.specs.Extracts.{Divides}
 use Rattle.px_framing.specs.Reading.{is_line, is_last}
 use Rattle.px_framing.proofs.LineLemmas.{no_cr}

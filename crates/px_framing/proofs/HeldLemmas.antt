@@ -6,9 +6,10 @@ use Rattle.px_framing.specs.declared.places.Place.{Place}
 use Rattle.px_framing.specs.declared.places.Place.TheVariants.{Size, Data, Gap, Trailers, Done, Wrong}
 use Rattle.px_framing.specs.declared.places.Verdict.TheVariants as verdict
 use Rattle.px_framing.specs.Lines.{crlf, may_stand, after, after_size, size_of, IsOpen}
-use Rattle.px_framing.specs.Reading.{before, ends_in_cr, without_last, verdict_of, is_line, reads, IsHeld, Moves}
+use Rattle.px_framing.specs.Reading.{before, ends_in_cr, without_last, verdict_of, is_line, reads, IsHeld}
+use Rattle.px_framing.specs.Passing.{Goes}
 use Rattle.px_framing.proofs.LineLemmas.{closed, no_cr, ends_in}
-use Rattle.px_framing.proofs.MoveLemmas.{move-open, move-line, moves-on}
+use Rattle.px_framing.proofs.MoveLemmas.{move-open, move-line, goes-then}
 
 -- ---- the last byte
 
@@ -71,31 +72,32 @@ lf-byte p k h =
     let front : ends_in_cr (k ++ 13 ∷ []) ≡ true = cr-push k 13 in
     rw (front, without-push k 13, h) refl
 
-line-from : (p : Place) (k t r : List ℕ) → is_line p ≡ true → IsTrue (may_stand p (k ++ t)) → Moves p k (t ++ crlf) r (r ++ ((k ++ t) ++ crlf)) [] [] (after p (k ++ t)) []
-line-from p k [] r l h =
+line-from : (p : Place) (k t : List ℕ) → is_line p ≡ true → IsTrue (may_stand p (k ++ t)) → Goes p k (t ++ crlf) ((k ++ t) ++ crlf) (after p (k ++ t)) []
+line-from p k [] l h =
     let stands = subst (λ (w : List ℕ). IsTrue (may_stand p w)) (append-nil k) h in
     let bytes : (k ++ 13 ∷ []) ++ 10 ∷ [] ≡ (k ++ []) ++ crlf = append_assoc k (13 ∷ []) (10 ∷ []) ∙ ap (λ (w : List ℕ). w ++ crlf) (sym (append-nil k)) in
-    moves-on p p (after p (k ++ [])) k (k ++ 13 ∷ []) [] (13 ∷ []) (10 ∷ []) r r (r ++ ((k ++ []) ++ crlf)) [] [] []
-    (move-open p k (k ++ 13 ∷ []) r 13 l (cr-byte p k stands) refl)
-    (move-line p (after p (k ++ [])) (k ++ 13 ∷ []) [] r (r ++ ((k ++ []) ++ crlf)) 10 l (ap (λ (w : List ℕ). verdict.Line (after p w)) (append-nil k) ∙ lf-byte p k stands) (ap (λ (w : List ℕ). r ++ w) (sym bytes)) refl)
-line-from p k (b ∷ t) r l h =
+    subst (λ (w : List ℕ). Goes p k crlf w (after p (k ++ [])) []) bytes
+    (goes-then p p (after p (k ++ [])) k (k ++ 13 ∷ []) [] (13 ∷ []) (10 ∷ []) [] ((k ++ 13 ∷ []) ++ 10 ∷ []) (move-open p k (k ++ 13 ∷ []) 13 l (cr-byte p k stands) refl)
+    (move-line p (after p (k ++ [])) (k ++ 13 ∷ []) [] 10 l (ap (λ (w : List ℕ). verdict.Line (after p w)) (append-nil k) ∙ lf-byte p k stands) refl))
+line-from p k (b ∷ t) l h =
     let on : (k ++ b ∷ []) ++ t ≡ k ++ b ∷ t = append_assoc k (b ∷ []) t in
-    let rest = line-from p (k ++ b ∷ []) t r l (subst (λ (w : List ℕ). IsTrue (may_stand p w)) (sym on) h) in
-    let rest' = subst (λ (w : List ℕ). Moves p (k ++ b ∷ []) (t ++ crlf) r (r ++ (w ++ crlf)) [] [] (after p w) []) on rest in
-    moves-on p p (after p (k ++ b ∷ t)) k (k ++ b ∷ []) [] (b ∷ []) (t ++ crlf) r r (r ++ ((k ++ b ∷ t) ++ crlf)) [] [] []
-    (move-open p k (k ++ b ∷ []) r b l (open-byte p k b t h) refl) rest'
+    let rest = line-from p (k ++ b ∷ []) t l (subst (λ (w : List ℕ). IsTrue (may_stand p w)) (sym on) h) in
+    let rest' = subst (λ (w : List ℕ). Goes p (k ++ b ∷ []) (t ++ crlf) (w ++ crlf) (after p w) []) on rest in
+    goes-then p p (after p (k ++ b ∷ t)) k (k ++ b ∷ []) [] (b ∷ []) (t ++ crlf) [] ((k ++ b ∷ t) ++ crlf) (move-open p k (k ++ b ∷ []) b l (open-byte p k b t h) refl) rest'
 
 -- a line by its text
-pub moves-line : (p n : Place) (k k' text bytes r r' : List ℕ) → is_line p ≡ true → IsTrue (may_stand p text) → k ≡ [] → k' ≡ [] → bytes ≡ text ++ crlf → r' ≡ r ++ bytes → n ≡ after p text → Moves p k bytes r r' [] [] n k'
-moves-line p n k k' text bytes r r' l h e f a b c =
-    let m = line-from p [] text r l h in record {
-      put = m.put;
+pub goes-line : (p n : Place) (k k' text bytes : List ℕ) → is_line p ≡ true → IsTrue (may_stand p text) → k ≡ [] → k' ≡ [] → bytes ≡ text ++ crlf → n ≡ after p text → Goes p k bytes bytes n k'
+goes-line p n k k' text bytes l h e f a c =
+    let m = line-from p [] text l h in record {
       data_put = m.data_put;
-      raw_is = b ∙ ap (λ (w : List ℕ). r ++ w) a ∙ m.raw_is;
-      plain_is = m.plain_is;
       same = λ rest. ap (λ (w : List ℕ). reads p w (bytes ++ rest)) e ∙ ap (λ (w : List ℕ). reads p [] (w ++ rest)) a ∙ m.same rest
-          ∙ (λ i. before m.put m.data_put (length (sym a i)) (reads (sym c i) (sym f i) rest));
+          ∙ (λ i. before (sym a i) m.data_put (length (sym a i)) (reads (sym c i) (sym f i) rest));
     }
+
+-- the CRLF behind the data
+pub goes-gap : (k bytes : List ℕ) → k ≡ [] → bytes ≡ crlf → Goes Gap k bytes bytes Size k
+unfolding may_stand after
+goes-gap k bytes none is = goes-line Gap Size k k [] bytes refl refl none none is refl
 
 -- ---- what is held
 

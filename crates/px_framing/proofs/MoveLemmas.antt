@@ -1,13 +1,14 @@
 -- A byte, a run of data and a whole line further, and moves one after another.
 use Rattle.std.proofs.Common.{◌≡◌, ℕ, zero, suc, ◌+◌, ◌-◌, ◌<◌, ◌≤◌, true, false, List, [], ◌∷◌, ◌++◌, length, take, drop, refl, sym, ◌∙◌, ap, subst, arith, append_assoc, length-append}
-use Rattle.std.proofs.lemmas.List.{append-nil, take_all}
+use Rattle.std.proofs.lemmas.List.{take_all}
 use Rattle.px_framing.specs.declared.places.Place.{Place}
 use Rattle.px_framing.specs.declared.places.Place.TheVariants.{Size, Data, Gap, Trailers, Done, Wrong}
 use Rattle.px_framing.specs.declared.places.Verdict.{Verdict}
 use Rattle.px_framing.specs.declared.places.Verdict.TheVariants as verdict
 use Rattle.px_framing.specs.Lines.{data_place}
 use Rattle.px_framing.specs.Body.{Part}
-use Rattle.px_framing.specs.Reading.{before, verdict_of, Step, line_step, step, is_last, is_line, reads, Moves}
+use Rattle.px_framing.specs.Reading.{before, verdict_of, Step, line_step, step, is_last, is_line, reads}
+use Rattle.px_framing.specs.Passing.{Goes}
 
 -- ---- what was read before
 
@@ -16,25 +17,19 @@ before-before r1 q1 r2 q2 n1 n2 p =
     let e : n1 + (n2 + p.used) ≡ n1 + n2 + p.used = omega arith in
     λ i. record { raw = sym (append_assoc r1 r2 p.raw) i; plain = sym (append_assoc q1 q2 p.plain) i; used = e i; state = p.state }
 
-pub before-same : (r r' q q' : List ℕ) (n n' : ℕ) (p p' : Part) → r ≡ r' → q ≡ q' → n ≡ n' → p ≡ p' → before r q n p ≡ before r' q' n' p'
-before-same r r' q q' n n' p p' a b c d = λ i. before (a i) (b i) (c i) (d i)
-
 -- ---- moves one after another
 
-pub moves-on : (p m n : Place) (k k1 k2 b1 b2 r r1 r2 q q1 q2 : List ℕ) → Moves p k b1 r r1 q q1 m k1 → Moves m k1 b2 r1 r2 q1 q2 n k2 → Moves p k (b1 ++ b2) r r2 q q2 n k2
-moves-on p m n k k1 k2 b1 b2 r r1 r2 q q1 q2 x y = record {
-  put = x.put ++ y.put;
+pub goes-then : (p m n : Place) (k k1 k2 b1 b2 r1 r2 : List ℕ) → Goes p k b1 r1 m k1 → Goes m k1 b2 r2 n k2 → Goes p k (b1 ++ b2) (r1 ++ r2) n k2
+goes-then p m n k k1 k2 b1 b2 r1 r2 x y = record {
   data_put = x.data_put ++ y.data_put;
-  raw_is = y.raw_is ∙ ap (λ (w : List ℕ). w ++ y.put) x.raw_is ∙ append_assoc r x.put y.put;
-  plain_is = y.plain_is ∙ ap (λ (w : List ℕ). w ++ y.data_put) x.plain_is ∙ append_assoc q x.data_put y.data_put;
   same = λ rest. ap (reads p k) (append_assoc b1 b2 rest) ∙ x.same (b2 ++ rest)
-      ∙ ap (before x.put x.data_put (length b1)) (y.same rest)
-      ∙ before-before x.put x.data_put y.put y.data_put (length b1) (length b2) (reads n k2 rest)
-      ∙ ap (λ len. before (x.put ++ y.put) (x.data_put ++ y.data_put) len (reads n k2 rest)) (sym (length-append b1 b2));
+      ∙ ap (before r1 x.data_put (length b1)) (y.same rest)
+      ∙ before-before r1 x.data_put r2 y.data_put (length b1) (length b2) (reads n k2 rest)
+      ∙ ap (λ len. before (r1 ++ r2) (x.data_put ++ y.data_put) len (reads n k2 rest)) (sym (length-append b1 b2));
 }
 
-pub moves-none : (p : Place) (k r q : List ℕ) → Moves p k [] r r q q p k
-moves-none p k r q = record { put = []; data_put = []; raw_is = sym (append-nil r); plain_is = sym (append-nil q); same = λ rest. λ i. record { raw = (reads p k rest).raw; plain = (reads p k rest).plain; used = (let e : (reads p k rest).used ≡ 0 + (reads p k rest).used = omega arith in e) i; state = (reads p k rest).state } }
+pub goes-none : (p : Place) (k : List ℕ) → Goes p k [] [] p k
+goes-none p k = record { data_put = []; same = λ rest. λ i. record { raw = (reads p k rest).raw; plain = (reads p k rest).plain; used = (let e : (reads p k rest).used ≡ 0 + (reads p k rest).used = omega arith in e) i; state = (reads p k rest).state } }
 
 -- the bytes taken so far and the bytes of a further step
 pub taken-on : (piece : List ℕ) (n m : ℕ) → take n piece ++ take m (drop n piece) ≡ take (n + m) piece
@@ -44,9 +39,9 @@ taken-on [] (suc n) (suc m) = sym (take_all (suc n + suc m) [] (omega arith))
 taken-on (x ∷ xs) (suc n) m = ap (λ (w : List ℕ). x ∷ w) (taken-on xs n m) ∙ ap (λ (k : ℕ). take k (x ∷ xs)) (let e : suc (n + m) ≡ suc n + m = omega arith in e)
 
 -- a move on from what was taken of a piece
-pub moves-more : (p m n : Place) (k k1 k2 piece r r1 r2 q q1 q2 : List ℕ) (i j : ℕ) → Moves p k (take i piece) r r1 q q1 m k1 → Moves m k1 (take j (drop i piece)) r1 r2 q1 q2 n k2 → Moves p k (take (i + j) piece) r r2 q q2 n k2
-moves-more p m n k k1 k2 piece r r1 r2 q q1 q2 i j x y =
-    subst (λ (b : List ℕ). Moves p k b r r2 q q2 n k2) (taken-on piece i j) (moves-on p m n k k1 k2 (take i piece) (take j (drop i piece)) r r1 r2 q q1 q2 x y)
+pub goes-more : (p m n : Place) (k k1 k2 piece r1 r2 : List ℕ) (i j : ℕ) → Goes p k (take i piece) r1 m k1 → Goes m k1 (take j (drop i piece)) r2 n k2 → Goes p k (take (i + j) piece) (r1 ++ r2) n k2
+goes-more p m n k k1 k2 piece r1 r2 i j x y =
+    subst (λ (b : List ℕ). Goes p k b (r1 ++ r2) n k2) (taken-on piece i j) (goes-then p m n k k1 k2 (take i piece) (take j (drop i piece)) r1 r2 x y)
 
 -- ---- a byte further
 
@@ -77,32 +72,14 @@ reads-line-byte p k b rest v l e =
     reads-byte p k b rest (line-not-last p l) ∙ ap (λ (t : Step). before t.raw t.plain 1 (reads t.next t.kept rest)) s
 
 -- the bytes of a line that may go on
-pub move-open : (p : Place) (k k' r : List ℕ) (b : ℕ) → is_line p ≡ true → verdict.Open ≡ verdict_of p k b → k' ≡ k ++ b ∷ [] → Moves p k (b ∷ []) r r [] [] p k'
-move-open p k k' r b l v e = record {
-  put = [];
-  data_put = [];
-  raw_is = sym (append-nil r);
-  plain_is = refl;
-  same = λ rest. reads-line-byte p k b rest verdict.Open l (sym v) ∙ ap (λ (w : List ℕ). before [] [] 1 (reads p w rest)) (sym e);
-}
+pub move-open : (p : Place) (k k' : List ℕ) (b : ℕ) → is_line p ≡ true → verdict.Open ≡ verdict_of p k b → k' ≡ k ++ b ∷ [] → Goes p k (b ∷ []) [] p k'
+move-open p k k' b l v e = record { data_put = []; same = λ rest. reads-line-byte p k b rest verdict.Open l (sym v) ∙ ap (λ (w : List ℕ). before [] [] 1 (reads p w rest)) (sym e) }
 
-pub move-line : (p n : Place) (k k' r r' : List ℕ) (b : ℕ) → is_line p ≡ true → verdict.Line n ≡ verdict_of p k b → r' ≡ r ++ (k ++ b ∷ []) → k' ≡ [] → Moves p k (b ∷ []) r r' [] [] n k'
-move-line p n k k' r r' b l v e f = record {
-  put = k ++ b ∷ [];
-  data_put = [];
-  raw_is = e;
-  plain_is = refl;
-  same = λ rest. reads-line-byte p k b rest (verdict.Line n) l (sym v) ∙ ap (λ (w : List ℕ). before (k ++ b ∷ []) [] 1 (reads n w rest)) (sym f);
-}
+pub move-line : (p n : Place) (k k' : List ℕ) (b : ℕ) → is_line p ≡ true → verdict.Line n ≡ verdict_of p k b → k' ≡ [] → Goes p k (b ∷ []) (k ++ b ∷ []) n k'
+move-line p n k k' b l v f = record { data_put = []; same = λ rest. reads-line-byte p k b rest (verdict.Line n) l (sym v) ∙ ap (λ (w : List ℕ). before (k ++ b ∷ []) [] 1 (reads n w rest)) (sym f) }
 
-pub move-wrong : (p : Place) (k k' r : List ℕ) (b : ℕ) → is_line p ≡ true → verdict.Wrong ≡ verdict_of p k b → k' ≡ [] → Moves p k (b ∷ []) r r [] [] Wrong k'
-move-wrong p k k' r b l v e = record {
-  put = [];
-  data_put = [];
-  raw_is = sym (append-nil r);
-  plain_is = refl;
-  same = λ rest. reads-line-byte p k b rest verdict.Wrong l (sym v) ∙ ap (λ (w : List ℕ). before [] [] 1 (reads Wrong w rest)) (sym e);
-}
+pub move-wrong : (p : Place) (k k' : List ℕ) (b : ℕ) → is_line p ≡ true → verdict.Wrong ≡ verdict_of p k b → k' ≡ [] → Goes p k (b ∷ []) [] Wrong k'
+move-wrong p k k' b l v e = record { data_put = []; same = λ rest. reads-line-byte p k b rest verdict.Wrong l (sym v) ∙ ap (λ (w : List ℕ). before [] [] 1 (reads Wrong w rest)) (sym e) }
 
 -- ---- a run of data
 
@@ -121,15 +98,9 @@ reads-run n b (c ∷ cs) rest fits =
     ∙ before-before (b ∷ []) (b ∷ []) (c ∷ cs) (c ∷ cs) 1 (length (c ∷ cs)) (reads (data_place (n - length (b ∷ c ∷ cs))) [] rest)
     ∙ ap (λ k. before (b ∷ c ∷ cs) (b ∷ c ∷ cs) k (reads (data_place (n - length (b ∷ c ∷ cs))) [] rest)) (let e : 1 + length (c ∷ cs) ≡ length (b ∷ c ∷ cs) = omega arith in e)
 
-pub move-data : (n : ℕ) (bs r r' q q' : List ℕ) (p : Place) → 0 < length bs → length bs ≤ n → r' ≡ r ++ bs → q' ≡ q ++ bs → p ≡ data_place (n - length bs) → Moves (Data n) [] bs r r' q q' p []
-move-data n [] r r' q q' p some fits a b c = absurd (omega arith)
-move-data n (x ∷ bs) r r' q q' p some fits a b c = record {
-  put = x ∷ bs;
-  data_put = x ∷ bs;
-  raw_is = a;
-  plain_is = b;
-  same = λ rest. reads-run n x bs rest fits ∙ ap (λ (m : Place). before (x ∷ bs) (x ∷ bs) (length (x ∷ bs)) (reads m [] rest)) (sym c);
-}
+pub move-data : (n : ℕ) (bs : List ℕ) (p : Place) → 0 < length bs → length bs ≤ n → p ≡ data_place (n - length bs) → Goes (Data n) [] bs bs p []
+move-data n [] p some fits c = absurd (omega arith)
+move-data n (x ∷ bs) p some fits c = record { data_put = x ∷ bs; same = λ rest. reads-run n x bs rest fits ∙ ap (λ (m : Place). before (x ∷ bs) (x ∷ bs) (length (x ∷ bs)) (reads m [] rest)) (sym c) }
 
 pub data-place-zero : (n : ℕ) → n ≡ 0 → Gap ≡ data_place n
 data-place-zero n e = ap data_place (sym e)

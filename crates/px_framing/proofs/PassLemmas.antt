@@ -1,6 +1,6 @@
 -- What is passed on of a piece.
 use Rattle.std.proofs.Common.{◌≡◌, ◌≢◌, ℕ, zero, suc, ◌+◌, ◌-◌, ◌<◌, ◌≤◌, Bool, true, false, ◌==◌, cond, min, List, [], ◌∷◌, ◌++◌, length, take, drop, refl, sym, ◌∙◌, ap, subst, arith, append_assoc, length-append, length-take}
-use Rattle.std.proofs.lemmas.List.{append-nil, take_all, take-take, length-take-le}
+use Rattle.std.proofs.lemmas.List.{append-nil, take_all, take-take}
 use Rattle.std.proofs.Math.Seq.{drop-append_seam}
 use Rattle.std.proofs.lemmas.Bool.Decides.{nat_tests}
 use Rattle.px_framing.specs.declared.places.Place.{Place}
@@ -9,28 +9,12 @@ use Rattle.px_framing.specs.declared.stages.Stage.{Stage}
 use Rattle.px_framing.specs.declared.stages.Stage.TheVariants as stage
 use Rattle.px_framing.specs.declared.places.State.{State}
 use Rattle.px_framing.specs.Body.{Part, nothing, first_bytes}
-use Rattle.px_framing.specs.Reading.{before, reads, reads_on, goes_on, is_ended, is_last, is_to_close, end_state, stage_before, stage_state, state_at, IsHeld, Uses, Advances, KeepsKind, Moves, Reading, Steps, IsSettled, IsSettledAt}
+use Rattle.px_framing.specs.Reading.{before, reads_on, goes_on, is_ended, is_last, is_to_close, end_state, stage_before, stage_state, state_at, IsHeld, Uses, KeepsKind, Reading, Steps, IsSettled, IsSettledAt}
 use Rattle.px_framing.specs.declared.places.State.TheVariants.{More, Whole, Cut, Misframed}
 use Rattle.px_framing.specs.Passing.{Goes, PassesOn, settled, bytes_left, data_in, due, last_state, IsDataOf}
-use Rattle.px_framing.proofs.MoveLemmas.{moves-more, taken-on}
+use Rattle.px_framing.proofs.MoveLemmas.{goes-more, taken-on}
 use Rattle.px_framing.proofs.BodyLemmas.{whole-from}
-use Rattle.px_framing.proofs.StepLemmas.{chunks-advance, first-all, first-part, nothing-left}
-
--- a move is a passing, and the other way round
-pub goes-of : (p n : Place) (k b r q : List ℕ) (k' : List ℕ) → Moves p k b [] r [] q n k' → Goes p k b r n k'
-goes-of p n k b r q k' m = record { data_put = m.data_put; same = λ rest. m.same rest ∙ ap (λ (w : List ℕ). before w m.data_put (length b) (reads n k' rest)) (sym m.raw_is) }
-
-pub moves-of : (p n : Place) (k b r k' : List ℕ) (g : Goes p k b r n k') → Moves p k b [] r [] g.data_put n k'
-moves-of p n k b r k' g = record { put = r; data_put = g.data_put; raw_is = refl; plain_is = refl; same = g.same }
-
-pub goes-none : (p : Place) (k : List ℕ) → Goes p k [] [] p k
-goes-none p k = record { data_put = []; same = λ rest. λ i. record { raw = (reads p k rest).raw; plain = (reads p k rest).plain; used = (let e : (reads p k rest).used ≡ 0 + (reads p k rest).used = omega arith in e) i; state = (reads p k rest).state } }
-
-goes-more : (p m n : Place) (k k1 k2 piece r1 r2 : List ℕ) (i j : ℕ) → Goes p k (take i piece) r1 m k1 → Goes m k1 (take j (drop i piece)) r2 n k2 → Goes p k (take (i + j) piece) (r1 ++ r2) n k2
-goes-more p m n k k1 k2 piece r1 r2 i j x y =
-    goes-of p n k (take (i + j) piece) (r1 ++ r2) (x.data_put ++ y.data_put) k2
-    (moves-more p m n k k1 k2 piece [] r1 (r1 ++ r2) [] x.data_put (x.data_put ++ y.data_put) i j (moves-of p m k (take i piece) r1 k1 x)
-    (record { put = r2; data_put = y.data_put; raw_is = refl; plain_is = refl; same = y.same }))
+use Rattle.px_framing.proofs.StepLemmas.{pass-chunks, first-all, first-part, nothing-left}
 
 settled-some : (k piece : List ℕ) (n : ℕ) → 0 < n → settled k piece n ≡ k ++ take n piece
 settled-some k piece n some = let e : (n == 0) ≡ false = grind (arith, nat_tests) in ap (λ c. cond c [] (k ++ take n piece)) e
@@ -68,9 +52,6 @@ kept-len k k1 piece at whole all =
 
 -- ---- stages
 
-pub passes-of : (old new : Stage) (kept piece r q : List ℕ) (used : ℕ) (kept' : List ℕ) → Advances old kept piece [] r [] q used new kept' → PassesOn old kept piece r used new kept'
-passes-of old new kept piece r q used kept' a = record { data_put = a.data_put; same = λ rest. a.same rest ∙ ap (λ (w : List ℕ). before w a.data_put used (reads_on new kept' rest)) (sym a.raw_is); kind = a.kind }
-
 -- only the first bytes up to the limit are looked at
 window : (k piece : List ℕ) (whole room : ℕ) → whole ≤ room → settled k (take room piece) whole ≡ settled k piece whole
 window k piece whole room fits = ap (λ (w : List ℕ). cond (whole == 0) [] (k ++ w)) (take-take whole room piece fits)
@@ -79,8 +60,7 @@ pub chunks-pass : (p n : Place) (room used whole : ℕ) (k k' kept' piece : List
     → Goes p k (take used (take room piece)) (settled k (take room piece) whole) n k' → (is_last n ≡ false → 0 < room - used → kept' ≡ k') → PassesOn (stage.Chunks p room) k piece (settled k piece whole) used s kept'
 chunks-pass p n room used whole k k' kept' piece s is within fits all g keeps =
     subst (λ (w : List ℕ). PassesOn (stage.Chunks p room) k piece w used s kept') (window k piece whole room (omega arith))
-    (passes-of (stage.Chunks p room) s k piece (settled k (take room piece) whole) g.data_put used kept'
-    (chunks-advance p n room used k k' kept' piece [] (settled k (take room piece) whole) [] g.data_put s is fits all (moves-of p n k (take used (take room piece)) (settled k (take room piece) whole) k' g) keeps))
+    (pass-chunks p n room used k k' kept' piece (settled k (take room piece) whole) s is fits all g keeps)
 
 last-not-more : (p : Place) → is_last p ≡ true → state_at p ≡ More → ⊥
 last-not-more Size l e = cc

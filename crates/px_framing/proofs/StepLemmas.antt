@@ -12,7 +12,8 @@ use Rattle.px_framing.specs.declared.stages.Stage.TheVariants as stage
 use Rattle.px_framing.specs.declared.rules.BodyRule.{BodyRule}
 use Rattle.px_framing.specs.declared.rules.BodyRule.TheVariants as rule
 use Rattle.px_framing.specs.Body.{nothing, first_bytes, at_end}
-use Rattle.px_framing.specs.Reading.{before, reads, reads_on, goes_on, capped, cut_state, state_at, stage_state, is_last, is_ended, is_to_close, KeepsKind, stage_before, added, After, first_stage, end_state, Advances, Moves, Reading, Steps, IsSettled, IsSettledAt}
+use Rattle.px_framing.specs.Reading.{before, reads, reads_on, goes_on, capped, cut_state, state_at, stage_state, is_last, is_ended, is_to_close, KeepsKind, stage_before, added, After, first_stage, end_state, Reading, Steps, IsSettled, IsSettledAt}
+use Rattle.px_framing.specs.Passing.{Goes, PassesOn}
 use Rattle.px_framing.proofs.MoveLemmas.{before-before}
 
 -- all of a test: a ≤ b and not
@@ -133,46 +134,36 @@ chunks-on p n room used k k' piece rest put data_put short all same =
     λ i. capped (full i) (found i)
 
 -- behind a piece, by how it went
-advance-at : (last full : Bool) (p n : Place) (room used : ℕ) (k k' kept' piece raw raw' plain plain' : List ℕ) (s : Stage) → is_last n ≡ last → (room - used == 0) ≡ full
+pass-at : (last full : Bool) (p n : Place) (room used : ℕ) (k k' kept' piece put : List ℕ) (s : Stage) → is_last n ≡ last → (room - used == 0) ≡ full
     → s ≡ cond last (stage.Ended (state_at n)) (cond full (stage.Ended Cut) (stage.Chunks n (room - used))) → used ≤ min room (length piece) → (is_last n ≡ false → used ≡ min room (length piece))
-    → Moves p k (take used (take room piece)) raw raw' plain plain' n k' → (is_last n ≡ false → 0 < room - used → kept' ≡ k') → Advances (stage.Chunks p room) k piece raw raw' plain plain' used s kept'
-advance-at true full p n room used k k' kept' piece raw raw' plain plain' s e f is fits all m keeps = record {
-  put = m.put;
+    → Goes p k (take used (take room piece)) put n k' → (is_last n ≡ false → 0 < room - used → kept' ≡ k') → PassesOn (stage.Chunks p room) k piece put used s kept'
+pass-at true full p n room used k k' kept' piece put s e f is fits all m keeps = record {
   data_put = m.data_put;
-  raw_is = m.raw_is;
-  plain_is = m.plain_is;
-  same = λ rest. chunks-last p n room used k k' piece rest m.put m.data_put e fits m.same ∙ ap (λ (t : Stage). before m.put m.data_put used (reads_on t kept' rest)) (sym is);
+  same = λ rest. chunks-last p n room used k k' piece rest put m.data_put e fits m.same ∙ ap (λ (t : Stage). before put m.data_put used (reads_on t kept' rest)) (sym is);
   kind = kind-ended (stage.Chunks p room) (state_at n) s is;
 }
-advance-at false true p n room used k k' kept' piece raw raw' plain plain' s e f is fits all m keeps =
+pass-at false true p n room used k k' kept' piece put s e f is fits all m keeps =
     let gone : room - used ≡ 0 = eqb-true (room - used) 0 f in
     let whole = all e in
     record {
-      put = m.put;
       data_put = m.data_put;
-      raw_is = m.raw_is;
-      plain_is = m.plain_is;
-      same = λ rest. chunks-full p n room used k k' piece rest m.put m.data_put e (omega arith) (omega arith) m.same ∙ ap (λ (t : Stage). before m.put m.data_put used (reads_on t kept' rest)) (sym is);
+      same = λ rest. chunks-full p n room used k k' piece rest put m.data_put e (omega arith) (omega arith) m.same ∙ ap (λ (t : Stage). before put m.data_put used (reads_on t kept' rest)) (sym is);
       kind = kind-ended (stage.Chunks p room) Cut s is;
     }
-advance-at false false p n room used k k' kept' piece raw raw' plain plain' s e f is fits all m keeps =
+pass-at false false p n room used k k' kept' piece put s e f is fits all m keeps =
     let some : 0 < room - used = grind (arith, nat_tests) in
     let whole = all e in
     record {
-      put = m.put;
       data_put = m.data_put;
-      raw_is = m.raw_is;
-      plain_is = m.plain_is;
-      same = λ rest. chunks-on p n room used k k' piece rest m.put m.data_put (omega arith) (omega arith) m.same
-          ∙ ap (λ (w : List ℕ). before m.put m.data_put used (reads_on (stage.Chunks n (room - used)) w rest)) (sym (keeps e some))
-          ∙ ap (λ (t : Stage). before m.put m.data_put used (reads_on t kept' rest)) (sym is);
+      same = λ rest. chunks-on p n room used k k' piece rest put m.data_put (omega arith) (omega arith) m.same
+          ∙ ap (λ (w : List ℕ). before put m.data_put used (reads_on (stage.Chunks n (room - used)) w rest)) (sym (keeps e some))
+          ∙ ap (λ (t : Stage). before put m.data_put used (reads_on t kept' rest)) (sym is);
       kind = kind-chunks p n room (room - used) s is;
     }
 
-pub chunks-advance : (p n : Place) (room used : ℕ) (k k' kept' piece raw raw' plain plain' : List ℕ) (s : Stage) → s ≡ stage_before n (room - used) → used ≤ min room (length piece) → (is_last n ≡ false → used ≡ min room (length piece))
-    → Moves p k (take used (take room piece)) raw raw' plain plain' n k' → (is_last n ≡ false → 0 < room - used → kept' ≡ k') → Advances (stage.Chunks p room) k piece raw raw' plain plain' used s kept'
-chunks-advance p n room used k k' kept' piece raw raw' plain plain' s is fits all m keeps =
-    advance-at (is_last n) (room - used == 0) p n room used k k' kept' piece raw raw' plain plain' s refl refl is fits all m keeps
+pub pass-chunks : (p n : Place) (room used : ℕ) (k k' kept' piece put : List ℕ) (s : Stage) → s ≡ stage_before n (room - used) → used ≤ min room (length piece) → (is_last n ≡ false → used ≡ min room (length piece))
+    → Goes p k (take used (take room piece)) put n k' → (is_last n ≡ false → 0 < room - used → kept' ≡ k') → PassesOn (stage.Chunks p room) k piece put used s kept'
+pass-chunks p n room used k k' kept' piece put s is fits all m keeps = pass-at (is_last n) (room - used == 0) p n room used k k' kept' piece put s refl refl is fits all m keeps
 
 -- the stage isn't ended, where the body may go on
 pub chunks-kept : (n : Place) (room : ℕ) (s : Stage) → s ≡ stage_before n room → is_ended s ≡ true → is_last n ≡ false → 0 < room → ⊥
@@ -182,51 +173,11 @@ chunks-kept n room s is ended going some =
     let both : true ≡ false = sym ended ∙ ap is_ended e in
     cc
 
--- ---- bytes alone
-
-pub bytes-advance : (n used : ℕ) (piece raw raw' plain plain' : List ℕ) → raw' ≡ raw ++ take n piece → plain' ≡ plain ++ take n piece → length piece < n → used ≡ min n (length piece)
-    → Advances (stage.Bytes n) [] piece raw raw' plain plain' used (stage.Bytes (n - length piece)) []
-bytes-advance n used piece raw raw' plain plain' a b short count =
-    let all : take n piece ≡ piece = take_all n piece (omega arith) in
-    let len : length piece ≡ used = omega arith in
-    record {
-      put = piece;
-      data_put = piece;
-      raw_is = a ∙ ap (λ (w : List ℕ). raw ++ w) all;
-      plain_is = b ∙ ap (λ (w : List ℕ). plain ++ w) all;
-      same = λ rest. first-part n Whole piece rest short ∙ ap (λ m. before piece piece m (first_bytes (n - length piece) Whole rest)) len;
-      kind = record { ended = λ e. refl; to_close = λ e. refl };
-    }
-
-pub rest-advance : (n used : ℕ) (piece raw raw' plain plain' : List ℕ) → raw' ≡ raw ++ take n piece → plain' ≡ plain ++ take n piece → length piece < n → used ≡ min n (length piece)
-    → Advances (stage.Rest n) [] piece raw raw' plain plain' used (stage.Rest (n - length piece)) []
-rest-advance n used piece raw raw' plain plain' a b short count =
-    let all : take n piece ≡ piece = take_all n piece (omega arith) in
-    let len : length piece ≡ used = omega arith in
-    record {
-      put = piece;
-      data_put = piece;
-      raw_is = a ∙ ap (λ (w : List ℕ). raw ++ w) all;
-      plain_is = b ∙ ap (λ (w : List ℕ). plain ++ w) all;
-      same = λ rest. first-part n Cut piece rest short ∙ ap (λ m. before piece piece m (first_bytes (n - length piece) Cut rest)) len;
-      kind = record { ended = λ e. refl; to_close = λ e. refl };
-    }
-
-pub none-advance : (s : State) (kept piece raw plain : List ℕ) → Advances (stage.Ended s) kept piece raw raw plain plain 0 (stage.Ended s) kept
-none-advance s kept piece raw plain = record { put = []; data_put = []; raw_is = sym (append-nil raw); plain_is = sym (append-nil plain); same = λ rest. refl; kind = kind-same (stage.Ended s) }
-
 -- ---- readers
 
 -- what was added is what was put
 pub added-is : (old new put : List ℕ) → new ≡ old ++ put → added old new ≡ put
 added-is old new put e = ap (drop (length old)) e ∙ drop-append_seam old put
-
-pub steps-of : (old new : Reading) (piece raw raw' plain plain' : List ℕ) (used : ℕ) → Advances old.stage old.kept piece raw raw' plain plain' used new.stage new.kept → Steps old piece (added raw raw') (added plain plain') used new
-unfolding goes_on
-steps-of old new piece raw raw' plain plain' used a = record {
-  same = λ rest. a.same rest ∙ (λ i. before (sym (added-is raw raw' a.put a.raw_is) i) (sym (added-is plain plain' a.data_put a.plain_is) i) used (reads_on new.stage new.kept rest));
-  kind = a.kind;
-}
 
 -- one piece after another
 pub steps-on : (a b c : Reading) (b1 b2 r1 r2 q1 q2 : List ℕ) (n1 n2 : ℕ) → Steps a b1 r1 q1 n1 b → Steps b b2 r2 q2 n2 c → Steps a (b1 ++ b2) (r1 ++ r2) (q1 ++ q2) (n1 + n2) c

@@ -1,5 +1,5 @@
 -- A body that is passed on: whole elements as they come, whatever data they hold.
-use Rattle.std.specs.Prelude.{◌≡◌, ◌≢◌, ℕ, ◌+◌, ◌≤◌, ◌==◌, min, Bool, true, false, List, [], ◌++◌, length, take, if◌then◌else◌}
+use Rattle.std.specs.Prelude.{◌≡◌, ◌≢◌, ℕ, ◌+◌, ◌≤◌, ◌==◌, min, Bool, List, [], ◌++◌, length, take, if◌then◌else◌}
 use Rattle.px_framing.specs.declared.places.Place.{Place}
 use Rattle.px_framing.specs.Body.{Part}
 use Rattle.px_framing.specs.declared.stages.Stage.{Stage}

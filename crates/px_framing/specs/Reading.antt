@@ -157,16 +157,6 @@ pub record Uses (piece : List ℕ) (used : ℕ) (state : State) : Type 0 where
   pub within : used ≤ length piece
   pub all : state ≡ More → used ≡ length piece
 
--- From a stage, behind the bytes kept, so many bytes of a piece were used, and their bytes and data put at the ends of raw
--- and plain. What all bytes are read to is the same before and behind.
-pub record Advances (old : Stage) (kept piece raw raw' plain plain' : List ℕ) (used : ℕ) (new : Stage) (kept' : List ℕ) : Type 0 where
-  pub put : List ℕ
-  pub data_put : List ℕ
-  pub raw_is : raw' ≡ raw ++ put
-  pub plain_is : plain' ≡ plain ++ data_put
-  pub same : (rest : List ℕ) → reads_on old kept (piece ++ rest) ≡ before put data_put used (reads_on new kept' rest)
-  pub kind : KeepsKind old new
-
 -- a reader took so many bytes of a piece and put these out: what all bytes are read to is the same before and behind
 pub record Steps (old : Reading) (piece raw plain : List ℕ) (used : ℕ) (new : Reading) : Type 0 where
   pub same : (rest : List ℕ) → goes_on old (piece ++ rest) ≡ before raw plain used (goes_on new rest)
@@ -197,15 +187,6 @@ IsHeld Gap kept = IsOpen Gap kept
 IsHeld (Trailers n) kept = IsOpen (Trailers n) kept
 IsHeld Done kept = kept ≡ []
 IsHeld Wrong kept = kept ≡ []
-
--- From place, behind the bytes kept, these bytes were taken, and their bytes and data put at the ends of raw and plain. What
--- all bytes are read to is the same before and behind.
-pub record Moves (place : Place) (kept bytes raw raw' plain plain' : List ℕ) (next : Place) (kept' : List ℕ) : Type 0 where
-  pub put : List ℕ
-  pub data_put : List ℕ
-  pub raw_is : raw' ≡ raw ++ put
-  pub plain_is : plain' ≡ plain ++ data_put
-  pub same : (rest : List ℕ) → reads place kept (bytes ++ rest) ≡ before put data_put (length bytes) (reads next kept' rest)
 
 -- room for so many more
 abbrev pub Room : {Z : Type 0} → Vec ℕ Z → ℕ → Type 0

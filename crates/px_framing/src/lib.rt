@@ -1,5 +1,13 @@
 //! The bodies of HTTP/1.x messages (RFC 9112, sections 6 and 7): by which rule a body is read, and a reader that takes it in
 //! any pieces.
+//!
+//! Words for how far a body is read, from the inside out:
+//! - `Verdict`: what a byte makes of a line. `Place`: what comes next in a chunked body.
+//! - `Gone`: a step in a piece of a chunked body. `Reach`: all steps in it. `Far`: a piece of any body.
+//! - `Stage`: what a body may still take. `State`: how it stands.
+//! - `Fed`, `Passed`: what a call of the reader answers.
+//! - In the specifications, `Reading` is a reader's value, `Part` what whole bytes are read to, `Steps` a piece between two
+//!   readings, and `due` what a reading has still to give.
 #![tactic(auto)]
 
 mod advances;

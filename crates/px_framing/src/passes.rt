@@ -1,6 +1,6 @@
 // Passes a chunked body on: how far whole elements reach in a piece, without a copy of their bytes.
 ghost use Rattle.std.specs.Prelude.{◌≡◌, ◌+◌, ◌∷◌, ◌++◌, [], ◌<◌, ◌≤◌, length, take, min, true, false, vec_len, vec_capacity, if◌then◌else◌};
-ghost use Rattle.px_framing.specs.Lines.{IsOpen};
+ghost use Rattle.px_framing.specs.Lines.{IsOpen, crlf};
 ghost use Rattle.px_framing.specs.Reading.{is_last, is_line, IsHeld, Room};
 ghost use Rattle.px_framing.specs.Passing.{Goes, settled};
 
@@ -107,6 +107,38 @@ fn pass_line(place: Place, kept: &mut Vec<u8>, rest: &[u8]) -> Gone
     pass_byte(place, kept, rest[0])
 }
 
+/// Passes the CRLF behind the data, or a byte of it.
+fn pass_gap(kept: &mut Vec<u8>, rest: &[u8]) -> Gone
+    requires some { 0 < length rest.now }
+    requires held { IsOpen Place.Gap kept.old.items }
+    requires kept { Room kept.old 1 }
+    ensures used { (0 < result.used) × (result.used ≤ length rest.now) }
+    ensures held { IsHeld result.next kept.new.items }
+    ensures goes { Goes Place.Gap kept.old.items (take result.used rest.now) (if result.ends then kept.old.items ++ take result.used rest.now else []) result.next kept.new.items }
+    ensures fresh { result.ends ≡ true → kept.new.items ≡ [] }
+    ensures grows { result.ends ≡ false → is_last result.next ≡ false → kept.new.items ≡ kept.old.items ++ take result.used rest.now }
+    ensures kept_room { vec_capacity kept.old ≤ vec_capacity kept.new }
+{
+    if kept.is_empty() && begins_with_line_end(rest) {
+        Gone {
+            used: 2,
+            ends: true,
+            next: Place::Size,
+        }
+    } else {
+        pass_line(Place::Gap, kept, rest)
+    }
+}
+
+fn begins_with_line_end(bytes: &[u8]) -> bool
+    ensures { result ≡ true → (2 ≤ length bytes.now) × (take 2 bytes.now ≡ crlf) }
+{
+    if bytes.len() < 2 {
+        return false;
+    }
+    bytes[0] == b'\r' && bytes[1] == b'\n'
+}
+
 /// Passes a run of data, a whole line or a byte of one.
 fn pass_some(place: Place, kept: &mut Vec<u8>, rest: &[u8]) -> Gone
     requires some { 0 < length rest.now }
@@ -123,7 +155,7 @@ fn pass_some(place: Place, kept: &mut Vec<u8>, rest: &[u8]) -> Gone
     match place {
         Place::Data(left) => pass_data(left, rest),
         Place::Size => pass_line(place, kept, rest),
-        Place::Gap => pass_line(place, kept, rest),
+        Place::Gap => pass_gap(kept, rest),
         Place::Trailers(_) => pass_line(place, kept, rest),
         Place::Done => unreachable!(),
         Place::Wrong => unreachable!(),

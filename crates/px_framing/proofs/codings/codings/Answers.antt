@@ -1,4 +1,4 @@
-use Rattle.std.proofs.Common.{◌≡◌, ◌+◌, ◌++◌, ◌∙◌, List, ℕ, ap, sym, drop, append_assoc, flat_map}
+use Rattle.std.proofs.Common.{◌+◌, ◌++◌, ◌∙◌, List, ℕ, ap, sym, drop, append_assoc, flat_map}
 use Rattle.px_framing.specs.Rules.{codings_name, items_of, values}
 use Rattle.px_framing.proofs.RuleLemmas.{codings-next}
 use Rattle.px_framing.proofs.codings.codings.Goals as goal

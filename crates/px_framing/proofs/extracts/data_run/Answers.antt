@@ -1,4 +1,4 @@
-use Rattle.std.proofs.Common.{◌-◌, ◌+◌, List, ℕ, length, refl, sym, arith, subst, ap, ◌∙◌, ◌≡◌, eqb-true}
+use Rattle.std.proofs.Common.{◌-◌, ℕ, length, arith, subst, ◌≡◌}
 use Rattle.px_framing.specs.declared.places.Place.TheVariants.{Data, Gap}
 use Rattle.px_framing.specs.Elements.{AreWhole}
 use Rattle.std.proofs.lemmas.Bool.Decides.{nat_tests}

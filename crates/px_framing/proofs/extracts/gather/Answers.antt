@@ -1,6 +1,5 @@
-use Rattle.std.proofs.Common.{◌≡◌, ◌+◌, ◌-◌, ◌∙◌, ap, refl, sym, arith, subst, length, take, drop, ◌++◌, List, ℕ}
+use Rattle.std.proofs.Common.{◌∙◌, ap, sym, arith, take, drop, ◌++◌}
 use Rattle.std.proofs.lemmas.List.{take_rest, length-drop, drop-drop}
-use Rattle.px_framing.specs.Elements.{AreWhole}
 use Rattle.px_framing.proofs.ExtractLemmas.{behind-same, gather-on, gathered}
 use Rattle.px_framing.proofs.extracts.gather.Goals as goal
 

@@ -1,4 +1,4 @@
-use Rattle.std.proofs.Common.{◌≡◌, Some, None}
+use Rattle.std.proofs.Common.{None}
 use Rattle.px_framing.proofs.ExtractLemmas.{line-divides, line-goes}
 use Rattle.px_framing.proofs.extracts.line_run.Goals as goal
 

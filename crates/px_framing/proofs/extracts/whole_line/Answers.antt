@@ -1,7 +1,5 @@
-use Rattle.std.proofs.Common.{◌≡◌, ◌+◌, ◌-◌, ◌≤◌, ℕ, List, length, take, Option, Some, None, true, false, refl, sym, ◌∙◌, ap, arith}
+use Rattle.std.proofs.Common.{◌≡◌, ℕ, length, take, Some, None, true, false, sym, ◌∙◌, ap, arith}
 use Rattle.px_framing.specs.Lines.{after, may_stand}
-use Rattle.px_framing.specs.declared.places.Place.{Place}
-use Rattle.px_framing.specs.declared.lines.Line.{Line}
 use Rattle.px_framing.proofs.ExtractLemmas.{text-place, text-is, text-length}
 use Rattle.px_framing.proofs.extracts.whole_line.Goals as goal
 

@@ -1,9 +1,8 @@
-use Rattle.std.proofs.Common.{◌≡◌, ℕ, List, ◌+◌, [], ◌++◌, take, refl, sym, ap, subst, arith}
+use Rattle.std.proofs.Common.{◌≡◌, ℕ, List, ◌+◌, [], ◌++◌, take, sym, ap, subst, arith}
 use Rattle.std.proofs.lemmas.List.{nil_from_length}
 use Rattle.std.proofs.lemmas.Bool.Decides.{nat_tests}
 use Rattle.px_framing.specs.Passing.{Goes}
-use Rattle.px_framing.proofs.HeldLemmas.{held-after, moves-line}
-use Rattle.px_framing.proofs.PassLemmas.{goes-of}
+use Rattle.px_framing.proofs.HeldLemmas.{held-after, goes-line}
 use Rattle.px_framing.proofs.passes.pass_line.Goals as goal
 
 pub returns-in-Some-clause-held : goal.returns-in-Some-clause-held
@@ -17,4 +16,4 @@ returns-in-Some-clause-goes c =
     let k = c.args.kept.now.items in
     let bytes = take (c.in-Some.line.text_len + 2) c.args.rest.now in
     subst (λ (w : List ℕ). Goes c.args.place k bytes w c.in-Some.line.next k) (ap (λ (w : List ℕ). w ++ bytes) (sym none))
-    (goes-of c.args.place c.in-Some.line.next k bytes bytes [] k (moves-line c.args.place c.in-Some.line.next k k _ bytes [] bytes c.requires.line c.in-Some.ensures.stands none none c.in-Some.ensures.bytes refl c.in-Some.ensures.next))
+    (goes-line c.args.place c.in-Some.line.next k k _ bytes c.requires.line c.in-Some.ensures.stands none none c.in-Some.ensures.bytes c.in-Some.ensures.next)

@@ -1,0 +1,15 @@
+use Rattle.std.proofs.Common.{◌≡◌, ℕ, List, [], ◌++◌, take, sym, ap, subst, arith}
+use Rattle.std.proofs.lemmas.List.{nil_from_length}
+use Rattle.std.proofs.lemmas.Bool.Decides.{nat_tests}
+use Rattle.px_framing.specs.declared.places.Place.TheVariants.{Gap, Size}
+use Rattle.px_framing.specs.Passing.{Goes}
+use Rattle.px_framing.proofs.HeldLemmas.{goes-gap}
+use Rattle.px_framing.proofs.passes.pass_gap.Goals as goal
+
+pub returns-then-begins_with_line_end-clause-goes : goal.returns-then-begins_with_line_end-clause-goes
+returns-then-begins_with_line_end-clause-goes c =
+    let k = c.args.kept.now.items in
+    let bytes = take 2 c.args.rest.now in
+    let none : k ≡ [] = nil_from_length _ (grind (arith, nat_tests)) in
+    let line = c.begins_with_line_end.ensures c.if-begins_with_line_end.true in
+    subst (λ (w : List ℕ). Goes Gap k bytes w Size k) (ap (λ (w : List ℕ). w ++ bytes) (sym none)) (goes-gap k bytes none line.1)
