@@ -1,6 +1,5 @@
 pub mod Cutting
 pub mod DiallingLemmas
-pub mod FrontLemmas
 pub mod HearingLemmas
 pub mod PumpLemmas
 pub mod ReturningLemmas

@@ -6,13 +6,14 @@ use Rattle.std.proofs.Math.Seq.{take-append_seam}
 use Rattle.px_base.specs.Causes.{Rose}
 use Rattle.px_base.specs.Sources.{SourceState, SourceGoesOn}
 use Rattle.px_base.specs.Sinks.{SinkState}
+use Rattle.px_streams.specs.Streams.{IsStream}
 use Rattle.px_exchange.specs.declared.judging.Plan.{Plan}
 use Rattle.px_exchange.specs.declared.replies.Reply.{Reply}
 use Rattle.px_exchange.specs.declared.talks.Talked.{Talked}
 use Rattle.px_exchange.specs.Answering.{Answered}
 use Rattle.px_exchange.specs.Sending.{GivesOver, IsPrefix, link_seen, answer_of}
 use Rattle.px_exchange.specs.Returning.{ReturnsBy}
-use Rattle.px_exchange.specs.Hearing.{HearsStream, IsAnswer}
+use Rattle.px_exchange.specs.Hearing.{HearsStream}
 use Rattle.px_exchange.proofs.ReturningLemmas.{returns_due}
 
 -- the source of a fresh link failed exactly where its count isn't 0
@@ -29,7 +30,7 @@ heard answer left left' offered e o =
     let count : length offered - length left' ≡ length answer = omega (arith, ap (λ (zs : List ℕ). length zs) whole, length-append answer left') in
     rw (count, whole) (take-append_seam answer left')
 
-answer_is : (failed : Bool) (answer : List ℕ) (i i' : SourceState) (o : SinkState) → i.left ≡ i.offered → i'.offered ≡ i.offered → not (i'.faults == 0) ≡ failed → IsAnswer failed answer i.left i'.left → answer_of (link_seen i' o) ≡ answer
+answer_is : (failed : Bool) (answer : List ℕ) (i i' : SourceState) (o : SinkState) → i.left ≡ i.offered → i'.offered ≡ i.offered → not (i'.faults == 0) ≡ failed → IsStream failed answer i.left i'.left → answer_of (link_seen i' o) ≡ answer
 answer_is true answer i i' o fresh same f a = rw f (heard answer i.left i'.left i'.offered a (same ∙ sym fresh))
 answer_is false answer i i' o fresh same f a = rw f (same ∙ sym fresh ∙ sym a)
 

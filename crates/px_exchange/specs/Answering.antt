@@ -2,6 +2,7 @@
 use Rattle.std.specs.Prelude.{◌≡◌, ℕ, Bool, true, false, not, ◌&&◌, ◌==◌, nat_le, if◌then◌else◌, List, [], ◌∷◌, ◌++◌, length, take, drop, Option, Some, None, option_map}
 use Rattle.std.specs.Fmt.{decimal as decimal_text}
 use Rattle.px_base.specs.Numbers.{decimal}
+use Rattle.px_head.specs.declared.TheConstants.{HEAD_LIMIT}
 use Rattle.px_head.specs.declared.fields.Field.{Field}
 use Rattle.px_head.specs.declared.responses.ResponseHead.{ResponseHead}
 use Rattle.px_head.specs.declared.blocks.HeadEnd.{HeadEnd}
@@ -131,7 +132,7 @@ ShowsAt end.Over bytes seen = seen ≡ Bad
 
 -- what the bytes of an answer show
 abbrev pub Shows : List ℕ → Seen → Type 0
-Shows bytes seen = ShowsAt (head_end 65536 bytes) bytes seen
+Shows bytes seen = ShowsAt (head_end HEAD_LIMIT bytes) bytes seen
 
 abbrev pub reply_of : Bool → Seen → Bool → Reply
 reply_of keep Waiting failed = no_data

@@ -2,6 +2,7 @@
 use Rattle.std.specs.Prelude.{◌≡◌, ℕ, Bool, true, false, ◌⊎◌, IsTrue, List, [], ◌++◌, MatchBool, Result, MatchResult}
 use Rattle.px_base.specs.Causes.{Rose}
 use Rattle.px_base.specs.Sources.{SourceState, SourceGoesOn}
+use Rattle.px_streams.specs.Streams.{IsStream}
 use Rattle.px_base.specs.Sinks.{SinkState, SinkGoesOn, AddsFront}
 use Rattle.px_base.specs.declared.faults.SinkFault.{SinkFault}
 use Rattle.px_base.specs.declared.faults.SinkFault.TheVariants as fault
@@ -12,15 +13,10 @@ use Rattle.px_exchange.specs.Answering.{Answered}
 use Rattle.px_exchange.specs.Pumps.{After, Pumped, SoFar, keeps_at}
 use Rattle.px_exchange.specs.Returning.{ReturnsBy}
 
--- the answer whose reading failed is what was read; else it is all that was left
-abbrev pub IsAnswer : Bool → List ℕ → List ℕ → List ℕ → Type 0
-IsAnswer true answer left left' = left ≡ answer ++ left'
-IsAnswer false answer left left' = answer ≡ left
-
 -- what is returned of a stream; failed is whether its source failed
 pub record HearsStream (keep failed : Bool) (left left' taken taken' : List ℕ) (t : Talked) : Type 0 where
   pub answer : List ℕ
-  pub is_answer : IsAnswer failed answer left left'
+  pub is_answer : IsStream failed answer left left'
   pub returns : ReturnsBy (Answered keep answer failed) (Unit {0}) taken taken' t
 
 -- what is returned of a link's bytes

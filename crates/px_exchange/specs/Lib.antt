@@ -1,7 +1,6 @@
 pub mod Names
 pub mod Targets
 pub mod Pages
-pub mod Reading
 pub mod Judging
 pub mod Answering
 pub mod Pumps

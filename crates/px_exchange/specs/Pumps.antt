@@ -1,5 +1,6 @@
 -- The pump: what it has put out of an answer that it is fed in pieces.
 use Rattle.std.specs.Prelude.{◌≡◌, ◌≢◌, ℕ, ◌+◌, ◌-◌, ◌<◌, ◌≤◌, ◌^◌, Bool, true, false, not, ◌&&◌, ◌⊎◌, if◌then◌else◌, List, [], ◌++◌, length, take, drop}
+use Rattle.px_head.specs.declared.TheConstants.{HEAD_LIMIT}
 use Rattle.px_head.specs.declared.responses.ResponseHead.{ResponseHead}
 use Rattle.px_head.specs.declared.blocks.HeadEnd.TheVariants as end
 use Rattle.px_head.specs.Blocks.{head_end}
@@ -39,7 +40,7 @@ ReadsBlock (read.Good head b n) block = (n ≡ length block) × BlockShows block
 
 -- no block is whole in the bytes, and one may still be
 abbrev pub IsWaiting : List ℕ → Type 0
-IsWaiting held = (head_end 65536 held ≡ end.NotYet) × (length held < 65536)
+IsWaiting held = (head_end HEAD_LIMIT held ≡ end.NotYet) × (length held < HEAD_LIMIT)
 
 -- what was read of a head is what the bytes show, whatever follows
 abbrev pub ReadsHead : HeadRead → List ℕ → Type 0
@@ -109,7 +110,7 @@ IsOfAnswer (flow.Refused p) = p ≡ page.NoServerData
 -- what is true of a stage by itself: a head that is held isn't whole and was searched, a body that is passed has bytes to come, and the ending is
 -- one of answers
 abbrev pub IsSettled : Stage → Type 0
-IsSettled (stage.Heading keeps held search) = IsWaiting held × Searched 65536 held search
+IsSettled (stage.Heading keeps held search) = IsWaiting held × Searched HEAD_LIMIT held search
 IsSettled (stage.Passing keeps left) = 0 < most_of left
 IsSettled (stage.Done keeps e) = IsOfAnswer (flow.Done e)
 IsSettled (stage.Refused p) = IsOfAnswer (flow.Refused p)
@@ -221,7 +222,7 @@ StaysAtEnd stage.Wanting new out out' = ⊥
 
 -- behind so many bytes of a head more pieces than this aren't needed: it has a limit, and so has a body
 abbrev pub pieces_behind : ℕ → ℕ
-pieces_behind n = 2 ^ 64 + (65536 - n)
+pieces_behind n = 2 ^ 64 + (HEAD_LIMIT - n)
 
 -- more pieces than this aren't needed
 abbrev pub pieces_left : Stage → ℕ

@@ -7,10 +7,10 @@ ghost use Rattle.px_exchange.specs.Pumps.{After, IsOfAnswer, pieces_left, ending
 ghost use Rattle.px_exchange.specs.Hearing.{Hears, FedOn, Stopped, FeedCause};
 ghost use Rattle.px_exchange.specs.Returning.{ReturnsBy, TalkCause, IsHeard};
 
-use crate::ahead::PIECE;
 use crate::pumps::{Asked, Flow, Pump};
 use crate::talks::Talked;
 use px_base::{Failed, Mem, Sink, SinkFault, Source, Text, write_all};
+use px_streams::PIECE;
 use std::alloc::Global;
 
 /// Feeds a piece, and writes what comes out.

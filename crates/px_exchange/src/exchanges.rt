@@ -10,7 +10,6 @@ ghost use Rattle.px_exchange.specs.Returning.{ReturnsBy, TalkCause, IsHeard};
 ghost use Rattle.px_exchange.specs.Exchange.{Due, Wants, Exchanges, Returns, WriteCause, after_whole};
 
 use crate::dialling::carry_out;
-use crate::feeds::Feed;
 use crate::judging::{HeadSeen, judge};
 use crate::notes::{After, Ending, ExchangeNote, Exchanged};
 use crate::pages::Page;
@@ -18,6 +17,7 @@ use crate::replies::{Reply, page_reply};
 use crate::snapshots::{Config, Snapshot};
 use crate::talks::Talked;
 use crate::wire::NOT_BUILT;
+use px_streams::Feed;
 use px_base::{Dialer, Mem, Peer, Sink, SinkFault, Source, Text, write_all};
 use std::alloc::Global;
 

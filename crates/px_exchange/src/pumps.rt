@@ -10,7 +10,7 @@ use crate::notes::Ending;
 use crate::pages::Page;
 use crate::replies::returned_head;
 use px_base::{Mem, Text};
-use px_head::HeadSearch;
+use px_head::{HEAD_LIMIT, HeadSearch};
 use std::alloc::Global;
 use std::marker::Model;
 use std::mem::replace;
@@ -125,11 +125,11 @@ fn pass_head(
     search: HeadSearch,
     out: &mut Text,
 ) -> Result<Stage, Mem>
-    requires { BeginsSearched 65536 held search }
+    requires { BeginsSearched HEAD_LIMIT held search }
     ensures after { IfOk result (λ next. After keep held (added out.old out.new) next) }
     ensures grows { IfOk result (λ _. out.new ≡ out.old ++ added out.old out.new) }
     ensures settled { IfOk result IsSettled }
-    ensures pieces { IfOk result (λ next. (n : ℕ) → n < length held → n < 65536 → flow_at next ≡ Flow.More → pieces_left next < pieces_behind n) }
+    ensures pieces { IfOk result (λ next. (n : ℕ) → n < length held → n < HEAD_LIMIT → flow_at next ≡ Flow.More → pieces_left next < pieces_behind n) }
 {
     let mut search = search;
     match read_head(alloc, held.as_bytes(), &mut search)? {

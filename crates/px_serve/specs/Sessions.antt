@@ -3,6 +3,7 @@ use Rattle.std.specs.Prelude.{◌≡◌, ℕ, ◌+◌, zero, suc, Bool, true, fa
 use Rattle.px_base.specs.Sources.{SourceState}
 use Rattle.px_base.specs.Sinks.{SinkState}
 use Rattle.px_base.specs.Dials.{DialerState}
+use Rattle.px_head.specs.declared.TheConstants.{HEAD_LIMIT}
 use Rattle.px_head.specs.Blocks.{head_end}
 use Rattle.px_head.specs.declared.blocks.HeadEnd.TheVariants as head
 use Rattle.px_exchange.specs.declared.judging.HeadSeen.{HeadSeen}
@@ -24,8 +25,8 @@ pub record State : Type 0 where
 
 -- the head at the front of a stream, and what is left behind it
 abbrev pub Begins : List ℕ → HeadSeen → List ℕ → Type 0
-Begins stream (seen.Block block) rest = (head_end 65536 stream ≡ head.At (length block)) × (stream ≡ block ++ rest)
-Begins stream seen.Over rest = (head_end 65536 stream ≡ head.Over) × (rest ≡ stream)
+Begins stream (seen.Block block) rest = (head_end HEAD_LIMIT stream ≡ head.At (length block)) × (stream ≡ block ++ rest)
+Begins stream seen.Over rest = (head_end HEAD_LIMIT stream ≡ head.Over) × (rest ≡ stream)
 
 -- the request of that number, from 0, is the first, or the last that a connection may have
 abbrev pub is_first : ℕ → Bool
@@ -63,9 +64,9 @@ Reaches s (suc n) t = (m : State) × Reaches s n m × Keeps n m t
 
 -- why a session ends between two requests; where the source failed, the bytes that came hold no whole head
 abbrev pub EndsBetween : List ℕ → List ℕ → SessionEnd → Type 0
-EndsBetween stream left end.Ended = (head_end 65536 stream ≡ head.NotYet) × (only_empty stream ≡ true)
-EndsBetween stream left end.Cut = (head_end 65536 stream ≡ head.NotYet) × (only_empty stream ≡ false)
-EndsBetween stream left end.ReadFailed = (came : List ℕ) × (stream ≡ came ++ left) × (head_end 65536 came ≡ head.NotYet)
+EndsBetween stream left end.Ended = (head_end HEAD_LIMIT stream ≡ head.NotYet) × (only_empty stream ≡ true)
+EndsBetween stream left end.Cut = (head_end HEAD_LIMIT stream ≡ head.NotYet) × (only_empty stream ≡ false)
+EndsBetween stream left end.ReadFailed = (came : List ℕ) × (stream ≡ came ++ left) × (head_end HEAD_LIMIT came ≡ head.NotYet)
 EndsBetween stream left end.NoMemory = Unit {0}
 EndsBetween stream left end.Closed = ⊥
 EndsBetween stream left end.Spent = ⊥

@@ -12,10 +12,9 @@ ghost use Rattle.px_serve.specs.Sessions.{State, Turns, Answers, Serves, is_firs
 
 use crate::ends::{REQUEST_LIMIT, SessionEnd, end_after, is_empty_lines};
 use px_base::{Clock, Dialer, List, Peer, Sink, Source, Text};
-use px_exchange::{
-    Ahead, Config, Configs, ExchangeNote, Front, HeadSeen, ReadFault, answer_request, read_front,
-};
+use px_exchange::{Config, Configs, ExchangeNote, HeadSeen, answer_request};
 use px_head::HEAD_LIMIT;
+use px_streams::{Ahead, Front, ReadFault, read_front};
 use std::alloc::Global;
 
 /// What came of a session: a note of each exchange that was begun, in order, and how it ended.

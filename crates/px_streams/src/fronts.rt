@@ -2,7 +2,7 @@
 ghost use Rattle.std.specs.Prelude.{◌≡◌, ◌≢◌, ◌<◌, ◌≤◌, ◌++◌, [], length, IsTrue, IfOk, Err};
 ghost use Rattle.px_base.specs.Sources.{SourceGoesOn};
 ghost use Rattle.px_head.specs.Blocks.{head_end};
-ghost use Rattle.px_exchange.specs.Reading.{KeepsBytes, ReadCause, Stands};
+ghost use Rattle.px_streams.specs.Streams.{KeepsBytes, ReadCause, Stands};
 
 use crate::ahead::{Ahead, ReadFault, fill};
 use px_base::{Source, Text};

@@ -3,8 +3,8 @@ use Rattle.std.proofs.Common.{◌≡◌, ℕ, ◌≤◌, List, ◌++◌, length,
 use Rattle.std.proofs.lemmas.List.{take-append-drop, length-take-le}
 use Rattle.px_head.specs.Blocks.{head_end}
 use Rattle.px_head.specs.declared.blocks.HeadEnd.TheVariants as end
-use Rattle.px_exchange.specs.declared.fronts.Front.TheVariants as front
-use Rattle.px_exchange.specs.Reading.{Stands}
+use Rattle.px_streams.specs.declared.fronts.Front.TheVariants as front
+use Rattle.px_streams.specs.Streams.{Stands}
 
 -- a block that is whole in the bytes read ahead
 pub block_stands : (limit n : ℕ) (stream ahead left block rest : List ℕ) → stream ≡ ahead ++ left → n ≤ length ahead

@@ -1,7 +1,7 @@
 use Rattle.std.proofs.Common.{◌-◌, length}
 use Rattle.px_head.specs.Searches.{BeginsSearched}
-use Rattle.px_exchange.specs.Reading.{Kept}
-use Rattle.px_exchange.proofs.fronts.read_front.Given as goal
+use Rattle.px_streams.specs.Streams.{Kept}
+use Rattle.px_streams.proofs.fronts.read_front.Given as goal
 
 abbrev pub invariant-more : goal.invariant-more
 invariant-more g l = record {

@@ -2,7 +2,7 @@
 ghost use Rattle.std.specs.Prelude.{◌≡◌, ◌≢◌, ◌<◌, ◌≤◌, ◌++◌, [], length, drop, IsTrue, IfOk, OnOk, OnErr, Err, true, false};
 ghost use Rattle.px_base.specs.Sources.{SourceGoesOn};
 ghost use Rattle.px_head.specs.Prints.{IsFrontOf};
-ghost use Rattle.px_exchange.specs.Reading.{KeepsBytes, ReadCause};
+ghost use Rattle.px_streams.specs.Streams.{KeepsBytes, ReadCause};
 
 use px_base::{Failed, Mem, Source};
 use std::alloc::{AllocError, Global};
@@ -20,7 +20,7 @@ pub enum ReadFault {
 }
 
 impl From<Failed> for ReadFault {
-    ghost use Rattle.px_exchange.specs.declared.ahead.ReadFault.TheVariants as fault;
+    ghost use Rattle.px_streams.specs.declared.ahead.ReadFault.TheVariants as fault;
 
     ghost from_gives = { λ _ e. e ≡ fault.Failed };
 
@@ -30,7 +30,7 @@ impl From<Failed> for ReadFault {
 }
 
 impl From<Mem> for ReadFault {
-    ghost use Rattle.px_exchange.specs.declared.ahead.ReadFault.TheVariants as fault;
+    ghost use Rattle.px_streams.specs.declared.ahead.ReadFault.TheVariants as fault;
 
     ghost from_gives = { λ _ e. e ≡ fault.Mem };
 
@@ -40,7 +40,7 @@ impl From<Mem> for ReadFault {
 }
 
 impl From<AllocError> for ReadFault {
-    ghost use Rattle.px_exchange.specs.declared.ahead.ReadFault.TheVariants as fault;
+    ghost use Rattle.px_streams.specs.declared.ahead.ReadFault.TheVariants as fault;
 
     ghost from_gives = { λ _ e. e ≡ fault.Mem };
 

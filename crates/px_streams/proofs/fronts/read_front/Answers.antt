@@ -1,6 +1,6 @@
 use Rattle.std.proofs.Common.{◌∙◌, ◌++◌, ap, take}
-use Rattle.px_exchange.proofs.FrontLemmas.{block_stands}
-use Rattle.px_exchange.proofs.fronts.read_front.Goals as goal
+use Rattle.px_streams.proofs.FrontLemmas.{block_stands}
+use Rattle.px_streams.proofs.fronts.read_front.Goals as goal
 
 pub returns-in-At-clause-stands : goal.returns-in-At-clause-stands
 returns-in-At-clause-stands g c t =
