@@ -3,5 +3,6 @@ pub mod DiallingLemmas
 pub mod HearingLemmas
 pub mod PumpLemmas
 pub mod ReturningLemmas
-pub mod SendingLemmas
+pub mod ExchangeLemmas
+pub mod ForwardingLemmas
 pub mod ShowsLemmas

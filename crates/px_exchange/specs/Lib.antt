@@ -4,7 +4,7 @@ pub mod Pages
 pub mod Judging
 pub mod Answering
 pub mod Pumps
-pub mod Sending
+pub mod Forwarding
 pub mod Returning
 pub mod Hearing
 pub mod Dialling

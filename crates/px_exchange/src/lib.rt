@@ -4,23 +4,23 @@
 mod answering;
 mod bodies;
 mod dialling;
+mod dues;
 mod exchanges;
+mod forwarding;
 mod heads;
 mod judging;
 mod names;
 mod notes;
 mod pages;
 mod pumps;
-mod replies;
-mod sending;
 mod snapshots;
 mod talks;
 mod targets;
 pub mod wire;
 
 pub use exchanges::{answer_request, exchange};
-pub use judging::HeadSeen;
-pub use notes::{After, Ending, ExchangeNote, Exchanged};
+pub use judging::{Handed, HeadSeen};
+pub use notes::{After, Conclusion, Ending, ExchangeNote, Exchanged};
 pub use pages::Page;
 pub use pumps::{Asked, Flow, Pump};
 pub use px_streams::Feed;

@@ -1,32 +1,31 @@
-// Sending a request over a link, and hearing its answer.
+// Forwarding: sends a request over a link, and returns its answer.
 ghost use Rattle.std.specs.Prelude.{◌≡◌, ◌⊎◌, IsTrue};
 ghost use Rattle.px_base.specs.Causes.{Rose};
 ghost use Rattle.px_base.specs.Sources.{SourceGoesOn};
 ghost use Rattle.px_base.specs.Sinks.{SinkGoesOn};
 ghost use Rattle.px_base.specs.Dials.{IsFresh};
-ghost use Rattle.px_exchange.specs.Sending.{GivesOver, IsPrefix, link_seen};
-ghost use Rattle.px_exchange.specs.Returning.{ReturnsBy, TalkCause, IsHeard};
+ghost use Rattle.px_exchange.specs.Forwarding.{TalksOverLink, link_seen};
+ghost use Rattle.px_exchange.specs.Returning.{TalkCause, IsHeard};
 
-use crate::answering::hear;
+use crate::answering::return_answer;
 use crate::judging::Plan;
+use crate::notes::{After, broken};
 use crate::pages::Page;
-use crate::pumps::Asked;
 use crate::talks::Talked;
 use px_base::{Sink, SinkFault, Source, write_all};
 use std::alloc::Global;
 
-/// Sends a request over a link, and returns its answer to the client. Where memory was wanting, a prefix of the head was sent
-/// and nothing returned, or the head was sent whole.
-pub fn talk<I: Source, P: Sink, O: Sink>(
+/// Sends a request over a link, and returns its answer to the client.
+pub fn send_over<I: Source, P: Sink, O: Sink>(
     alloc: Global,
     plan: &Plan,
     link_in: &mut I,
     link_out: &mut P,
     client_out: &mut O,
 ) -> Talked
-    ensures gives { IsTrue (I.state link_in.old).tells → IsTrue (P.state link_out.old).tells → IsTrue (O.state client_out.old).tells
+    ensures talks { IsTrue (I.state link_in.old).tells → IsTrue (P.state link_out.old).tells → IsTrue (O.state client_out.old).tells
         → IsFresh (record { link_in = I.state link_in.old; link_out = P.state link_out.old })
-        → ReturnsBy (GivesOver plan.now (link_seen (I.state link_in.new) (P.state link_out.new))) (IsPrefix (P.state link_out.new).taken plan.now.sent) (O.state client_out.old).taken (O.state client_out.new).taken result }
+        → TalksOverLink plan.now (O.state client_out.old).taken (O.state client_out.new).taken result (link_seen (I.state link_in.new) (P.state link_out.new)) }
     ensures write_cause { TalkCause (O.state client_out.old) (O.state client_out.new) result }
     ensures connect_failed { IsHeard result ⊎ Rose (P.state link_out.old).faults (P.state link_out.new).faults }
     ensures open { (O.state client_out.new).finished ≡ (O.state client_out.old).finished }
@@ -34,9 +33,9 @@ pub fn talk<I: Source, P: Sink, O: Sink>(
     ensures out_goes_on { SinkGoesOn (P.state link_out.old) (P.state link_out.new) }
     ensures client_goes_on { SinkGoesOn (O.state client_out.old) (O.state client_out.new) }
 {
-    match write_all(link_out, plan.sent.as_bytes()) {
-        Ok(()) => hear(alloc, Asked { keep: plan.keep }, link_in, client_out),
+    match write_all(link_out, plan.head.as_bytes()) {
+        Ok(()) => return_answer(alloc, plan.asked, link_in, client_out),
         Err(SinkFault::Failed) => Talked::Page(Page::ConnectFailed),
-        Err(SinkFault::Mem) => Talked::NoMemory,
+        Err(SinkFault::Mem) => Talked::Ended(broken(After::NoMemory)),
     }
 }

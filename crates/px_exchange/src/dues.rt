@@ -1,33 +1,33 @@
 // What is due to the client for a request.
 ghost use Rattle.std.specs.Prelude.{◌≡◌, ◌++◌, IfOk};
-ghost use Rattle.px_exchange.specs.Answering.{connection_value, returned_fields, returned_head, page_reply};
+ghost use Rattle.px_exchange.specs.Answering.{connection_value, returned_fields, returned_head, page_due};
 
 use crate::bodies::{Body, push_framing};
 use crate::names::{keep_of_response, push_field};
-use crate::notes::Ending;
+use crate::notes::{After, Ending};
 use crate::pages::{Page, page_bytes};
 use crate::wire::{CLOSE, CONNECTION, KEEP_ALIVE};
 use px_base::{List, Mem, Text};
 use px_head::{Field, ResponseHead, print_head};
 use std::alloc::Global;
 
-/// What is due to the client: the bytes, the ending that they are, and whether the connection may be kept behind them.
+/// What is due to the client: the bytes, the ending that they are, and what comes after them.
 #[derive(Drop)]
-pub struct Reply {
-    pub ending: Ending,
+pub struct Due {
     pub bytes: Text,
-    pub keep: bool,
+    pub ending: Ending,
+    pub after: After,
 }
 
-/// A page as a reply.
-#[tactic(auto, unfolding(crate::specs::Answering::page_reply))]
-pub fn page_reply(alloc: Global, page: Page, error: &[u8]) -> Result<Reply, Mem>
-    ensures { IfOk result (λ reply. reply ≡ page_reply page error.now) }
+/// A page that is due. `error` is as for its text.
+#[tactic(auto, unfolding(crate::specs::Answering::page_due))]
+pub fn page_due(alloc: Global, page: Page, error: &[u8]) -> Result<Due, Mem>
+    ensures { IfOk result (λ due. due ≡ page_due page error.now) }
 {
-    Ok(Reply {
-        ending: Ending::Page(page),
+    Ok(Due {
         bytes: page_bytes(alloc, page, error)?,
-        keep: false,
+        ending: Ending::Page(page),
+        after: After::Close,
     })
 }
 
