@@ -1,5 +1,5 @@
 -- What a link's bytes, fed and written piece by piece, come to.
-use Rattle.std.proofs.Common.{rules, ◌≡◌, ◌≢◌, ℕ, ◌+◌, ◌<◌, ◌≤◌, Bool, true, false, List, [], ◌++◌, length, take, sym, ap, ◌∙◌, refl, arith, append_assoc, length-append, inl, inr, ◌⊎◌}
+use Rattle.std.proofs.Common.{rules, IsTrue, ◌≡◌, ◌≢◌, ℕ, ◌+◌, ◌<◌, ◌≤◌, Bool, true, false, List, [], ◌++◌, length, take, sym, ap, ◌∙◌, refl, arith, append_assoc, length-append, inl, inr, ◌⊎◌}
 use Rattle.std.proofs.lemmas.Grind.{common_steps}
 use Rattle.std.proofs.lemmas.List.{append-nil, take-take}
 use Rattle.std.proofs.Math.Seq.{take-append-add}
@@ -141,5 +141,15 @@ stopped ask fed piece put taken taken' fault.Mem c = inl c
 pub in_goes_on : {a b c : SourceState} → SourceGoesOn a b → SourceGoesOn b c → SourceGoesOn a c
 in_goes_on h k = search rules
 
+open_before : (a b : Bool) → (IsTrue a → IsTrue b) → b ≡ false → a ≡ false
+open_before true b kept e = sym (kept refl) ∙ e
+open_before false b kept e = refl
+
 pub out_goes_on : {a b c : SinkState} → SinkGoesOn a b → SinkGoesOn b c → SinkGoesOn a c
-out_goes_on h k = search rules
+out_goes_on {b = b} {c = c} h k = record {
+  tells_same = k.tells_same ∙ h.tells_same;
+  finished_kept = λ f. k.finished_kept (h.finished_kept f);
+  mark_same = k.mark_same ∙ h.mark_same;
+  faults_later = omega arith;
+  steady_kept = λ s o. let p = h.steady_kept s (open_before b.finished c.finished k.finished_kept o) in let q = k.steady_kept p.0 o in (q.0, q.1 ∙ p.1);
+}

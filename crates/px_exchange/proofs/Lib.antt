@@ -1,4 +1,3 @@
-pub mod Cutting
 pub mod DiallingLemmas
 pub mod HearingLemmas
 pub mod PumpLemmas

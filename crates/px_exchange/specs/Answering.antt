@@ -9,6 +9,7 @@ use Rattle.px_head.specs.declared.blocks.HeadEnd.{HeadEnd}
 use Rattle.px_head.specs.declared.blocks.HeadEnd.TheVariants as end
 use Rattle.px_head.specs.Blocks.{head_end}
 use Rattle.px_head.specs.Heads.{IsResponse}
+use Rattle.px_head.specs.Names.{has_name, has_field}
 use Rattle.px_head.specs.Prints.{status_line, printed_head}
 use Rattle.px_exchange.specs.declared.wire.TheConstants.{CONNECTION, CLOSE, KEEP_ALIVE, TRANSFER_ENCODING, CONTENT_LENGTH}
 use Rattle.px_exchange.specs.declared.pages.Page.{Page}
@@ -21,7 +22,7 @@ use Rattle.px_exchange.specs.declared.bodies.Body.{Body}
 use Rattle.px_exchange.specs.declared.bodies.Body.TheVariants as body
 use Rattle.px_exchange.specs.declared.dues.Due.{Due}
 use Rattle.px_exchange.specs.declared.pumps.Asked.{Asked}
-use Rattle.px_exchange.specs.Names.{same_name, has_field, kept_of_response}
+use Rattle.px_exchange.specs.Fields.{kept_of_response}
 use Rattle.px_exchange.specs.Pages.{page_bytes}
 
 -- what an answer becomes depends on this alone, beside the answer: whether the connection may be kept behind it
@@ -46,7 +47,7 @@ no_data = page_due page.NoServerData []
 -- the length that the one Content-Length states: digits of a number below 2^63 (RFC 9110, section 8.6)
 abbrev pub stated_length : List Field → Option ℕ
 stated_length [] = None
-stated_length (f ∷ fs) = if same_name f.name CONTENT_LENGTH.now
+stated_length (f ∷ fs) = if has_name CONTENT_LENGTH.now f
     then (if has_field CONTENT_LENGTH.now fs then None else decimal 9223372036854775807 f.value)
     else stated_length fs
 

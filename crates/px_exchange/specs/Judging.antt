@@ -4,6 +4,7 @@ use Rattle.std.specs.Str.{bytes_eq}
 use Rattle.px_head.specs.declared.fields.Field.{Field}
 use Rattle.px_head.specs.declared.requests.RequestHead.{RequestHead}
 use Rattle.px_head.specs.Heads.{IsRequest, IsNoRequest, HasManyRequestFields}
+use Rattle.px_head.specs.Names.{has_field, is_connection_word}
 use Rattle.px_head.specs.Prints.{request_line, printed_head}
 use Rattle.px_exchange.specs.declared.wire.TheConstants.{GET, HTTP_PORT, HOST, CONNECTION, CLOSE, TRANSFER_ENCODING, CONTENT_LENGTH, EXPECT, NOT_BUILT}
 use Rattle.px_exchange.specs.declared.targets.Target.{Target}
@@ -16,7 +17,7 @@ use Rattle.px_exchange.specs.declared.judging.Reading.{Reading}
 use Rattle.px_exchange.specs.declared.judging.Reading.TheVariants.{Overlong, Malformed, TooManyFields, Head}
 use Rattle.px_exchange.specs.declared.judging.HeadSeen.{HeadSeen}
 use Rattle.px_exchange.specs.declared.judging.HeadSeen.TheVariants as seen
-use Rattle.px_exchange.specs.Names.{has_field, has_connection_word, kept_of_request}
+use Rattle.px_exchange.specs.Fields.{kept_of_request}
 use Rattle.px_exchange.specs.Targets.{target_of}
 
 -- all that an exchange is handed, but for the objects that it works on
@@ -52,7 +53,7 @@ is_built head = bytes_eq head.method GET.now && head.minor == 1
 
 -- the connection may be kept behind such a request, unless it is the last one or a Connection field says close
 unfoldable pub keeps : Bool → List Field → Bool
-keeps last fields = not last && not (has_connection_word CLOSE.now fields)
+keeps last fields = not last && not (is_connection_word CLOSE.now fields)
 
 -- the fields that are sent on: Host of the target, the client's that are passed on, and Connection: close
 unfoldable pub sent_fields : List ℕ → List Field → List Field

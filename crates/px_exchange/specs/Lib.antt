@@ -1,4 +1,4 @@
-pub mod Names
+pub mod Fields
 pub mod Targets
 pub mod Pages
 pub mod Judging

@@ -3,7 +3,7 @@ ghost use Rattle.std.specs.Prelude.{◌≡◌, ◌++◌, IfOk};
 ghost use Rattle.px_exchange.specs.Answering.{connection_value, returned_fields, returned_head, page_due};
 
 use crate::bodies::{Body, push_framing};
-use crate::names::{keep_of_response, push_field};
+use crate::fields::{keep_of_response, push_field};
 use crate::notes::{After, Ending};
 use crate::pages::{Page, page_bytes};
 use crate::wire::{CLOSE, CONNECTION, KEEP_ALIVE};

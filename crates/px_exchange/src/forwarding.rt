@@ -28,6 +28,7 @@ pub fn send_over<I: Source, P: Sink, O: Sink>(
         → TalksOverLink plan.now (O.state client_out.old).taken (O.state client_out.new).taken result (link_seen (I.state link_in.new) (P.state link_out.new)) }
     ensures write_cause { TalkCause (O.state client_out.old) (O.state client_out.new) result }
     ensures connect_failed { IsHeard result ⊎ Rose (P.state link_out.old).faults (P.state link_out.new).faults }
+    ensures link_open { (P.state link_out.new).finished ≡ (P.state link_out.old).finished }
     ensures open { (O.state client_out.new).finished ≡ (O.state client_out.old).finished }
     ensures in_goes_on { SourceGoesOn (I.state link_in.old) (I.state link_in.new) }
     ensures out_goes_on { SinkGoesOn (P.state link_out.old) (P.state link_out.new) }

@@ -2,7 +2,7 @@
 ghost use Rattle.std.specs.Prelude.{◌≡◌, IfOk};
 ghost use Rattle.px_exchange.specs.Judging.{is_built, keeps, sent_fields, sent_head, plan_to, refused, by_rule, by_place, judged, ReadsAs, BlockReads};
 
-use crate::names::{has_connection_word, has_field, keep_of_request, push_field};
+use crate::fields::{keep_of_request, push_field};
 use crate::pages::Page;
 use crate::pumps::Asked;
 use crate::snapshots::Config;
@@ -11,7 +11,7 @@ use crate::wire::{
     CLOSE, CONNECTION, CONTENT_LENGTH, EXPECT, GET, HOST, HTTP_PORT, NOT_BUILT, TRANSFER_ENCODING,
 };
 use px_base::{List, Mem, Peer, Text};
-use px_head::{Field, HeadFault, RequestHead, print_head};
+use px_head::{Field, HeadFault, RequestHead, has_field, is_connection_word, print_head};
 use std::alloc::Global;
 use std::marker::Model;
 
@@ -99,9 +99,9 @@ fn is_built(head: &RequestHead) -> bool
     let fields = head.fields.as_slice();
     head.method.as_bytes() == GET
         && head.minor == 1
-        && !has_field(TRANSFER_ENCODING, fields)
-        && !has_field(CONTENT_LENGTH, fields)
-        && !has_field(EXPECT, fields)
+        && !has_field(fields, TRANSFER_ENCODING)
+        && !has_field(fields, CONTENT_LENGTH)
+        && !has_field(fields, EXPECT)
 }
 
 /// Whether the connection may be kept behind a request of HTTP/1.1 (RFC 9112, section 9.3). `last` is the last request of a
@@ -110,7 +110,7 @@ fn is_built(head: &RequestHead) -> bool
 fn keeps(last: bool, fields: &[Field]) -> bool
     ensures { result ≡ keeps last fields.now }
 {
-    !last && !has_connection_word(CLOSE, fields)
+    !last && !is_connection_word(CLOSE, fields)
 }
 
 /// The fields that are sent on: Host of the target, the client's without those that are held back, and `Connection: close`.

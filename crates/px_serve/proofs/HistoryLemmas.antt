@@ -36,6 +36,9 @@ none_older_more : (first last number : ℕ) (begun : List Begun) (b : Begun) →
 none_older_more first last number [] b h newer e = (omega arith, omega arith)
 none_older_more first last number (x ∷ xs) b h newer e = (h.0, none_older_more x.number last number xs b h.1 newer e)
 
+entry_is : (b : Begun) (e : Entry Config) → b.number ≡ e.number → b.config ≡ e.config → entry_of b ≡ e
+entry_is b e n c = rw (n, c) refl
+
 -- one more exchange behind those that were noted
 pub noted_more : (first looks looks' : Looks) (clock now then : ClockState) (begun : List Begun) (b : Begun) → TakesOne looks looks' now then b
     → Noted first looks clock now begun → Noted first looks' clock then (begun ++ b ∷ [])
@@ -44,11 +47,11 @@ noted_more first looks looks' clock now then begun b one h = record {
   clock_tells = one.clock_tells ∙ h.clock_tells;
   entries = λ t.
       let told : IsTrue looks.tells = h.looks_tell ∙ t in
-      take_more entry_of first.coming looks.coming looks'.coming begun b (h.entries t) (one.entry ∙ one.look told) (one.looks_left told);
+      take_more entry_of first.coming looks.coming looks'.coming begun b (h.entries t) (entry_is b looks'.held one.number one.config ∙ one.look told) (one.looks_left told);
   moments = λ t.
       let told : IsTrue now.tells = h.clock_tells ∙ t in
       take_more moment_of clock.coming now.coming then.coming begun b (h.moments t) (one.moment told) (one.moments_left told);
-  none_older = none_older_more first.held.number looks.held.number looks'.held.number begun b h.none_older one.newer (ap (λ (e : Entry Config). e.number) one.entry);
+  none_older = none_older_more first.held.number looks.held.number looks'.held.number begun b h.none_older one.newer one.number;
 }
 
 -- no exchange more

@@ -56,7 +56,8 @@ pub record Noted (looks looks' : Looks) (clock clock' : ClockState) (begun : Lis
 pub record TakesOne (looks looks' : Looks) (clock clock' : ClockState) (b : Begun) : Type 0 where
   pub looks_tell : looks'.tells ≡ looks.tells
   pub clock_tells : clock'.tells ≡ clock.tells
-  pub entry : entry_of b ≡ looks'.held
+  pub number : b.number ≡ looks'.held.number
+  pub config : b.config ≡ looks'.held.config
   pub newer : looks.held.number ≤ looks'.held.number
   pub look : IsTrue looks.tells → looks'.held ≡ looks.coming 0
   pub looks_left : IsTrue looks.tells → (k : ℕ) → looks'.coming k ≡ looks.coming (k + 1)

@@ -12,7 +12,6 @@ use px_exchange::{Config, Configs, ExchangeNote, Handed, HeadSeen, answer_reques
 use px_head::HEAD_LIMIT;
 use px_streams::{Ahead, Front, ReadFault, read_front};
 use std::alloc::Global;
-use std::marker::Model;
 
 /// What came of a session: a note of each exchange that was begun, in order, and how it ended.
 #[derive(Drop)]
@@ -26,14 +25,6 @@ pub struct Session {
 pub struct Client<'a> {
     tags: &'a [Text],
     peer: &'a Peer,
-}
-
-impl<'a> Model for Client<'a> {
-    ghost use Rattle.px_serve.specs.Sessions.{Caller};
-
-    ghost Value = { Caller };
-
-    ghost view = { λ c. record { tags = c.tags.now; peer = c.peer.now.address } };
 }
 
 /// Adds a note, for which there is room.
@@ -67,7 +58,7 @@ where
     T: Clock,
     requires number { number < REQUEST_LIMIT }
     requires room { vec_len notes.old < vec_capacity notes.old }
-    ensures begins { Begins client.now number seen.now
+    ensures begins { Begins (record { tags = client.now.tags.now; peer = client.now.peer.now.address }) number seen.now
         (record { tells = K.tells; held = K.held configs.old; coming = K.coming configs.old })
         (record { tells = K.tells; held = K.held configs.new; coming = K.coming configs.new })
         (record { client_out = O.state client_out.old; dialer = D.state dialer.old; clock = T.state clock.old })
@@ -138,7 +129,7 @@ where
     T: Clock,
     requires number { number < REQUEST_LIMIT }
     requires room { vec_len notes.old < vec_capacity notes.old }
-    ensures turned { Turned client.now number
+    ensures turned { Turned (record { tags = client.now.tags.now; peer = client.now.peer.now.address }) number
         (record { tells = K.tells; held = K.held configs.old; coming = K.coming configs.old })
         (record { tells = K.tells; held = K.held configs.new; coming = K.coming configs.new })
         (S.state client_in.old) (S.state client_in.new) ahead.old ahead.new
@@ -204,7 +195,7 @@ where
     T: Clock,
     requires none { notes.old.items ≡ [] }
     requires room { REQUEST_LIMIT ≤ vec_capacity notes.old }
-    ensures serves { Serves client.now
+    ensures serves { Serves (record { tags = client.now.tags.now; peer = client.now.peer.now.address })
         (record { tells = K.tells; held = K.held configs.old; coming = K.coming configs.old })
         (record { tells = K.tells; held = K.held configs.new; coming = K.coming configs.new })
         (S.state client_in.old) (S.state client_in.new)
@@ -247,7 +238,7 @@ where
     O: Sink,
     D: Dialer,
     T: Clock,
-    ensures serves { Serves client.now
+    ensures serves { Serves (record { tags = client.now.tags.now; peer = client.now.peer.now.address })
         (record { tells = K.tells; held = K.held configs.old; coming = K.coming configs.old })
         (record { tells = K.tells; held = K.held configs.new; coming = K.coming configs.new })
         (S.state client_in.old) (S.state client_in.new)

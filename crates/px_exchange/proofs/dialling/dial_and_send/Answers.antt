@@ -22,4 +22,4 @@ returns-in-Ok-clause-talks g c t u =
     (TalksOver c.args.plan.now (g.O.Sink.state c.args.client_out.now).taken (g.O.Sink.state c.send_over-talked.new.client_out).taken c.send_over-talked.result)
     (e.goes_on.tells_same ∙ t) (rw c.as_bytes.ensures at (e.dials t)) told e.fresh
     e.coming (λ k. (e.coming_left k, e.goes_on.tells_coming_same ∙ k)) (e.cause.link_reads_same, e.cause.link_writes_same)
-    talked.in_goes_on talked.out_goes_on c.hang_up.ensures.hung_up (talked.talks told.in_tells told.out_tells u e.fresh))
+    talked.in_goes_on talked.out_goes_on talked.link_open c.hang_up.ensures.hung_up (talked.talks told.in_tells told.out_tells u e.fresh))

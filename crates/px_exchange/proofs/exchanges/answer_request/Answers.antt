@@ -1,3 +1,4 @@
+use Rattle.px_exchange.proofs.HearingLemmas.{out_goes_on}
 use Rattle.px_exchange.proofs.ExchangeLemmas.{forward_answers, local_answers, local_page}
 use Rattle.px_exchange.proofs.exchanges.answer_request.Goals as goal
 
@@ -24,3 +25,6 @@ returns-in-Ok-Local-clause-connect_cause g c e =
     let same = c.return_page.ensures.page _ e in
     let refused = local_page c.args.handed.now c.in-Ok-Local.reply (rw (c.in-Ok-Local.field-0-is) at c.in-Ok-Local.ensures) in
     absurd (cc)
+
+pub returns-in-Ok-Forward-clause-out_goes_on : goal.returns-in-Ok-Forward-clause-out_goes_on
+returns-in-Ok-Forward-clause-out_goes_on g c = out_goes_on c.dial_and_send-talked.ensures.out_goes_on c.return_rest.ensures.goes_on

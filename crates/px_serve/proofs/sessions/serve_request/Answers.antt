@@ -1,4 +1,4 @@
-use Rattle.std.proofs.Common.{◌≡◌, ◌∙◌, ap, refl}
+use Rattle.std.proofs.Common.{refl}
 use Rattle.px_serve.proofs.sessions.serve_request.Goals as goal
 
 pub returns-clause-begins : goal.returns-clause-begins
@@ -8,14 +8,19 @@ returns-clause-begins g c =
       noted = c.add_note.ensures.added;
       takes = record {
         looks_tell = refl;
-        clock_tells = c.now-moment.ensures.goes_on;
-        entry = cc (c.current-snapshot.ensures.number, c.current-snapshot.ensures.config);
+        clock_tells = c.now-moment.ensures.goes_on.tells_same;
+        number = c.current-snapshot.ensures.number;
+        config = c.current-snapshot.ensures.config;
         newer = c.look.ensures.newer;
         look = c.look.ensures.given;
         looks_left = c.look.ensures.coming;
         moment = c.now-moment.ensures.given;
         moments_left = c.now-moment.ensures.coming;
       };
-      answers = c.answer_request-concluded.ensures.answers;
+      answers = λ o d. c.answer_request-concluded.ensures.answers o d;
       ends = c.end_after.ensures;
     }
+
+pub returns-clause-lasts : goal.returns-clause-lasts
+returns-clause-lasts g c =
+    record { client_out = c.answer_request-concluded.ensures.out_goes_on; dialer = c.answer_request-concluded.ensures.goes_on; clock = c.now-moment.ensures.goes_on }
