@@ -1,10 +1,10 @@
 -- What a command did, step by step.
-use Rattle.std.proofs.Common.{◌≡◌, ℕ, List, IsTrue, Option, Some, None, Result, Ok, Err, refl, sym, ap, ◌∙◌, ◌⊎◌, inl, inr, subst}
+use Rattle.std.proofs.Common.{rules, ◌≡◌, ℕ, List, IsTrue, Option, Some, None, Result, Ok, Err, refl, sym, ap, ◌∙◌, ◌⊎◌, inl, inr, subst}
 use Rattle.px_base.specs.Causes.{Rose}
-use Rattle.px_base.specs.Contents.{Contents, FilesState, FilesCause, Unchanged, OthersUnchanged, Puts}
-use Rattle.px_base.specs.Sources.{SourceState}
-use Rattle.px_base.specs.Sinks.{SinkState}
-use Rattle.px_base.specs.Moments.{ClockState}
+use Rattle.px_base.specs.Contents.{Contents, FilesState, FilesGoOn, FilesCause, Unchanged, OthersUnchanged, Puts}
+use Rattle.px_base.specs.Sources.{SourceState, SourceGoesOn}
+use Rattle.px_base.specs.Sinks.{SinkState, SinkGoesOn}
+use Rattle.px_base.specs.Moments.{ClockState, ClockGoesOn}
 use Rattle.px_base.specs.declared.dials.Answer.{Answer}
 use Rattle.px_base.specs.declared.faults.FilesFault.{FilesFault}
 use Rattle.px_serve.specs.declared.ends.SessionEnd.{SessionEnd}
@@ -91,3 +91,15 @@ loaded_behind origin sent tags f f1 i o errors t new s h (inr (inr (inl p))) =
     })))
 loaded_behind origin sent tags f f1 i o errors t new s h (inr (inr (inr w))) =
     inr (inr (inr (record { wanting = w.wanting; same = same_behind f f1 i o errors t new h w.same })))
+
+pub files_go_on : {a b c : FilesState} → FilesGoOn a b → FilesGoOn b c → FilesGoOn a c
+files_go_on h k = search rules
+
+pub source_same : (i : SourceState) → SourceGoesOn i i
+source_same i = search rules
+
+pub sink_same : (o : SinkState) → SinkGoesOn o o
+sink_same o = search rules
+
+pub clock_same : (t : ClockState) → ClockGoesOn t t
+clock_same t = search rules

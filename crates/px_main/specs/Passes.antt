@@ -154,7 +154,9 @@ RunsLoaded origin sent tags old new s =
 -- CONFIG couldn't be read
 pub record FailsOnConfig (config : List ℕ) (old new : Outside) (s : Status) : Type 0 where
   pub cause : Rose old.files.read_faults new.files.read_faults
-  pub reports : Reports old new (fault_line config 0 33 (codes "ReadFault")) status.ReadFailed s
+  pub text : List ℕ
+  pub text_is : IsTrue old.files.tells → text ≡ fault_line config 0 33 (codes "ReadFault")
+  pub reports : Reports old new text status.ReadFailed s
 
 -- CONFIG isn't built
 pub record RefusesConfig (config : List ℕ) (old new : Outside) (s : Status) : Type 0 where

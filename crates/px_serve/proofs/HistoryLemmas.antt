@@ -40,9 +40,9 @@ entry_is : (b : Begun) (e : Entry Config) → b.number ≡ e.number → b.config
 entry_is b e n c = rw (n, c) refl
 
 -- one more exchange behind those that were noted
-pub noted_more : (first looks looks' : Looks) (clock now then : ClockState) (begun : List Begun) (b : Begun) → TakesOne looks looks' now then b
-    → Noted first looks clock now begun → Noted first looks' clock then (begun ++ b ∷ [])
-noted_more first looks looks' clock now then begun b one h = record {
+pub noted_more : (first looks looks' : Looks) (clock now next : ClockState) (begun : List Begun) (b : Begun) → TakesOne looks looks' now next b
+    → Noted first looks clock now begun → Noted first looks' clock next (begun ++ b ∷ [])
+noted_more first looks looks' clock now next begun b one h = record {
   looks_tell = one.looks_tell ∙ h.looks_tell;
   clock_tells = one.clock_tells ∙ h.clock_tells;
   entries = λ t.
@@ -50,7 +50,7 @@ noted_more first looks looks' clock now then begun b one h = record {
       take_more entry_of first.coming looks.coming looks'.coming begun b (h.entries t) (entry_is b looks'.held one.number one.config ∙ one.look told) (one.looks_left told);
   moments = λ t.
       let told : IsTrue now.tells = h.clock_tells ∙ t in
-      take_more moment_of clock.coming now.coming then.coming begun b (h.moments t) (one.moment told) (one.moments_left told);
+      take_more moment_of clock.coming now.coming next.coming begun b (h.moments t) (one.moment told) (one.moments_left told);
   none_older = none_older_more first.held.number looks.held.number looks'.held.number begun b h.none_older one.newer one.number;
 }
 

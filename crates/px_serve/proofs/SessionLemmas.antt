@@ -131,10 +131,10 @@ serving_none {looks = looks} {i = i} {o = o} notes ahead some e nothing = record
 }
 
 -- the session goes on behind one more exchange
-pub serving_on : {caller : Caller} {n : ℕ} {first looks looks' : Looks} {i i1 i2 : SourceState} {ahead ahead' : List ℕ} {old now then : Objects} {notes notes' : List ExchangeNote}
-    → Serving caller n first looks i i1 ahead old now notes → Turned caller n looks looks' i1 i2 ahead ahead' now then notes notes' None
-    → n + 1 < REQUEST_LIMIT → length notes' ≡ length notes + 1 → i2.faults ≡ i1.faults → then.client_out.faults ≡ now.client_out.faults → then.client_out.finished ≡ now.client_out.finished → SourceGoesOn i1 i2 → Lasts now then
-    → Serving caller (n + 1) first looks' i i2 ahead' old then notes'
+pub serving_on : {caller : Caller} {n : ℕ} {first looks looks' : Looks} {i i1 i2 : SourceState} {ahead ahead' : List ℕ} {old now next : Objects} {notes notes' : List ExchangeNote}
+    → Serving caller n first looks i i1 ahead old now notes → Turned caller n looks looks' i1 i2 ahead ahead' now next notes notes' None
+    → n + 1 < REQUEST_LIMIT → length notes' ≡ length notes + 1 → i2.faults ≡ i1.faults → next.client_out.faults ≡ now.client_out.faults → next.client_out.finished ≡ now.client_out.finished → SourceGoesOn i1 i2 → Lasts now next
+    → Serving caller (n + 1) first looks' i i2 ahead' old next notes'
 serving_on {first = first} {old = old} {notes = notes} {notes' = notes'} h turned below longer read written same on lasts = record {
   number = below;
   counted = omega (arith, longer, h.counted);
@@ -150,9 +150,9 @@ serving_on {first = first} {old = old} {notes = notes} {notes' = notes'} h turne
 }
 
 -- the session ends
-pub serves_to : {caller : Caller} {n : ℕ} {first looks looks' : Looks} {i i1 i2 : SourceState} {ahead ahead' : List ℕ} {old now then : Objects} {notes notes' : List ExchangeNote} {e : SessionEnd}
-    → Serving caller n first looks i i1 ahead old now notes → Turned caller n looks looks' i1 i2 ahead ahead' now then notes notes' (Some e)
-    → Serves caller first looks' i i2 old then notes' e
+pub serves_to : {caller : Caller} {n : ℕ} {first looks looks' : Looks} {i i1 i2 : SourceState} {ahead ahead' : List ℕ} {old now next : Objects} {notes notes' : List ExchangeNote} {e : SessionEnd}
+    → Serving caller n first looks i i1 ahead old now notes → Turned caller n looks looks' i1 i2 ahead ahead' now next notes notes' (Some e)
+    → Serves caller first looks' i i2 old next notes' e
 serves_to {n = n} {first = first} {i1 = i1} {i2 = i2} {ahead = ahead} {ahead' = ahead'} {old = old} {now = now} {notes = notes} {notes' = notes'} h turned = record {
   begun = h.begun ++ turned.begun;
   notes_are = notes_on notes notes' h.begun turned.begun h.notes_are turned.noted;

@@ -10,7 +10,7 @@ invariant-requests g l =
     let D = g.D.Dialer.state in
     let T = g.T.Clock.state in
     record {
-      serving : Serving l.client l.number
+      serving : Serving (record { tags = l.client.tags.now; peer = l.client.peer.now.address }) l.number
           (record { tells = g.K.Configs.tells; held = g.K.Configs.held l.fn.configs; coming = g.K.Configs.coming l.fn.configs })
           (record { tells = g.K.Configs.tells; held = g.K.Configs.held l.configs; coming = g.K.Configs.coming l.configs })
           (S l.fn.client_in) (S l.client_in) l.ahead
