@@ -7,10 +7,16 @@ use Rattle.px_base.specs.Sinks.{SinkState, SinkGoesOn}
 use Rattle.px_base.specs.Moments.{ClockState, ClockGoesOn}
 use Rattle.px_base.specs.declared.dials.Answer.{Answer}
 use Rattle.px_base.specs.declared.faults.FilesFault.{FilesFault}
+use Rattle.px_base.specs.Dials.{DialerState, fresh_dialer, finished_links}
+use Rattle.px_exchange.specs.declared.notes.ExchangeNote.{ExchangeNote}
 use Rattle.px_serve.specs.declared.ends.SessionEnd.{SessionEnd}
+use Rattle.px_serve.specs.Ends.{ReadEndCause, WriteEndCause}
+use Rattle.px_serve.specs.Histories.{Looks}
+use Rattle.px_serve.specs.Sessions.{Caller, Serves}
+use Rattle.px_main.specs.Sents.{sent_text}
 use Rattle.px_main.specs.declared.statuses.Status.{Status}
 use Rattle.px_main.specs.Statuses.{status_after}
-use Rattle.px_main.specs.Passes.{Outside, Untouched, IsSame, GivesUp, HasAnswers, PutsSent, Withholds, PutsAfter, HasServed, IsServed, FailsOnOrigin, RefusesOrigin, Passes, RunsLoaded}
+use Rattle.px_main.specs.Passes.{Outside, Untouched, IsSame, GivesUp, HasAnswers, PutsSent, Withholds, PutsAfter, HasServed, IsServed, caller_of, FailsOnOrigin, RefusesOrigin, Passes, RunsLoaded}
 
 -- files that were only read
 pub record OnlyRead (old new : FilesState) : Type 0 where
@@ -103,3 +109,26 @@ sink_same o = search rules
 
 pub clock_same : (t : ClockState) → ClockGoesOn t t
 clock_same t = search rules
+
+-- what a session gave, with the dialer that is just made and the one client
+pub has_served : {tags : List (List ℕ)} {answers : List Answer} {i i' : SourceState} {o o' : SinkState} {t t' : ClockState} {e : SessionEnd} {made : Option (List ℕ)} {looks looks' : Looks} {d d' : DialerState} {notes : List ExchangeNote} {caller : Caller}
+    → Serves caller looks looks' i i' (record { client_out = o; dialer = d; clock = t }) (record { client_out = o'; dialer = d'; clock = t' }) notes e
+    → caller ≡ caller_of tags → d ≡ fresh_dialer answers → looks.held.number ≡ 0
+    → ReadEndCause i i' e → WriteEndCause o o' e
+    → ((x : List ℕ) → made ≡ Some x → x ≡ sent_text (finished_links d'.dials))
+    → HasServed tags answers i i' o o' t t' e made
+has_served {looks = looks} {looks' = looks'} {d' = d'} {notes = notes} serves client fresh one read write made_is = record {
+  text = sent_text (finished_links d'.dials);
+  served = record {
+    looks = looks;
+    looks_after = looks';
+    one = one;
+    dialer = d';
+    notes = notes;
+    serves = rw (client, fresh) at serves;
+    text_is = refl;
+    read_cause = read;
+    write_cause = write;
+  };
+  made_is = made_is;
+}

@@ -136,8 +136,9 @@ fn put_served<F: Files>(files: &mut F, name: &str, served: Served) -> Status
     ensures puts { (text : List ℕ) → ((x : List ℕ) → served.sent ≡ Some x → x ≡ text) → PutsAfter (F.state files.old) (F.state files.new) name.now text served.end result }
     ensures go_on { FilesGoOn (F.state files.old) (F.state files.new) }
 {
-    match served.sent {
-        Some(text) => put_sent(files, name, text.as_bytes(), served.end),
+    let Served { end, sent } = served;
+    match sent {
+        Some(text) => put_sent(files, name, text.as_bytes(), end),
         None => Status::NoMemory,
     }
 }
