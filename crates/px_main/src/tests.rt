@@ -368,35 +368,3 @@ fn a_failing_write_of_the_error_output_takes_the_place_of_the_status(
     assert!(rt; run.sent.is_none());
     Ok(())
 }
-
-#[test]
-fn an_origin_of_more_than_67_108_864_bytes_is_refused(rt: HostRuntime) -> Result<(), Fail> {
-    let mut bytes = Vec::new(rt.alloc());
-    bytes.resize(67_108_865, b'0')?;
-    let mut state = Vec::new(rt.alloc());
-    state.push((Text::from_bytes(rt.alloc(), b"c")?, Text::new(rt.alloc())))?;
-    state.push((Text::from_bytes(rt.alloc(), b"o")?, Text::from_vec(bytes)))?;
-    let mut states = Vec::new(rt.alloc());
-    states.push(List::from_vec(state))?;
-    let mut files = MemFiles::new(rt.alloc(), List::from_vec(states), &[])?;
-    let mut words = Vec::new(rt.alloc());
-    for word in ["pass", "c", "o", "s"] {
-        words.push(String::from_str(rt.alloc(), word)?)?;
-    }
-    let mut input = TapeIn::new(rt.alloc(), GET.as_bytes(), &[], &[])?;
-    let mut out = TapeOut::new(rt.alloc(), &[], &[])?;
-    let mut err = TapeOut::new(rt.alloc(), &[], &[])?;
-    let mut clock = FixedClock::new(List::new(rt.alloc()));
-    let status = run_tool(
-        rt.alloc(),
-        &words,
-        &mut files,
-        &mut input,
-        &mut out,
-        &mut err,
-        &mut clock,
-    );
-    assert_eq!(rt; status, 8);
-    assert!(rt; out.taken().is_empty());
-    Ok(())
-}
