@@ -1,4 +1,4 @@
--- The one dial that a plan takes.
+-- The one dial of a route.
 use Rattle.std.proofs.Common.{◌≡◌, ℕ, Bool, IsTrue, true, false, not, ◌==◌, List, [], ◌∷◌, ◌++◌, length, drop, Ok, ap, ◌∙◌, refl, subst, inr}
 use Rattle.std.specs.Prelude.{MatchBool}
 use Rattle.std.proofs.lemmas.Bool.{or_parts, or_right, or_left, eq-eqb}
@@ -10,10 +10,10 @@ use Rattle.px_base.specs.declared.dials.DialOutcome.TheVariants as outcome
 use Rattle.px_base.specs.Sources.{SourceState, SourceGoesOn}
 use Rattle.px_base.specs.Sinks.{SinkState, SinkGoesOn}
 use Rattle.px_base.specs.Dials.{DialerState, IsFresh, IsTold, HangsUp, traffic, Traffic, is_open, is_open_at, finish, closed_dial, agrees}
-use Rattle.px_exchange.specs.declared.judging.Plan.{Plan}
-use Rattle.px_exchange.specs.declared.replies.Reply.{Reply}
-use Rattle.px_exchange.specs.Sending.{GivesOver, IsPrefix, link_seen}
-use Rattle.px_exchange.specs.Dialling.{DialsOnce, WantsFor, Comes}
+use Rattle.px_base.specs.declared.dials.DialOutcome.{DialOutcome}
+use Rattle.px_exchange.specs.declared.judging.Route.{Route}
+use Rattle.px_exchange.specs.Forwarding.{link_seen}
+use Rattle.px_exchange.specs.Dialling.{DialsOnce, Comes}
 
 -- the last dial is open
 pub open-last : (mark : ℕ) (d : Dial) (ds : List Dial) → is_open_at mark d.outcome ≡ true → is_open mark (ds ++ d ∷ []) ≡ true
@@ -28,12 +28,12 @@ finish-last mark t d (e ∷ ds) none h =
     rw p.0 (ap (λ (xs : List Dial). e ∷ xs) (finish-last mark t d ds p.1 h))
 
 -- the link that was just dialled is open, and stays so while it is used
-pub dialed_open : {i i' : SourceState} (old mid : List Dial) (host : List ℕ)
-    → mid ≡ old ++ record { host = host; port = 80; outcome = outcome.Open i.mark i.offered } ∷ []
+pub dialed_open : {i i' : SourceState} (old mid : List Dial) (host : List ℕ) (port : ℕ)
+    → mid ≡ old ++ record { host = host; port = port; outcome = outcome.Open i.mark i.offered } ∷ []
     → SourceGoesOn i i'
     → is_open i'.mark mid ≡ true
-dialed_open {i = i} old mid host em on =
-    rw (em, on.mark_same) (open-last i.mark (record { host = host; port = 80; outcome = outcome.Open i.mark i.offered }) old (eq-eqb i.mark i.mark refl))
+dialed_open {i = i} old mid host port em on =
+    rw (em, on.mark_same) (open-last i.mark (record { host = host; port = port; outcome = outcome.Open i.mark i.offered }) old (eq-eqb i.mark i.mark refl))
 
 calm : (n : ℕ) → n ≡ 0 → not (n == 0) ≡ false
 calm n e = rw e refl
@@ -44,16 +44,16 @@ steady {n = n} b m k e kept none zero = calm n ((kept (e ∙ eq-eqb k 0 zero)).1
 
 -- what came over the link is what was to come
 comes : (coming : List Answer) (i i' : SourceState) (o o' : SinkState)
-    → agrees coming (Ok (record { link_in = i; link_out = o })) → IsFresh (record { link_in = i; link_out = o }) → SourceGoesOn i i' → SinkGoesOn o o'
+    → agrees coming (Ok (record { link_in = i; link_out = o })) → IsFresh (record { link_in = i; link_out = o }) → SourceGoesOn i i' → SinkGoesOn o o' → o'.finished ≡ o.finished
     → Comes coming (outcome.Link (link_seen i' o'))
-comes (answer.Link bytes cuts rs ws ∷ as_) i i' o o' a fresh on_in on_out = (
+comes (answer.Link bytes cuts rs ws ∷ as_) i i' o o' a fresh on_in on_out same = (
   on_in.offered_same ∙ a.0,
   λ none. steady i.steady i.faults (length rs) a.1 on_in.steady_kept fresh.no_read_failed none,
-  λ none. steady o.steady o.faults (length ws) a.2 on_out.steady_kept fresh.no_write_failed none,
+  λ none. steady o.steady o.faults (length ws) a.2 (λ s. on_out.steady_kept s (same ∙ fresh.not_finished)) fresh.no_write_failed none,
 )
-comes (answer.NoName ∷ as_) i i' o o' a fresh on_in on_out = absurd a
-comes (answer.NotReached ∷ as_) i i' o o' a fresh on_in on_out = absurd a
-comes [] i i' o o' a fresh on_in on_out = absurd a
+comes (answer.NoName ∷ as_) i i' o o' a fresh on_in on_out same = absurd a
+comes (answer.NotReached ∷ as_) i i' o o' a fresh on_in on_out same = absurd a
+comes [] i i' o o' a fresh on_in on_out same = absurd a
 
 -- an end that failed raised its count
 rises_by : (mid new : ℕ) (b : Bool) → MatchBool b (new ≡ mid) (Rose mid new) → not b ≡ true → Rose mid new
@@ -64,24 +64,24 @@ rises : (old mid new n : ℕ) → mid ≡ old → RisesWith mid new n → not (n
 rises old mid new n e r failed = subst (λ (k : ℕ). Rose k new) e (rises_by mid new (n == 0) r failed)
 
 -- the dial that is added by a dial and hanging up
-added_once : (old mid new : DialerState) (i i' : SourceState) (o' : SinkState) (host : List ℕ)
+added_once : (old mid new : DialerState) (i i' : SourceState) (o' : SinkState) (host : List ℕ) (port : ℕ)
     → IsTrue mid.tells
-    → mid.dials ≡ old.dials ++ record { host = host; port = 80; outcome = outcome.Open i.mark i.offered } ∷ []
+    → mid.dials ≡ old.dials ++ record { host = host; port = port; outcome = outcome.Open i.mark i.offered } ∷ []
     → is_open i.mark old.dials ≡ false
     → SourceGoesOn i i'
     → HangsUp mid new i' o'
-    → new.dials ≡ old.dials ++ record { host = host; port = 80; outcome = outcome.Link (link_seen i' o') } ∷ []
-added_once old mid new i i' o' host tells em unmarked on_in hung =
-    let d : Dial = record { host = host; port = 80; outcome = outcome.Open i.mark i.offered } in
+    → new.dials ≡ old.dials ++ record { host = host; port = port; outcome = outcome.Link (link_seen i' o') } ∷ []
+added_once old mid new i i' o' host port tells em unmarked on_in hung =
+    let d : Dial = record { host = host; port = port; outcome = outcome.Open i.mark i.offered } in
     let t : Traffic = traffic i' o' in
     let en : new.dials ≡ finish i.mark t mid.dials = rw (← on_in.mark_same) (hung.dials tells) in
-    let seen : closed_dial t d ≡ record { host = host; port = 80; outcome = outcome.Link (link_seen i' o') } = rw (← on_in.offered_same) refl in
+    let seen : closed_dial t d ≡ record { host = host; port = port; outcome = outcome.Link (link_seen i' o') } = rw (← on_in.offered_same) refl in
     en ∙ ap (finish i.mark t) em ∙ finish-last i.mark t d old.dials unmarked (eq-eqb i.mark i.mark refl) ∙ ap (λ (x : Dial). old.dials ++ x ∷ []) seen
 
 -- a dial, a talk over its link, and hanging up
-pub dialed_once : (old mid new : DialerState) (i i' : SourceState) (o o' : SinkState) (plan : Plan) (reply : Reply)
+pub dialed_once : (old mid new : DialerState) (i i' : SourceState) (o o' : SinkState) (route : Route) (Gives : DialOutcome → Type 0)
     → IsTrue mid.tells
-    → mid.dials ≡ old.dials ++ record { host = plan.host; port = 80; outcome = outcome.Open i.mark i.offered } ∷ []
+    → mid.dials ≡ old.dials ++ record { host = route.host; port = route.port; outcome = outcome.Open i.mark i.offered } ∷ []
     → IsTold old (record { link_in = i; link_out = o })
     → IsFresh (record { link_in = i; link_out = o })
     → (IsTrue old.tells_coming → agrees old.coming (Ok (record { link_in = i; link_out = o })))
@@ -89,37 +89,18 @@ pub dialed_once : (old mid new : DialerState) (i i' : SourceState) (o o' : SinkS
     → (mid.link_reads ≡ old.link_reads) × (mid.link_writes ≡ old.link_writes)
     → SourceGoesOn i i'
     → SinkGoesOn o o'
+    → o'.finished ≡ o.finished
     → HangsUp mid new i' o'
-    → GivesOver plan (link_seen i' o') reply
-    → DialsOnce old new plan reply
-dialed_once old mid new i i' o o' plan reply tells em told fresh agree left stay on_in on_out hung gives =
+    → Gives (outcome.Link (link_seen i' o'))
+    → DialsOnce route Gives old new
+dialed_once old mid new i i' o o' route Gives tells em told fresh agree left stay on_in on_out same hung gives =
     record {
-      dial = record { host = plan.host; port = 80; outcome = outcome.Link (link_seen i' o') };
-      added = added_once old mid new i i' o' plan.host tells em told.new_mark on_in hung;
+      dial = record { host = route.host; port = route.port; outcome = outcome.Link (link_seen i' o') };
+      added = added_once old mid new i i' o' route.host route.port tells em told.new_mark on_in hung;
       to_host = refl;
       to_port = refl;
       gives = gives;
-      comes = λ c. comes old.coming i i' o o' (agree c) fresh on_in on_out;
+      comes = λ c. comes old.coming i i' o o' (agree c) fresh on_in on_out same;
       coming_left = λ c. hung.coming_same (left c).1 ∙ (left c).0;
       cause = (rises old.link_reads mid.link_reads new.link_reads i'.faults stay.0 hung.link_reads, rises old.link_writes mid.link_writes new.link_writes o'.faults stay.1 hung.link_writes);
     }
-
--- the same, where memory was wanting in the talk
-pub wanted_once : (old mid new : DialerState) (i i' : SourceState) (o' : SinkState) (plan : Plan)
-    → IsTrue mid.tells
-    → mid.dials ≡ old.dials ++ record { host = plan.host; port = 80; outcome = outcome.Open i.mark i.offered } ∷ []
-    → is_open i.mark old.dials ≡ false
-    → SourceGoesOn i i'
-    → HangsUp mid new i' o'
-    → IsPrefix o'.taken plan.sent
-    → WantsFor old new plan
-wanted_once old mid new i i' o' plan tells em unmarked on_in hung wants =
-    inr (inr (record {
-      dial = record { host = plan.host; port = 80; outcome = outcome.Link (link_seen i' o') };
-      added = added_once old mid new i i' o' plan.host tells em unmarked on_in hung;
-      to_host = refl;
-      to_port = refl;
-      seen = link_seen i' o';
-      linked = refl;
-      front = wants;
-    }))

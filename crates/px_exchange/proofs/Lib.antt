@@ -1,8 +1,7 @@
-pub mod Cutting
 pub mod DiallingLemmas
-pub mod FrontLemmas
 pub mod HearingLemmas
 pub mod PumpLemmas
 pub mod ReturningLemmas
-pub mod SendingLemmas
+pub mod ExchangeLemmas
+pub mod ForwardingLemmas
 pub mod ShowsLemmas

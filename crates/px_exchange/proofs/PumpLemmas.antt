@@ -7,16 +7,17 @@ use Rattle.std.proofs.Math.Seq.{take-append_seam}
 use Rattle.px_head.specs.declared.responses.ResponseHead.{ResponseHead}
 use Rattle.px_exchange.specs.declared.bodies.Body.{Body}
 use Rattle.px_exchange.specs.declared.bodies.Body.TheVariants as body
-use Rattle.px_exchange.specs.declared.replies.Reply.{Reply}
+use Rattle.px_exchange.specs.declared.dues.Due.{Due}
 use Rattle.px_exchange.specs.declared.notes.Ending.{Ending}
 use Rattle.px_exchange.specs.declared.notes.Ending.TheVariants as ending
 use Rattle.px_exchange.specs.declared.pages.Page.{Page}
+use Rattle.px_exchange.specs.declared.pumps.Asked.{Asked}
 use Rattle.px_exchange.specs.declared.pumps.Flow.{Flow}
 use Rattle.px_exchange.specs.declared.pumps.Flow.TheVariants as flow
 use Rattle.px_exchange.specs.declared.pumps.Stage.{Stage}
 use Rattle.px_exchange.specs.declared.pumps.Stage.TheVariants as stage
-use Rattle.px_exchange.specs.Answering.{Waiting, Bad, Good, Answered, most_of, has_end, is_full, is_whole, ending_of, returned_head, passed, no_data}
-use Rattle.px_exchange.specs.Pumps.{ShowsOnly, shorter, stage_behind, Behind, PassesOn, Finished, Refuses, Holds, After, IsSettled, flow_at, keeps_at, end_at, added, StaysAtEnd, Begins, Ends, SoFar, Pumped}
+use Rattle.px_exchange.specs.Answering.{Ask, ask_of, after_whole, Waiting, Bad, Good, Answered, most_of, has_end, is_full, is_whole, ending_of, returned_head, passed, no_data}
+use Rattle.px_exchange.specs.Pumps.{ShowsOnly, shorter, stage_behind, Behind, PassesOn, Finished, Refuses, Holds, StageAfter, IsSettled, flow_at, keeps_at, end_at, added, StaysAtEnd, BeginsDue, EndsAnswer, SoFar, Pumped}
 use Rattle.px_exchange.proofs.ShowsLemmas.{shows_waiting, shows_now}
 
 take_past : (n : ℕ) (xs ys : List ℕ) → length xs ≤ n → take n (xs ++ ys) ≡ xs ++ take (n - length xs) ys
@@ -82,11 +83,11 @@ full_shorter : (b : Body) (xs ys : List ℕ) → length xs ≤ most_of b → is_
 full_shorter b xs ys h = rw (most_shorter b (length xs)) (sym (le_past (most_of b) xs ys h))
 
 -- bytes of a body behind its head
-pub passed_on : (keep : Bool) (fed put rest bytes : List ℕ) (head : ResponseHead) (b left : Body) (keeps : Bool)
+pub passed_on : (ask : Ask) (fed put rest bytes : List ℕ) (head : ResponseHead) (b left : Body) (keeps : Bool)
     → ((more : List ℕ) → ShowsOnly (fed ++ more) (Good head b ((rest ++ bytes) ++ more)))
-    → put ≡ returned_head keep b head ++ rest → length rest ≤ most_of b → keeps ≡ (keep && has_end b) → left ≡ shorter b (length rest)
-    → After keep fed (put ++ take (most_of left) bytes) (stage_behind keeps left bytes)
-passed_on keep fed put rest bytes head b left keeps shows put_is few keeps_is left_is = by (is_full left bytes) refl
+    → put ≡ returned_head ask.keep b head ++ rest → length rest ≤ most_of b → keeps ≡ (ask.keep && has_end b) → left ≡ shorter b (length rest)
+    → StageAfter ask fed (put ++ take (most_of left) bytes) (stage_behind keeps left bytes)
+passed_on ask fed put rest bytes head b left keeps shows put_is few keeps_is left_is = by (is_full left bytes) refl
   where
     most : most_of left ≡ most_of b - length rest
     most = ap most_of left_is ∙ most_shorter b (length rest)
@@ -97,13 +98,13 @@ passed_on keep fed put rest bytes head b left keeps shows put_is few keeps_is le
     full : is_full left bytes ≡ is_full b (rest ++ bytes)
     full = rw left_is (full_shorter b rest bytes few)
 
-    out : put ++ take (most_of left) bytes ≡ returned_head keep b head ++ take (most_of b) (rest ++ bytes)
-    out = rw (put_is, most, take_past (most_of b) rest bytes few) (append_assoc (returned_head keep b head) rest (take (most_of b - length rest) bytes))
+    out : put ++ take (most_of left) bytes ≡ returned_head ask.keep b head ++ take (most_of b) (rest ++ bytes)
+    out = rw (put_is, most, take_past (most_of b) rest bytes few) (append_assoc (returned_head ask.keep b head) rest (take (most_of b - length rest) bytes))
 
-    behind : Behind keep fed (put ++ take (most_of left) bytes)
+    behind : Behind ask fed (put ++ take (most_of left) bytes)
     behind = record { head = head; body = b; rest = rest ++ bytes; shows = shows; put_is = out }
 
-    by : (z : Bool) → is_full left bytes ≡ z → After keep fed (put ++ take (most_of left) bytes) (stage_behind keeps left bytes)
+    by : (z : Bool) → is_full left bytes ≡ z → StageAfter ask fed (put ++ take (most_of left) bytes) (stage_behind keeps left bytes)
     by true z = rw z (record {
       behind = behind;
       full = sym full ∙ z;
@@ -118,26 +119,26 @@ passed_on keep fed put rest bytes head b left keeps shows put_is few keeps_is le
     })
 
 -- a head, and the bytes behind it
-pub head_passed : (keep : Bool) (held rest : List ℕ) (head : ResponseHead) (b : Body)
+pub head_passed : (ask : Ask) (held rest : List ℕ) (head : ResponseHead) (b : Body)
     → ((more : List ℕ) → ShowsOnly (held ++ more) (Good head b (rest ++ more)))
-    → After keep held (returned_head keep b head ++ take (most_of b) rest) (stage_behind (keep && has_end b) b rest)
-head_passed keep held rest head b shows =
-    passed_on keep held (returned_head keep b head) [] rest head b b (keep && has_end b) shows (sym (append-nil (returned_head keep b head))) (omega arith) refl (sym (shorter_none b))
+    → StageAfter ask held (returned_head ask.keep b head ++ take (most_of b) rest) (stage_behind (ask.keep && has_end b) b rest)
+head_passed ask held rest head b shows =
+    passed_on ask held (returned_head ask.keep b head) [] rest head b b (ask.keep && has_end b) shows (sym (append-nil (returned_head ask.keep b head))) (omega arith) refl (sym (shorter_none b))
 
 -- one more piece of a body
-pub more_passed : (keep : Bool) (fed put bytes : List ℕ) (keeps : Bool) (left : Body) → PassesOn keep fed put keeps left
-    → After keep (fed ++ bytes) (put ++ take (most_of left) bytes) (stage_behind keeps left bytes)
-more_passed keep fed put bytes keeps left p =
+pub more_passed : (ask : Ask) (fed put bytes : List ℕ) (keeps : Bool) (left : Body) → PassesOn ask fed put keeps left
+    → StageAfter ask (fed ++ bytes) (put ++ take (most_of left) bytes) (stage_behind keeps left bytes)
+more_passed ask fed put bytes keeps left p =
     let b = p.behind in
     let few = open_few b.body b.rest p.open_ in
     let all : take (most_of b.body) b.rest ≡ b.rest = grind (arith, common_steps, few) in
-    passed_on keep (fed ++ bytes) put b.rest bytes b.head b.body left keeps
+    passed_on ask (fed ++ bytes) put b.rest bytes b.head b.body left keeps
     (λ more. rw (append_assoc fed bytes more, append_assoc b.rest bytes more) (b.shows (bytes ++ more)))
-    (b.put_is ∙ ap (λ (xs : List ℕ). returned_head keep b.body b.head ++ xs) all) (omega (arith, few)) p.keeps_is p.left_is
+    (b.put_is ∙ ap (λ (xs : List ℕ). returned_head ask.keep b.body b.head ++ xs) all) (omega (arith, few)) p.keeps_is p.left_is
 
 -- a piece behind a body that has all its bytes, and behind a refusal
-pub finished_more : (keep : Bool) (fed put bytes : List ℕ) (keeps : Bool) (e : Ending) → Finished keep fed put keeps e → Finished keep (fed ++ bytes) put keeps e
-finished_more keep fed put bytes keeps e p =
+pub finished_more : (ask : Ask) (fed put bytes : List ℕ) (keeps : Bool) (e : Ending) → Finished ask fed put keeps e → Finished ask (fed ++ bytes) put keeps e
+finished_more ask fed put bytes keeps e p =
     let b = p.behind in
     let same = whole_full b.body b.rest bytes false p.full in
     let front = take_within (most_of b.body) b.rest bytes (full_enough b.body b.rest p.full) in
@@ -147,7 +148,7 @@ finished_more keep fed put bytes keeps e p =
         body = b.body;
         rest = b.rest ++ bytes;
         shows = λ more. rw (append_assoc fed bytes more, append_assoc b.rest bytes more) (b.shows (bytes ++ more));
-        put_is = b.put_is ∙ ap (λ (xs : List ℕ). returned_head keep b.body b.head ++ xs) (sym front);
+        put_is = b.put_is ∙ ap (λ (xs : List ℕ). returned_head ask.keep b.body b.head ++ xs) (sym front);
       };
       full = full_more b.body b.rest bytes p.full;
       keeps_is = rw same p.keeps_is;
@@ -173,51 +174,51 @@ settled_behind keeps b bytes s e = by (is_full b bytes) refl
         some_left few = rw (most_shorter b (length bytes)) (omega (arith, few))
 
 -- what was put out behind a head is a front of what is returned
-behind_front : (keep : Bool) (fed put : List ℕ) (b : Behind keep fed put) (rest : List ℕ) (failed : Bool) → take (length put) (passed keep b.head b.body (b.rest ++ rest) failed).bytes ≡ put
-behind_front keep fed put b rest failed =
-    let h = returned_head keep b.body b.head in
+behind_front : (ask : Ask) (fed put : List ℕ) (b : Behind ask fed put) (rest : List ℕ) (failed : Bool) → take (length put) (passed ask b.head b.body (b.rest ++ rest) failed).bytes ≡ put
+behind_front ask fed put b rest failed =
+    let h = returned_head ask.keep b.body b.head in
     let n = most_of b.body in
     let more = take (n - length b.rest) rest in
     let whole : h ++ take n (b.rest ++ rest) ≡ put ++ more = rw (take_more n b.rest rest, b.put_is) (sym (append_assoc h (take n b.rest) more)) in
     rw whole (take-append_seam put more)
 
-behind_answered : (keep : Bool) (fed put : List ℕ) (b : Behind keep fed put) (rest : List ℕ) (failed : Bool) → Answered keep (fed ++ rest) failed (passed keep b.head b.body (b.rest ++ rest) failed)
-behind_answered keep fed put b rest failed = record { seen = Good b.head b.body (b.rest ++ rest); shows = (b.shows rest).shows; reply_is = refl }
+behind_answered : (ask : Ask) (fed put : List ℕ) (b : Behind ask fed put) (rest : List ℕ) (failed : Bool) → Answered ask (fed ++ rest) failed (passed ask b.head b.body (b.rest ++ rest) failed)
+behind_answered ask fed put b rest failed = record { seen = Good b.head b.body (b.rest ++ rest); shows = (b.shows rest).shows; due_is = refl }
 
-behind_output : (keep : Bool) (fed put : List ℕ) → Behind keep fed put → (rest : List ℕ) (failed : Bool) (reply : Reply) → Answered keep (fed ++ rest) failed reply → Begins put reply
-behind_output keep fed put b rest failed reply a =
+behind_output : (ask : Ask) (fed put : List ℕ) → Behind ask fed put → (rest : List ℕ) (failed : Bool) (due : Due) → Answered ask (fed ++ rest) failed due → BeginsDue put due
+behind_output ask fed put b rest failed due a =
     let s : a.seen ≡ Good b.head b.body (b.rest ++ rest) = (b.shows rest).only a.seen a.shows in
-    let r : reply ≡ passed keep b.head b.body (b.rest ++ rest) failed = rw s at a.reply_is in
-    rw r (record { front = behind_front keep fed put b rest failed; no_page = λ p e. absurd (no_page (is_whole b.body (b.rest ++ rest) failed) p e) })
+    let r : due ≡ passed ask b.head b.body (b.rest ++ rest) failed = rw s at a.due_is in
+    rw r (record { front = behind_front ask fed put b rest failed; no_page = λ p e. absurd (no_page (is_whole b.body (b.rest ++ rest) failed) p e) })
 
-behind_so_far : (keep : Bool) (fed put : List ℕ) → Behind keep fed put → SoFar keep fed put
-behind_so_far keep fed put b = inr (λ rest failed. record { reply = passed keep b.head b.body (b.rest ++ rest) failed; answered = behind_answered keep fed put b rest failed; front = behind_front keep fed put b rest failed })
+behind_so_far : (ask : Ask) (fed put : List ℕ) → Behind ask fed put → SoFar ask fed put
+behind_so_far ask fed put b = inr (λ rest failed. record { due = passed ask b.head b.body (b.rest ++ rest) failed; answered = behind_answered ask fed put b rest failed; front = behind_front ask fed put b rest failed })
 
-quiet_output : (put : List ℕ) (reply : Reply) → put ≡ [] → Begins put reply
-quiet_output put reply e = rw e (record { front = grind (arith, common_steps); no_page = λ p h. refl })
+quiet_output : (put : List ℕ) (due : Due) → put ≡ [] → BeginsDue put due
+quiet_output put due e = rw e (record { front = grind (arith, common_steps); no_page = λ p h. refl })
 
-finished_ends : (keep : Bool) (fed put : List ℕ) (keeps : Bool) (e : Ending) → Finished keep fed put keeps e → (rest : List ℕ) (failed : Bool) → Ends keep (flow.Done e) keeps (fed ++ rest) failed put
-finished_ends keep fed put keeps e p rest failed =
+finished_ends : (ask : Ask) (fed put : List ℕ) (keeps : Bool) (e : Ending) → Finished ask fed put keeps e → (rest : List ℕ) (failed : Bool) → EndsAnswer ask (flow.Done e) keeps (fed ++ rest) failed put
+finished_ends ask fed put keeps e p rest failed =
     let b = p.behind in
     let same = whole_full b.body b.rest rest failed p.full in
     let front = take_within (most_of b.body) b.rest rest (full_enough b.body b.rest p.full) in
     record {
-      reply = passed keep b.head b.body (b.rest ++ rest) failed;
-      answered = behind_answered keep fed put b rest failed;
+      due = passed ask b.head b.body (b.rest ++ rest) failed;
+      answered = behind_answered ask fed put b rest failed;
       ends_as = rw (same, front, ← b.put_is, p.keeps_is, p.ending_is) refl;
     }
 
-refuses_ends : (keep : Bool) (fed put : List ℕ) (p : Page) → Refuses fed put p → (rest : List ℕ) (failed : Bool) → Ends keep (flow.Refused p) false (fed ++ rest) failed put
-refuses_ends keep fed put p r rest failed = record {
-  reply = no_data;
-  answered = record { seen = Bad; shows = (r.shows rest).shows; reply_is = refl };
+refuses_ends : (ask : Ask) (fed put : List ℕ) (p : Page) → Refuses fed put p → (rest : List ℕ) (failed : Bool) → EndsAnswer ask (flow.Refused p) false (fed ++ rest) failed put
+refuses_ends ask fed put p r rest failed = record {
+  due = no_data;
+  answered = record { seen = Bad; shows = (r.shows rest).shows; due_is = refl };
   ends_as = (r.quiet, rw r.page_is refl);
 }
 
 -- what a pump says at a stage
-pub pumped : (f : Flow) (keep : Bool) (fed put : List ℕ) (s : Stage) → After keep fed put s → IsSettled s → f ≡ flow_at s → Pumped keep fed put f (keeps_at s)
-pumped f keep fed put (stage.Heading keeps held search) h i e = rw e (record {
-  output = λ rest failed reply a. quiet_output put reply h.quiet;
+pub pumped : (f : Flow) (ask : Ask) (fed put : List ℕ) (s : Stage) → StageAfter ask fed put s → IsSettled s → f ≡ flow_at s → Pumped ask fed put f (keeps_at s)
+pumped f ask fed put (stage.Heading asked held search) h i e = rw e (record {
+  output = λ rest failed due a. quiet_output put due h.quiet;
   so_far = inl h.quiet;
   seen = Waiting;
   shows = rw (← h.held_is) (shows_waiting held i.0.0);
@@ -225,67 +226,67 @@ pumped f keep fed put (stage.Heading keeps held search) h i e = rw e (record {
   settles = λ n. absurd (n refl);
   lag = omega arith;
 })
-pumped f keep fed put (stage.Passing keeps left) h i e =
+pumped f ask fed put (stage.Passing keeps left) h i e =
     let b = h.behind in
     rw e (record {
-      output = behind_output keep fed put b;
-      so_far = behind_so_far keep fed put b;
+      output = behind_output ask fed put b;
+      so_far = behind_so_far ask fed put b;
       seen = Good b.head b.body (b.rest ++ []);
       shows = shows_now fed (λ more. Good b.head b.body (b.rest ++ more)) b.shows;
       flow_is = rw (append-nil b.rest, h.open_) refl;
       settles = λ n. absurd (n refl);
       lag = rw (append-nil b.rest, ← b.put_is) (omega arith);
     })
-pumped f keep fed put (stage.Done keeps x) h i e =
+pumped f ask fed put (stage.Done keeps x) h i e =
     let b = h.behind in
     rw e (record {
-      output = behind_output keep fed put b;
-      so_far = behind_so_far keep fed put b;
+      output = behind_output ask fed put b;
+      so_far = behind_so_far ask fed put b;
       seen = Good b.head b.body (b.rest ++ []);
       shows = shows_now fed (λ more. Good b.head b.body (b.rest ++ more)) b.shows;
       flow_is = rw (append-nil b.rest, h.full, h.ending_is) refl;
-      settles = λ n. finished_ends keep fed put keeps x h;
+      settles = λ n. finished_ends ask fed put keeps x h;
       lag = rw (append-nil b.rest, ← b.put_is) (omega arith);
     })
-pumped f keep fed put (stage.Refused p) h i e = rw e (record {
-  output = λ rest failed reply a. quiet_output put reply h.quiet;
+pumped f ask fed put (stage.Refused p) h i e = rw e (record {
+  output = λ rest failed due a. quiet_output put due h.quiet;
   so_far = inl h.quiet;
   seen = Bad;
   shows = shows_now fed (λ more. Bad) h.shows;
   flow_is = rw h.page_is refl;
-  settles = λ n. refuses_ends keep fed put p h;
+  settles = λ n. refuses_ends ask fed put p h;
   lag = omega arith;
 })
-pumped f keep fed put stage.Wanting h i e = absurd h
+pumped f ask fed put stage.Wanting h i e = absurd h
 
-pub so_far : (keep : Bool) (fed put : List ℕ) (s : Stage) → After keep fed put s → SoFar keep fed put
-so_far keep fed put (stage.Heading keeps held search) h = inl h.quiet
-so_far keep fed put (stage.Passing keeps left) h = behind_so_far keep fed put h.behind
-so_far keep fed put (stage.Done keeps e) h = behind_so_far keep fed put h.behind
-so_far keep fed put (stage.Refused p) h = inl h.quiet
-so_far keep fed put stage.Wanting h = absurd h
+pub so_far : (ask : Ask) (fed put : List ℕ) (s : Stage) → StageAfter ask fed put s → SoFar ask fed put
+so_far ask fed put (stage.Heading asked held search) h = inl h.quiet
+so_far ask fed put (stage.Passing keeps left) h = behind_so_far ask fed put h.behind
+so_far ask fed put (stage.Done keeps e) h = behind_so_far ask fed put h.behind
+so_far ask fed put (stage.Refused p) h = inl h.quiet
+so_far ask fed put stage.Wanting h = absurd h
 
 -- a body that ended before it had all its bytes
-short_ends : (keep : Bool) (fed put : List ℕ) (keeps : Bool) (b : Body) (n : ℕ) (failed : Bool) (h : Behind keep fed put) → h.body ≡ b → is_full b h.rest ≡ false
-    → Ends keep (flow_at (end_at (stage.Passing keeps (shorter b n)) failed)) (keeps_at (end_at (stage.Passing keeps (shorter b n)) failed)) fed failed put
-short_ends keep fed put keeps (body.Length m) n failed h e open_ =
-    let a = rw (append-nil fed, append-nil h.rest) at (behind_answered keep fed put h [] failed) in
-    record { reply = passed keep h.head h.body h.rest failed; answered = a; ends_as = rw (← h.put_is, e, open_, and_none (keep && true)) refl }
-short_ends keep fed put keeps (body.ToClose m) n failed h e open_ =
-    let a = rw (append-nil fed, append-nil h.rest) at (behind_answered keep fed put h [] failed) in
-    record { reply = passed keep h.head h.body h.rest failed; answered = a; ends_as = rw (← h.put_is, e, open_, and_none keep) refl }
+short_ends : (ask : Ask) (fed put : List ℕ) (keeps : Bool) (b : Body) (n : ℕ) (failed : Bool) (h : Behind ask fed put) → h.body ≡ b → is_full b h.rest ≡ false
+    → EndsAnswer ask (flow_at (end_at (stage.Passing keeps (shorter b n)) failed)) (keeps_at (end_at (stage.Passing keeps (shorter b n)) failed)) fed failed put
+short_ends ask fed put keeps (body.Length m) n failed h e open_ =
+    let a = rw (append-nil fed, append-nil h.rest) at (behind_answered ask fed put h [] failed) in
+    record { due = passed ask h.head h.body h.rest failed; answered = a; ends_as = rw (← h.put_is, e, open_, and_none (ask.keep && true)) refl }
+short_ends ask fed put keeps (body.ToClose m) n failed h e open_ =
+    let a = rw (append-nil fed, append-nil h.rest) at (behind_answered ask fed put h [] failed) in
+    record { due = passed ask h.head h.body h.rest failed; answered = a; ends_as = rw (← h.put_is, e, open_, and_none ask.keep) refl }
 
 -- what a pump says at the end
-ended_at : (keep : Bool) (fed put : List ℕ) (s : Stage) (failed : Bool) → After keep fed put s → IsSettled s → Ends keep (flow_at (end_at s failed)) (keeps_at (end_at s failed)) fed failed put
-ended_at keep fed put (stage.Heading keeps held search) failed h i = record {
-  reply = no_data;
-  answered = record { seen = Waiting; shows = rw (← h.held_is) (shows_waiting held i.0.0).shows; reply_is = refl };
+ended_at : (ask : Ask) (fed put : List ℕ) (s : Stage) (failed : Bool) → StageAfter ask fed put s → IsSettled s → EndsAnswer ask (flow_at (end_at s failed)) (keeps_at (end_at s failed)) fed failed put
+ended_at ask fed put (stage.Heading asked held search) failed h i = record {
+  due = no_data;
+  answered = record { seen = Waiting; shows = rw (← h.held_is) (shows_waiting held i.0.0).shows; due_is = refl };
   ends_as = (h.quiet, refl);
 }
-ended_at keep fed put (stage.Passing keeps left) failed h i = rw h.left_is (short_ends keep fed put keeps h.behind.body (length h.behind.rest) failed h.behind refl h.open_)
-ended_at keep fed put (stage.Done keeps e) failed h i = rw (append-nil fed) at (finished_ends keep fed put keeps e h [] failed)
-ended_at keep fed put (stage.Refused p) failed h i = rw (append-nil fed) at (refuses_ends keep fed put p h [] failed)
-ended_at keep fed put stage.Wanting failed h i = absurd h
+ended_at ask fed put (stage.Passing keeps left) failed h i = rw h.left_is (short_ends ask fed put keeps h.behind.body (length h.behind.rest) failed h.behind refl h.open_)
+ended_at ask fed put (stage.Done keeps e) failed h i = rw (append-nil fed) at (finished_ends ask fed put keeps e h [] failed)
+ended_at ask fed put (stage.Refused p) failed h i = rw (append-nil fed) at (refuses_ends ask fed put p h [] failed)
+ended_at ask fed put stage.Wanting failed h i = absurd h
 
 pub added-none : (a : List ℕ) → added a a ≡ []
 added-none a = grind (arith, common_steps)
@@ -293,40 +294,40 @@ added-none a = grind (arith, common_steps)
 pub added-append : (a b : List ℕ) → added a (a ++ b) ≡ b
 added-append a b = grind (arith, common_steps)
 
-pub ended : (f : Flow) (keeps keep failed : Bool) (fed put out : List ℕ) (s : Stage) → After keep fed put s → IsSettled s → f ≡ flow_at (end_at s failed) → keeps ≡ keeps_at (end_at s failed) → Ends keep f keeps fed failed (put ++ added out out)
-ended f keeps keep failed fed put out s h i e k = rw (e, k, added-none out, append-nil put) (ended_at keep fed put s failed h i)
+pub ended : (f : Flow) (keeps : Bool) (ask : Ask) (failed : Bool) (fed put out : List ℕ) (s : Stage) → StageAfter ask fed put s → IsSettled s → f ≡ flow_at (end_at s failed) → keeps ≡ keeps_at (end_at s failed) → EndsAnswer ask f keeps fed failed (put ++ added out out)
+ended f keeps ask failed fed put out s h i e k = rw (e, k, added-none out, append-nil put) (ended_at ask fed put s failed h i)
 
 added_two : (out first out1 out2 more : List ℕ) → out1 ≡ out ++ first → out2 ≡ out1 ++ more → added out out2 ≡ first ++ more
 added_two out first out1 out2 more e k = rw (k, e, append_assoc out first more) (added-append out (first ++ more))
 
 -- a head that was read, put out with the bytes behind it
-pub head_stage : (keep : Bool) (held rest out first out1 out2 : List ℕ) (head : ResponseHead) (b : Body) (next : Stage)
+pub head_stage : (ask : Ask) (held rest out first out1 out2 : List ℕ) (head : ResponseHead) (b : Body) (next : Stage)
     → ((more : List ℕ) → ShowsOnly (held ++ more) (Good head b (rest ++ more)))
-    → out1 ≡ out ++ first → first ≡ returned_head keep b head → out2 ≡ out1 ++ take (most_of b) rest → next ≡ stage_behind (keep && has_end b) b rest
-    → After keep held (added out out2) next
-head_stage keep held rest out first out1 out2 head b next shows e1 f e2 n =
-    rw (n, added_two out first out1 out2 (take (most_of b) rest) e1 e2, f) (head_passed keep held rest head b shows)
+    → out1 ≡ out ++ first → first ≡ returned_head ask.keep b head → out2 ≡ out1 ++ take (most_of b) rest → next ≡ stage_behind (ask.keep && has_end b) b rest
+    → StageAfter ask held (added out out2) next
+head_stage ask held rest out first out1 out2 head b next shows e1 f e2 n =
+    rw (n, added_two out first out1 out2 (take (most_of b) rest) e1 e2, f) (head_passed ask held rest head b shows)
 
 -- a piece of a body that was put out
-pub body_stage : (keep : Bool) (fed put bytes out out' : List ℕ) (keeps : Bool) (left : Body) (next : Stage) → PassesOn keep fed put keeps left
-    → out' ≡ out ++ take (most_of left) bytes → next ≡ stage_behind keeps left bytes → After keep (fed ++ bytes) (put ++ added out out') next
-body_stage keep fed put bytes out out' keeps left next p e n = rw (n, e, added-append out (take (most_of left) bytes)) (more_passed keep fed put bytes keeps left p)
+pub body_stage : (ask : Ask) (fed put bytes out out' : List ℕ) (keeps : Bool) (left : Body) (next : Stage) → PassesOn ask fed put keeps left
+    → out' ≡ out ++ take (most_of left) bytes → next ≡ stage_behind keeps left bytes → StageAfter ask (fed ++ bytes) (put ++ added out out') next
+body_stage ask fed put bytes out out' keeps left next p e n = rw (n, e, added-append out (take (most_of left) bytes)) (more_passed ask fed put bytes keeps left p)
 
 -- a piece behind the end
-pub done_stage : (keep : Bool) (fed put bytes out : List ℕ) (keeps : Bool) (e : Ending) → Finished keep fed put keeps e → Finished keep (fed ++ bytes) (put ++ added out out) keeps e
-done_stage keep fed put bytes out keeps e p = rw (added-none out, append-nil put) (finished_more keep fed put bytes keeps e p)
+pub done_stage : (ask : Ask) (fed put bytes out : List ℕ) (keeps : Bool) (e : Ending) → Finished ask fed put keeps e → Finished ask (fed ++ bytes) (put ++ added out out) keeps e
+done_stage ask fed put bytes out keeps e p = rw (added-none out, append-nil put) (finished_more ask fed put bytes keeps e p)
 
 pub refused_stage : (fed put bytes out : List ℕ) (p : Page) → Refuses fed put p → Refuses (fed ++ bytes) (put ++ added out out) p
 refused_stage fed put bytes out p r = rw (added-none out, append-nil put) (refuses_more fed put bytes p r)
 
 -- the head isn't whole yet
-pub waits_stage : (keep : Bool) (fed put bytes held held' out out' : List ℕ) (keeps : Bool) (next : Stage) → Holds keep fed put keeps held → held' ≡ held ++ bytes
-    → After keeps held' (added out out') next → After keep (fed ++ bytes) (put ++ added out out') next
-waits_stage keep fed put bytes held held' out out' keeps next h e a = rw (h.quiet, ← h.held_is, ← e, ← h.keeps_is) a
+pub waits_stage : (ask : Ask) (fed put bytes held held' out out' : List ℕ) (asked : Asked) (next : Stage) → Holds ask fed put asked held → held' ≡ held ++ bytes
+    → StageAfter (ask_of asked) held' (added out out') next → StageAfter ask (fed ++ bytes) (put ++ added out out') next
+waits_stage ask fed put bytes held held' out out' asked next h e a = rw (h.quiet, ← h.held_is, ← e, h.asks) a
 
 -- the end of the bytes changes nothing behind the end of the flow
 pub end_stays : (s next : Stage) (failed : Bool) (out : List ℕ) → next ≡ end_at s failed → s ≢ stage.Wanting → StaysAtEnd s next out out
-end_stays (stage.Heading keeps held search) next failed out e n = tt
+end_stays (stage.Heading asked held search) next failed out e n = tt
 end_stays (stage.Passing keeps left) next failed out e n = tt
 end_stays (stage.Done keeps x) next failed out e n = (e, refl)
 end_stays (stage.Refused p) next failed out e n = (e, refl)

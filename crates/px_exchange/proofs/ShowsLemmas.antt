@@ -1,6 +1,7 @@
 -- What the bytes so far show of an answer's head.
 use Rattle.std.proofs.Common.{◌≡◌, ℕ, ◌≤◌, List, [], ◌++◌, length, take, drop, Option, Some, None, Result, Ok, Err, ap, ◌∙◌, refl, subst, arith, inl, inr}
 use Rattle.std.proofs.lemmas.List.{take-append-le, drop-append-le, append-nil}
+use Rattle.px_head.specs.declared.TheConstants.{HEAD_LIMIT}
 use Rattle.px_head.specs.Blocks.{head_end, block_len, block_of, lines_of}
 use Rattle.px_head.specs.Heads.{IsResponse}
 use Rattle.px_head.specs.Searches.{Searched}
@@ -50,7 +51,7 @@ shows_some block head b h e = record {
 }
 
 -- what a block at the front of the bytes shows
-pub shows_at : (held more : List ℕ) (n : ℕ) (seen : List ℕ → Seen) → n ≤ length held → head_end 65536 (held ++ more) ≡ end.At n → BlockShows (take n held) seen → ShowsOnly (held ++ more) (seen (drop n held ++ more))
+pub shows_at : (held more : List ℕ) (n : ℕ) (seen : List ℕ → Seen) → n ≤ length held → head_end HEAD_LIMIT (held ++ more) ≡ end.At n → BlockShows (take n held) seen → ShowsOnly (held ++ more) (seen (drop n held ++ more))
 shows_at held more n seen le h b =
     let front : take n (held ++ more) ≡ take n held = take-append-le n held more le in
     let back : drop n (held ++ more) ≡ drop n held ++ more = drop-append-le n held more le in
@@ -60,11 +61,11 @@ shows_at held more n seen le h b =
     }
 
 -- bytes without a block within the limit
-pub shows_over : (held more : List ℕ) → head_end 65536 (held ++ more) ≡ end.Over → ShowsOnly (held ++ more) Bad
+pub shows_over : (held more : List ℕ) → head_end HEAD_LIMIT (held ++ more) ≡ end.Over → ShowsOnly (held ++ more) Bad
 shows_over held more h = record { shows = rw h refl; only = λ other s. rw h at s }
 
 -- bytes in which no block is whole yet
-pub shows_waiting : (held : List ℕ) → head_end 65536 held ≡ end.NotYet → ShowsOnly held Waiting
+pub shows_waiting : (held : List ℕ) → head_end HEAD_LIMIT held ≡ end.NotYet → ShowsOnly held Waiting
 shows_waiting held h = record { shows = rw h refl; only = λ other s. rw h at s }
 
 -- what is shown whatever follows is shown as it is
@@ -77,5 +78,5 @@ unfolding head_end block_len block_of lines_of
 nothing_waits held e = rw e (refl, omega arith)
 
 -- a search that has looked at none
-pub nothing_searched : (held : List ℕ) (search : HeadSearch) → held ≡ [] → ((limit : ℕ) → Searched limit [] search) → IsWaiting held × Searched 65536 held search
-nothing_searched held search e s = (nothing_waits held e, rw e (s 65536))
+pub nothing_searched : (held : List ℕ) (search : HeadSearch) → held ≡ [] → ((limit : ℕ) → Searched limit [] search) → IsWaiting held × Searched HEAD_LIMIT held search
+nothing_searched held search e s = (nothing_waits held e, rw e (s HEAD_LIMIT))

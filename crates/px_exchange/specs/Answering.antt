@@ -2,36 +2,52 @@
 use Rattle.std.specs.Prelude.{◌≡◌, ℕ, Bool, true, false, not, ◌&&◌, ◌==◌, nat_le, if◌then◌else◌, List, [], ◌∷◌, ◌++◌, length, take, drop, Option, Some, None, option_map}
 use Rattle.std.specs.Fmt.{decimal as decimal_text}
 use Rattle.px_base.specs.Numbers.{decimal}
+use Rattle.px_head.specs.declared.TheConstants.{HEAD_LIMIT}
 use Rattle.px_head.specs.declared.fields.Field.{Field}
 use Rattle.px_head.specs.declared.responses.ResponseHead.{ResponseHead}
 use Rattle.px_head.specs.declared.blocks.HeadEnd.{HeadEnd}
 use Rattle.px_head.specs.declared.blocks.HeadEnd.TheVariants as end
 use Rattle.px_head.specs.Blocks.{head_end}
 use Rattle.px_head.specs.Heads.{IsResponse}
+use Rattle.px_head.specs.Names.{has_name, has_field}
 use Rattle.px_head.specs.Prints.{status_line, printed_head}
 use Rattle.px_exchange.specs.declared.wire.TheConstants.{CONNECTION, CLOSE, KEEP_ALIVE, TRANSFER_ENCODING, CONTENT_LENGTH}
 use Rattle.px_exchange.specs.declared.pages.Page.{Page}
 use Rattle.px_exchange.specs.declared.pages.Page.TheVariants as page
 use Rattle.px_exchange.specs.declared.notes.Ending.{Ending}
 use Rattle.px_exchange.specs.declared.notes.Ending.TheVariants as ending
+use Rattle.px_exchange.specs.declared.notes.After.{After}
+use Rattle.px_exchange.specs.declared.notes.After.TheVariants as after
 use Rattle.px_exchange.specs.declared.bodies.Body.{Body}
 use Rattle.px_exchange.specs.declared.bodies.Body.TheVariants as body
-use Rattle.px_exchange.specs.declared.replies.Reply.{Reply}
-use Rattle.px_exchange.specs.Names.{same_name, has_field, kept_of_response}
+use Rattle.px_exchange.specs.declared.dues.Due.{Due}
+use Rattle.px_exchange.specs.declared.pumps.Asked.{Asked}
+use Rattle.px_exchange.specs.Fields.{kept_of_response}
 use Rattle.px_exchange.specs.Pages.{page_bytes}
 
--- a page as a reply; the connection closes behind it
-unfoldable pub page_reply : Page → List ℕ → Reply
-page_reply p error = record { ending = ending.Page p; bytes = page_bytes p error; keep = false }
+-- what an answer becomes depends on this alone, beside the answer: whether the connection may be kept behind it
+pub record Ask : Type 0 where
+  pub keep : Bool
+
+abbrev pub ask_of : Asked → Ask
+ask_of asked = record { keep = asked.keep }
+
+-- what comes after a reply that is returned whole
+abbrev pub after_whole : Bool → After
+after_whole keep = if keep then after.Keep else after.Close
+
+-- a page that is due; the connection closes behind it
+unfoldable pub page_due : Page → List ℕ → Due
+page_due p error = record { ending = ending.Page p; bytes = page_bytes p error; after = after.Close }
 
 -- the page no-server-data
-abbrev pub no_data : Reply
-no_data = page_reply page.NoServerData []
+abbrev pub no_data : Due
+no_data = page_due page.NoServerData []
 
 -- the length that the one Content-Length states: digits of a number below 2^63 (RFC 9110, section 8.6)
 abbrev pub stated_length : List Field → Option ℕ
 stated_length [] = None
-stated_length (f ∷ fs) = if same_name f.name CONTENT_LENGTH.now
+stated_length (f ∷ fs) = if has_name CONTENT_LENGTH.now f
     then (if has_field CONTENT_LENGTH.now fs then None else decimal 9223372036854775807 f.value)
     else stated_length fs
 
@@ -92,11 +108,11 @@ unfoldable pub returned_head : Bool → Body → ResponseHead → List ℕ
 returned_head keep b head = printed_head (status_line (record head { minor = 1 })) (returned_fields keep b head.fields)
 
 -- what is returned of a head with its body, and of the bytes behind it; failed is whether the reading failed behind them
-abbrev pub passed : Bool → ResponseHead → Body → List ℕ → Bool → Reply
-passed keep head b rest failed = record {
+abbrev pub passed : Ask → ResponseHead → Body → List ℕ → Bool → Due
+passed ask head b rest failed = record {
   ending = ending_of (is_whole b rest failed);
-  bytes = returned_head keep b head ++ take (most_of b) rest;
-  keep = keep && has_end b && is_whole b rest failed;
+  bytes = returned_head ask.keep b head ++ take (most_of b) rest;
+  after = after_whole (ask.keep && has_end b && is_whole b rest failed);
 }
 
 -- the block reads as that head, or it is none that is read
@@ -131,16 +147,15 @@ ShowsAt end.Over bytes seen = seen ≡ Bad
 
 -- what the bytes of an answer show
 abbrev pub Shows : List ℕ → Seen → Type 0
-Shows bytes seen = ShowsAt (head_end 65536 bytes) bytes seen
+Shows bytes seen = ShowsAt (head_end HEAD_LIMIT bytes) bytes seen
 
-abbrev pub reply_of : Bool → Seen → Bool → Reply
-reply_of keep Waiting failed = no_data
-reply_of keep Bad failed = no_data
-reply_of keep (Good head b rest) failed = passed keep head b rest failed
+abbrev pub due_of : Ask → Seen → Bool → Due
+due_of ask Waiting failed = no_data
+due_of ask Bad failed = no_data
+due_of ask (Good head b rest) failed = passed ask head b rest failed
 
--- what is returned of an answer; keep is whether the connection may be kept, and failed whether the answer's reading failed
--- behind its bytes
-pub record Answered (keep : Bool) (bytes : List ℕ) (failed : Bool) (reply : Reply) : Type 0 where
+-- what is due for an answer; failed is whether the answer's reading failed behind its bytes
+pub record Answered (ask : Ask) (bytes : List ℕ) (failed : Bool) (due : Due) : Type 0 where
   pub seen : Seen
   pub shows : Shows bytes seen
-  pub reply_is : reply ≡ reply_of keep seen failed
+  pub due_is : due ≡ due_of ask seen failed

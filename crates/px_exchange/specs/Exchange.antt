@@ -1,85 +1,67 @@
 -- One exchange, joined from its parts: judging, dialling, sending and answering.
-use Rattle.std.specs.Prelude.{◌≡◌, ℕ, Bool, true, false, ◌⊎◌, if◌then◌else◌, List, ◌++◌, None, Some}
-use Rattle.px_base.specs.Causes.{Rose}
-use Rattle.px_base.specs.Sinks.{SinkState, AddsFront}
+use Rattle.std.specs.Prelude.{◌≡◌, ℕ, ◌⊎◌, List, Option, None, Some}
 use Rattle.px_base.specs.Dials.{DialerState}
-use Rattle.px_exchange.specs.declared.wire.TheConstants.{NOT_BUILT}
-use Rattle.px_exchange.specs.declared.pages.Page.TheVariants as page
-use Rattle.px_exchange.specs.declared.judging.HeadSeen.{HeadSeen}
-use Rattle.px_exchange.specs.declared.judging.Plan.{Plan}
-use Rattle.px_exchange.specs.declared.replies.Reply.{Reply}
-use Rattle.px_exchange.specs.declared.notes.Ending.{Ending}
-use Rattle.px_exchange.specs.declared.notes.Ending.TheVariants as ending
-use Rattle.px_exchange.specs.declared.notes.After.{After}
+use Rattle.px_exchange.specs.declared.snapshots.Config.{Config}
+use Rattle.px_exchange.specs.declared.judging.LocalReply.{LocalReply}
+use Rattle.px_exchange.specs.declared.judging.Judgement.{Judgement}
+use Rattle.px_exchange.specs.declared.judging.Judgement.TheVariants as judgement
+use Rattle.px_exchange.specs.declared.dues.Due.{Due}
 use Rattle.px_exchange.specs.declared.notes.After.TheVariants as after
-use Rattle.px_exchange.specs.Judging.{Judged}
-use Rattle.px_exchange.specs.Returning.{AddsPrefix}
-use Rattle.px_exchange.specs.Answering.{page_reply}
-use Rattle.px_exchange.specs.Dialling.{DialsOnce, WantsFor}
+use Rattle.px_exchange.specs.declared.notes.Conclusion.{Conclusion}
+use Rattle.px_exchange.specs.declared.talks.Talked.{Talked}
+use Rattle.px_exchange.specs.declared.talks.Talked.TheVariants as talked
+use Rattle.px_exchange.specs.declared.judging.Plan.{Plan}
+use Rattle.px_exchange.specs.Answering.{page_due}
+use Rattle.px_exchange.specs.Judging.{Given, Judged}
+use Rattle.px_exchange.specs.Returning.{Returns, AddsPrefix, broken}
+use Rattle.px_exchange.specs.Forwarding.{Forwards, WantsOver, TalksOver}
+use Rattle.px_exchange.specs.Dialling.{DialsOnce}
 
--- the page of a refused request
-abbrev pub refusal : Reply
-refusal = page_reply page.InvalidRequest NOT_BUILT.now
+-- a local reply as what is due
+abbrev pub local_due : Config → LocalReply → Due
+local_due config reply = page_due reply.page reply.error
 
--- a request that is refused: nothing is dialled
-pub record Refuses (seen : HeadSeen) (first last : Bool) (old new : DialerState) (reply : Reply) : Type 0 where
-  pub judged : Judged seen first last None
-  pub undialled : new ≡ old
-  pub page : reply ≡ refusal
+-- what follows from what was judged: the dialer before and after, what the client's sink had taken before and after, and how
+-- it was concluded
+abbrev pub Does : Given → Judgement → DialerState → DialerState → List ℕ → List ℕ → Conclusion → Type 0
+Does g (judgement.Local reply) old new taken taken' x = (new ≡ old) × Returns (local_due g.config reply) taken taken' x
+Does g (judgement.Forward plan) old new taken taken' x = DialsOnce plan.route (Forwards plan (λ due. Returns due taken taken' x)) old new
 
--- a request that is sent on: one dial by its plan
-pub record SendsOn (seen : HeadSeen) (first last : Bool) (old new : DialerState) (reply : Reply) : Type 0 where
-  pub plan : Plan
-  pub judged : Judged seen first last (Some plan)
-  pub dialled : DialsOnce old new plan reply
+-- one exchange, memory being there
+pub record Exchanges (g : Given) (old new : DialerState) (taken taken' : List ℕ) (x : Conclusion) : Type 0 where
+  pub judgement : Judgement
+  pub judged : Judged g judgement
+  pub does : Does g judgement old new taken taken' x
 
--- what is due to the client for a request, and what is dialled for it
-abbrev pub Due : HeadSeen → Bool → Bool → DialerState → DialerState → Reply → Type 0
-Due seen first last old new reply = Refuses seen first last old new reply ⊎ SendsOn seen first last old new reply
+-- memory was wanting in a dial, or behind it
+abbrev pub WantsForward : Plan → DialerState → DialerState → List ℕ → List ℕ → Type 0
+WantsForward plan old new taken taken' =
+    ((new.dials ≡ old.dials) × (taken' ≡ taken)) ⊎ DialsOnce plan.route (WantsOver plan taken taken') old new
 
--- what was dialled for a request that is sent on when memory was wanting
-pub record WantsOn (seen : HeadSeen) (first last : Bool) (old new : DialerState) : Type 0 where
-  pub plan : Plan
-  pub judged : Judged seen first last (Some plan)
-  pub dialled : WantsFor old new plan
+-- what was dialled and returned where memory was wanting: in judging, in a local reply, or for a request that is sent on
+abbrev pub Wants : Given → Option Judgement → DialerState → DialerState → List ℕ → List ℕ → Type 0
+Wants g None old new taken taken' = (new ≡ old) × (taken' ≡ taken)
+Wants g (Some (judgement.Local reply)) old new taken taken' = (new ≡ old) × AddsPrefix taken taken' (local_due g.config reply).bytes
+Wants g (Some (judgement.Forward plan)) old new taken taken' = WantsForward plan old new taken taken'
 
--- what was dialled when memory was wanting before a reply was due
-abbrev pub Wants : HeadSeen → Bool → Bool → DialerState → DialerState → Type 0
-Wants seen first last old new = (new.dials ≡ old.dials) ⊎ WantsOn seen first last old new
+-- what was judged, if memory was there for that
+abbrev pub JudgedMaybe : Given → Option Judgement → Type 0
+JudgedMaybe g None = Unit {0}
+JudgedMaybe g (Some j) = Judged g j
 
--- what the client's sink took of a reply, by what came after
-abbrev pub Returns : List ℕ → List ℕ → Reply → Ending → After → Type 0
-Returns old new reply e after.Keep = (new ≡ old ++ reply.bytes) × (reply.keep ≡ true) × (e ≡ reply.ending)
-Returns old new reply e after.Close = (new ≡ old ++ reply.bytes) × (reply.keep ≡ false) × (e ≡ reply.ending)
-Returns old new reply e after.WriteFailed = AddsFront old new reply.bytes × (e ≡ ending.Broken)
-Returns old new reply e after.NoMemory = AddsPrefix old new reply.bytes × (e ≡ ending.Broken)
+-- an exchange in which memory was wanting
+pub record GivesUp (g : Given) (old new : DialerState) (taken taken' : List ℕ) (x : Conclusion) : Type 0 where
+  pub judgement : Option Judgement
+  pub judged : JudgedMaybe g judgement
+  pub wants : Wants g judgement old new taken taken'
+  pub concluded : x ≡ broken after.NoMemory
 
--- a reply was due, and was returned, or after a fault or for want of memory a prefix of it
-pub record Replies (Due : Reply → Type 0) (taken taken' : List ℕ) (e : Ending) (a : After) : Type 0 where
-  pub reply : Reply
-  pub due : Due reply
-  pub returned : Returns taken taken' reply e a
+-- one exchange, or one in which memory was wanting
+abbrev pub Answers : Given → DialerState → DialerState → List ℕ → List ℕ → Conclusion → Type 0
+Answers g old new taken taken' x = Exchanges g old new taken taken' x ⊎ GivesUp g old new taken taken' x
 
--- memory was wanting before a reply was due, and nothing was returned
-pub record GivesUp (Wants : Type 0) (taken taken' : List ℕ) (e : Ending) (a : After) : Type 0 where
-  pub wants : Wants
-  pub nothing_returned : taken' ≡ taken
-  pub broken : e ≡ ending.Broken
-  pub no_memory : a ≡ after.NoMemory
-
--- one exchange: its request, whether it is the first and the last one of its connection, the dialer before and after,
--- what the client's sink had taken before and after, its ending, and what comes after
-abbrev pub Exchanges : HeadSeen → Bool → Bool → DialerState → DialerState → List ℕ → List ℕ → Ending → After → Type 0
-Exchanges seen first last old new taken taken' e a =
-    Replies (Due seen first last old new) taken taken' e a ⊎ GivesUp (Wants seen first last old new) taken taken' e a
-
--- the client's sink failed exactly where its count says so
-abbrev pub WriteCause : SinkState → SinkState → After → Type 0
-WriteCause old new after.Keep = new.faults ≡ old.faults
-WriteCause old new after.Close = new.faults ≡ old.faults
-WriteCause old new after.WriteFailed = Rose old.faults new.faults
-WriteCause old new after.NoMemory = new.faults ≡ old.faults
-
--- what comes after a reply that was returned whole
-abbrev pub after_whole : Bool → After
-after_whole keep = if keep then after.Keep else after.Close
+-- what came of a request that is sent on, before a page is returned in place of an answer
+abbrev pub TalksOn : Plan → DialerState → DialerState → List ℕ → List ℕ → Talked → Type 0
+TalksOn plan old new taken taken' t =
+    DialsOnce plan.route (TalksOver plan taken taken' t) old new
+    ⊎ ((t ≡ talked.Ended (broken after.NoMemory)) × (new.dials ≡ old.dials) × (taken' ≡ taken))

@@ -2,55 +2,53 @@
 use Rattle.std.specs.Prelude.{◌≡◌, ℕ, Bool, true, false, ◌⊎◌, IsTrue, List, [], ◌++◌, MatchBool, Result, MatchResult}
 use Rattle.px_base.specs.Causes.{Rose}
 use Rattle.px_base.specs.Sources.{SourceState, SourceGoesOn}
+use Rattle.px_streams.specs.Streams.{IsStream}
 use Rattle.px_base.specs.Sinks.{SinkState, SinkGoesOn, AddsFront}
 use Rattle.px_base.specs.declared.faults.SinkFault.{SinkFault}
 use Rattle.px_base.specs.declared.faults.SinkFault.TheVariants as fault
 use Rattle.px_exchange.specs.declared.pumps.Flow.{Flow}
 use Rattle.px_exchange.specs.declared.pumps.Stage.{Stage}
+use Rattle.px_exchange.specs.declared.notes.After.TheVariants as after
 use Rattle.px_exchange.specs.declared.talks.Talked.{Talked}
-use Rattle.px_exchange.specs.Answering.{Answered}
-use Rattle.px_exchange.specs.Pumps.{After, Pumped, SoFar, keeps_at}
-use Rattle.px_exchange.specs.Returning.{ReturnsBy}
-
--- the answer whose reading failed is what was read; else it is all that was left
-abbrev pub IsAnswer : Bool → List ℕ → List ℕ → List ℕ → Type 0
-IsAnswer true answer left left' = left ≡ answer ++ left'
-IsAnswer false answer left left' = answer ≡ left
+use Rattle.px_exchange.specs.declared.talks.Talked.TheVariants as talked
+use Rattle.px_exchange.specs.Answering.{Ask, Answered}
+use Rattle.px_exchange.specs.Pumps.{StageAfter, Pumped, SoFar, keeps_at}
+use Rattle.px_exchange.specs.Returning.{TalkGives, broken}
 
 -- what is returned of a stream; failed is whether its source failed
-pub record HearsStream (keep failed : Bool) (left left' taken taken' : List ℕ) (t : Talked) : Type 0 where
+pub record HearsStream (ask : Ask) (failed : Bool) (left left' taken taken' : List ℕ) (t : Talked) : Type 0 where
   pub answer : List ℕ
-  pub is_answer : IsAnswer failed answer left left'
-  pub returns : ReturnsBy (Answered keep answer failed) (Unit {0}) taken taken' t
+  pub is_answer : IsStream failed answer left left'
+  pub gives : TalkGives (Answered ask answer failed) taken taken' t
 
 -- what is returned of a link's bytes
-pub record Hears (keep : Bool) (i i' : SourceState) (o o' : SinkState) (t : Talked) : Type 0 where
+pub record Hears (ask : Ask) (i i' : SourceState) (o o' : SinkState) (t : Talked) : Type 0 where
   pub failed : Bool
   pub cause : MatchBool failed (Rose i.faults i'.faults) (i'.faults ≡ i.faults)
-  pub stream : IsTrue i.tells → IsTrue o.tells → HearsStream keep failed i.left i'.left o.taken o'.taken t
+  pub stream : IsTrue i.tells → IsTrue o.tells → HearsStream ask failed i.left i'.left o.taken o'.taken t
 
 -- a piece was fed, and what came out was written
-pub record FedOn (keep : Bool) (fed put taken taken' : List ℕ) (f : Flow) (s : Stage) : Type 0 where
+pub record FedOn (ask : Ask) (fed put taken taken' : List ℕ) (f : Flow) (s : Stage) : Type 0 where
   pub more : List ℕ
   pub written : taken' ≡ taken ++ more
-  pub after : After keep fed (put ++ more) s
-  pub pumped : Pumped keep fed (put ++ more) f (keeps_at s)
+  pub after : StageAfter ask fed (put ++ more) s
+  pub pumped : Pumped ask fed (put ++ more) f (keeps_at s)
 
 -- a write was refused: a proper prefix of what came out was written
-pub record CutOff (keep : Bool) (fed put taken taken' : List ℕ) : Type 0 where
+pub record CutOff (ask : Ask) (fed put taken taken' : List ℕ) : Type 0 where
   pub more : List ℕ
   pub front : AddsFront taken taken' more
-  pub so_far : SoFar keep fed (put ++ more)
+  pub so_far : SoFar ask fed (put ++ more)
 
 -- nothing came out, for want of memory
-pub record NoMore (keep : Bool) (fed put taken taken' : List ℕ) : Type 0 where
+pub record NoMore (ask : Ask) (fed put taken taken' : List ℕ) : Type 0 where
   pub nothing : taken' ≡ taken
-  pub so_far : SoFar keep fed put
+  pub so_far : SoFar ask fed put
 
 -- why a piece wasn't fed and written whole
-abbrev pub Stopped : Bool → List ℕ → List ℕ → List ℕ → List ℕ → List ℕ → SinkFault → Type 0
-Stopped keep fed piece put taken taken' fault.Failed = CutOff keep (fed ++ piece) put taken taken'
-Stopped keep fed piece put taken taken' fault.Mem = CutOff keep (fed ++ piece) put taken taken' ⊎ NoMore keep fed put taken taken'
+abbrev pub Stopped : Ask → List ℕ → List ℕ → List ℕ → List ℕ → List ℕ → SinkFault → Type 0
+Stopped ask fed piece put taken taken' fault.Failed = CutOff ask (fed ++ piece) put taken taken'
+Stopped ask fed piece put taken taken' fault.Mem = CutOff ask (fed ++ piece) put taken taken' ⊎ NoMore ask fed put taken taken'
 
 -- what a fault says of the sink's count
 abbrev pub FaultCause : SinkState → SinkState → SinkFault → Type 0
@@ -60,17 +58,22 @@ FaultCause old new fault.Mem = new.faults ≡ old.faults
 abbrev pub FeedCause : {T : Type 0} → SinkState → SinkState → Result T SinkFault → Type 0
 FeedCause old new result = MatchResult result (λ _. new.faults ≡ old.faults) (λ f. FaultCause old new f)
 
+-- what came of a talk in which a write was refused
+abbrev pub talk_refused : SinkFault → Talked
+talk_refused fault.Failed = talked.Ended (broken after.WriteFailed)
+talk_refused fault.Mem = talked.Ended (broken after.NoMemory)
+
 -- a loop's streams: bytes were fed, and others put out
-pub record Flows (keep : Bool) (left left' taken taken' : List ℕ) (s : Stage) : Type 0 where
+pub record Flows (ask : Ask) (left left' taken taken' : List ℕ) (s : Stage) : Type 0 where
   pub fed : List ℕ
   pub put : List ℕ
   pub read : left ≡ fed ++ left'
   pub written : taken' ≡ taken ++ put
-  pub after : After keep fed put s
+  pub after : StageAfter ask fed put s
 
 -- what the loop of the answering part keeps, that began at a stage behind nothing fed
 pub record Flowing (first : Stage) (i i' : SourceState) (o o' : SinkState) (s : Stage) : Type 0 where
-  pub flows : (keep : Bool) → After keep [] [] first → IsTrue i.tells → IsTrue o.tells → Flows keep i.left i'.left o.taken o'.taken s
+  pub flows : (ask : Ask) → StageAfter ask [] [] first → IsTrue i.tells → IsTrue o.tells → Flows ask i.left i'.left o.taken o'.taken s
   pub in_faults_same : i'.faults ≡ i.faults
   pub out_faults_same : o'.faults ≡ o.faults
   pub open_ : o'.finished ≡ o.finished

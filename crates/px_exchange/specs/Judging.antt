@@ -1,17 +1,50 @@
--- Judging: what a request asks for, and the head that is sent on.
-use Rattle.std.specs.Prelude.{◌≡◌, ℕ, Bool, not, ◌&&◌, ◌==◌, ◌⊎◌, if◌then◌else◌, List, [], ◌∷◌, ◌++◌, Option, None, option_map, MatchBool}
+-- Judging: what is done for a request, before any dial. Each step is a function of its own: it refuses, or goes on to the next.
+use Rattle.std.specs.Prelude.{◌≡◌, ℕ, Bool, not, ◌&&◌, ◌==◌, if◌then◌else◌, List, [], ◌∷◌, ◌++◌, Option, Some, None}
 use Rattle.std.specs.Str.{bytes_eq}
 use Rattle.px_head.specs.declared.fields.Field.{Field}
 use Rattle.px_head.specs.declared.requests.RequestHead.{RequestHead}
 use Rattle.px_head.specs.Heads.{IsRequest, IsNoRequest, HasManyRequestFields}
+use Rattle.px_head.specs.Names.{has_field, is_connection_word}
 use Rattle.px_head.specs.Prints.{request_line, printed_head}
-use Rattle.px_exchange.specs.declared.wire.TheConstants.{GET, HOST, CONNECTION, CLOSE, TRANSFER_ENCODING, CONTENT_LENGTH, EXPECT}
+use Rattle.px_exchange.specs.declared.wire.TheConstants.{GET, HTTP_PORT, HOST, CONNECTION, CLOSE, TRANSFER_ENCODING, CONTENT_LENGTH, EXPECT, NOT_BUILT}
 use Rattle.px_exchange.specs.declared.targets.Target.{Target}
+use Rattle.px_exchange.specs.declared.snapshots.Config.{Config}
+use Rattle.px_exchange.specs.declared.pages.Page.TheVariants as page
 use Rattle.px_exchange.specs.declared.judging.Plan.{Plan}
+use Rattle.px_exchange.specs.declared.judging.Judgement.{Judgement}
+use Rattle.px_exchange.specs.declared.judging.Judgement.TheVariants.{Local, Forward}
+use Rattle.px_exchange.specs.declared.judging.Reading.{Reading}
+use Rattle.px_exchange.specs.declared.judging.Reading.TheVariants.{Overlong, Malformed, TooManyFields, Head}
 use Rattle.px_exchange.specs.declared.judging.HeadSeen.{HeadSeen}
 use Rattle.px_exchange.specs.declared.judging.HeadSeen.TheVariants as seen
-use Rattle.px_exchange.specs.Names.{has_field, has_connection_word, kept_of_request}
+use Rattle.px_exchange.specs.Fields.{kept_of_request}
 use Rattle.px_exchange.specs.Targets.{target_of}
+
+-- all that an exchange is handed, but for the objects that it works on
+pub record Given : Type 0 where
+  pub config : Config
+  -- what was seen where the request begins
+  pub seen : HeadSeen
+  -- whether it is the first request of its connection, and whether it is the last that a connection may have
+  pub first : Bool
+  pub last : Bool
+  -- the client's tags and address
+  pub tags : List (List ℕ)
+  pub peer : List ℕ
+  -- in seconds since 1970
+  pub moment : ℕ
+
+-- what a block reads as
+abbrev pub BlockReads : List ℕ → Reading → Type 0
+BlockReads block Overlong = ⊥
+BlockReads block Malformed = IsNoRequest block
+BlockReads block TooManyFields = HasManyRequestFields block
+BlockReads block (Head head) = IsRequest block head
+
+-- what was seen reads as
+abbrev pub ReadsAs : HeadSeen → Reading → Type 0
+ReadsAs (seen.Block block) r = BlockReads block r
+ReadsAs seen.Over r = r ≡ Overlong
 
 -- a GET of HTTP/1.1 without a body and without Expect
 unfoldable pub is_built : RequestHead → Bool
@@ -20,7 +53,7 @@ is_built head = bytes_eq head.method GET.now && head.minor == 1
 
 -- the connection may be kept behind such a request, unless it is the last one or a Connection field says close
 unfoldable pub keeps : Bool → List Field → Bool
-keeps last fields = not last && not (has_connection_word CLOSE.now fields)
+keeps last fields = not last && not (is_connection_word CLOSE.now fields)
 
 -- the fields that are sent on: Host of the target, the client's that are passed on, and Connection: close
 unfoldable pub sent_fields : List ℕ → List Field → List Field
@@ -35,23 +68,38 @@ sent_head host path fields =
 
 -- the plan of a built request to that target
 unfoldable pub plan_to : Bool → List Field → Target → Plan
-plan_to last fields target = record { host = target.host; sent = sent_head target.host target.path fields; keep = keeps last fields }
+plan_to last fields target = record {
+  route = record { host = target.host; port = HTTP_PORT };
+  head = sent_head target.host target.path fields;
+  asked = record { keep = keeps last fields };
+}
 
--- what a head asks for, if it is built
-unfoldable pub plan_of : Bool → RequestHead → Option Plan
-plan_of last head = if is_built head then option_map (plan_to last head.fields) (target_of head.target) else None
+-- the request is refused
+unfoldable pub refused : Judgement
+refused = Local (record { page = page.InvalidRequest; error = NOT_BUILT.now })
 
--- the block reads as a head that asks for that plan, or it is no head that is read, and asks for none
-abbrev pub JudgedBlock : List ℕ → Bool → Option Plan → Type 0
-JudgedBlock block last plan =
-    ((head : RequestHead) × IsRequest block head × (plan ≡ plan_of last head))
-    ⊎ ((IsNoRequest block ⊎ HasManyRequestFields block) × (plan ≡ None))
+-- by the head's form, behind its target
+unfoldable pub by_rule : Given → RequestHead → Target → Judgement
+by_rule g head target = if is_built head then Forward (plan_to g.last head.fields target) else refused
 
--- what was seen asks for that plan, or for none: then it is refused
-abbrev pub JudgedSeen : HeadSeen → Bool → Option Plan → Type 0
-JudgedSeen (seen.Block block) last plan = JudgedBlock block last plan
-JudgedSeen seen.Over last plan = plan ≡ None
+-- by the target
+abbrev pub by_url : Given → RequestHead → Option Target → Judgement
+by_url g head None = refused
+by_url g head (Some target) = by_rule g head target
 
 -- a request that isn't the first of its connection is refused
-abbrev pub Judged : HeadSeen → Bool → Bool → Option Plan → Type 0
-Judged s first last plan = MatchBool first (JudgedSeen s last plan) (plan ≡ None)
+unfoldable pub by_place : Given → RequestHead → Judgement
+by_place g head = if g.first then by_url g head (target_of head.target) else refused
+
+-- what is done for a request that reads so
+abbrev pub judged : Given → Reading → Judgement
+judged g Overlong = refused
+judged g Malformed = refused
+judged g TooManyFields = refused
+judged g (Head head) = by_place g head
+
+-- what was seen reads as something, by which that is done
+pub record Judged (g : Given) (j : Judgement) : Type 0 where
+  pub reading : Reading
+  pub reads : ReadsAs g.seen reading
+  pub is : j ≡ judged g reading

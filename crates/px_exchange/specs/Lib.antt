@@ -1,11 +1,10 @@
-pub mod Names
+pub mod Fields
 pub mod Targets
 pub mod Pages
-pub mod Reading
 pub mod Judging
 pub mod Answering
 pub mod Pumps
-pub mod Sending
+pub mod Forwarding
 pub mod Returning
 pub mod Hearing
 pub mod Dialling

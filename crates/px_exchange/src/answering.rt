@@ -2,15 +2,16 @@
 ghost use Rattle.std.specs.Prelude.{◌≡◌, ◌≢◌, ◌<◌, ◌++◌, ℕ, Bool, [], List, IsTrue, IfOk, MatchResult, length};
 ghost use Rattle.px_base.specs.Sources.{SourceGoesOn};
 ghost use Rattle.px_base.specs.Sinks.{SinkGoesOn};
-ghost use Rattle.px_exchange.specs.Answering.{Answered};
-ghost use Rattle.px_exchange.specs.Pumps.{After, IsOfAnswer, pieces_left, ending_talk};
-ghost use Rattle.px_exchange.specs.Hearing.{Hears, FedOn, Stopped, FeedCause};
-ghost use Rattle.px_exchange.specs.Returning.{ReturnsBy, TalkCause, IsHeard};
+ghost use Rattle.px_exchange.specs.Answering.{Ask, ask_of, Answered};
+ghost use Rattle.px_exchange.specs.Pumps.{StageAfter, IsOfAnswer, pieces_left, EndsTalk};
+ghost use Rattle.px_exchange.specs.Hearing.{Hears, FedOn, Stopped, FeedCause, talk_refused};
+ghost use Rattle.px_exchange.specs.Returning.{TalkGives, TalkCause, IsHeard};
 
-use crate::ahead::PIECE;
+use crate::notes::{After, Conclusion, after_whole, broken};
 use crate::pumps::{Asked, Flow, Pump};
 use crate::talks::Talked;
 use px_base::{Failed, Mem, Sink, SinkFault, Source, Text, write_all};
+use px_streams::PIECE;
 use std::alloc::Global;
 
 /// Feeds a piece, and writes what comes out.
@@ -20,9 +21,9 @@ fn feed_on<O: Sink>(
     out: &mut Text,
     client_out: &mut O,
 ) -> Result<Flow, SinkFault>
-    ensures fed { IsTrue (O.state client_out.old).tells → (keep : Bool) (fed put : List ℕ) → After keep fed put pump.old
-        → MatchResult result (λ f. FedOn keep (fed ++ piece.now) put (O.state client_out.old).taken (O.state client_out.new).taken f pump.new)
-        (λ e. Stopped keep fed piece.now put (O.state client_out.old).taken (O.state client_out.new).taken e) }
+    ensures fed { IsTrue (O.state client_out.old).tells → (ask : Ask) (fed put : List ℕ) → StageAfter ask fed put pump.old
+        → MatchResult result (λ f. FedOn ask (fed ++ piece.now) put (O.state client_out.old).taken (O.state client_out.new).taken f pump.new)
+        (λ e. Stopped ask fed piece.now put (O.state client_out.old).taken (O.state client_out.new).taken e) }
     ensures kind { IfOk result IsOfAnswer }
     ensures progress { IfOk result (λ f. f ≡ Flow.More → 0 < length piece.now → pieces_left pump.new < pieces_left pump.old) }
     ensures cause { FeedCause (O.state client_out.old) (O.state client_out.new) result }
@@ -39,22 +40,37 @@ fn feed_on<O: Sink>(
     }
 }
 
-/// What a flow at its end says.
-fn talked(flow: Flow, keep: bool) -> Talked
-    ensures value { result ≡ ending_talk flow keep }
+/// What came of a talk whose flow is at its end.
+fn end_talk(flow: Flow, keeps: bool) -> Talked
+    requires { flow ≢ Flow.More }
+    ensures value { EndsTalk flow keeps result }
     ensures heard { IsOfAnswer flow → IsHeard result }
 {
     match flow {
-        Flow::More => Talked::NoMemory,
-        Flow::Done(ending) => Talked::Returned { keep, ending },
+        Flow::More => unreachable!(),
+        Flow::Done(ending) => Talked::Ended(Conclusion {
+            ending,
+            after: after_whole(keeps),
+        }),
         Flow::Refused(page) => Talked::Page(page),
+    }
+}
+
+/// What came of a talk in which a write was refused.
+fn end_refused(fault: SinkFault) -> Talked
+    ensures value { result ≡ talk_refused fault }
+    ensures heard { IsHeard result }
+{
+    match fault {
+        SinkFault::Failed => Talked::Ended(broken(After::WriteFailed)),
+        SinkFault::Mem => Talked::Ended(broken(After::NoMemory)),
     }
 }
 
 /// Ends the answer, and writes what comes out.
 fn end_on<O: Sink>(pump: &mut Pump, failed: bool, out: &mut Text, client_out: &mut O) -> Talked
-    ensures ended { IsTrue (O.state client_out.old).tells → (keep : Bool) (fed put taken : List ℕ) → After keep fed put pump.old → (O.state client_out.old).taken ≡ taken ++ put
-        → ReturnsBy (Answered keep fed failed) (Unit {0}) taken (O.state client_out.new).taken result }
+    ensures ended { IsTrue (O.state client_out.old).tells → (ask : Ask) (fed put taken : List ℕ) → StageAfter ask fed put pump.old → (O.state client_out.old).taken ≡ taken ++ put
+        → TalkGives (Answered ask fed failed) taken (O.state client_out.new).taken result }
     ensures cause { TalkCause (O.state client_out.old) (O.state client_out.new) result }
     ensures heard { IsHeard result }
     ensures open { (O.state client_out.new).finished ≡ (O.state client_out.old).finished }
@@ -62,11 +78,10 @@ fn end_on<O: Sink>(pump: &mut Pump, failed: bool, out: &mut Text, client_out: &m
 {
     out.clear();
     match pump.end(failed, out) {
-        Err(Mem) => Talked::NoMemory,
+        Err(Mem) => Talked::Ended(broken(After::NoMemory)),
         Ok(flow) => match write_all(client_out, out.as_bytes()) {
-            Ok(()) => talked(flow, pump.keeps()),
-            Err(SinkFault::Failed) => Talked::WriteFailed,
-            Err(SinkFault::Mem) => Talked::NoMemory,
+            Ok(()) => end_talk(flow, pump.keeps()),
+            Err(fault) => end_refused(fault),
         },
     }
 }
@@ -78,7 +93,7 @@ fn pass_on<I: Source, O: Sink>(
     link_in: &mut I,
     client_out: &mut O,
 ) -> Talked
-    ensures hears { (keep : Bool) → After keep [] [] pump.old → Hears keep (I.state link_in.old) (I.state link_in.new) (O.state client_out.old) (O.state client_out.new) result }
+    ensures hears { (ask : Ask) → StageAfter ask [] [] pump.old → Hears ask (I.state link_in.old) (I.state link_in.new) (O.state client_out.old) (O.state client_out.new) result }
     ensures cause { TalkCause (O.state client_out.old) (O.state client_out.new) result }
     ensures heard { IsHeard result }
     ensures open { (O.state client_out.new).finished ≡ (O.state client_out.old).finished }
@@ -95,13 +110,14 @@ fn pass_on<I: Source, O: Sink>(
                     return end_on(pump, false, &mut out, client_out);
                 }
                 match feed_on(pump, &buf[..count], &mut out, client_out) {
-                    Err(SinkFault::Failed) => return Talked::WriteFailed,
-                    Err(SinkFault::Mem) => return Talked::NoMemory,
+                    Err(fault) => return end_refused(fault),
                     Ok(flow) => match flow {
                         Flow::More => {}
                         Flow::Done(ending) => {
-                            let keep = pump.keeps();
-                            return Talked::Returned { keep, ending };
+                            return Talked::Ended(Conclusion {
+                                ending,
+                                after: after_whole(pump.keeps()),
+                            });
                         }
                         Flow::Refused(page) => return Talked::Page(page),
                     },
@@ -111,14 +127,14 @@ fn pass_on<I: Source, O: Sink>(
     }
 }
 
-/// Hears an answer over a link, and returns it to the client.
-pub fn hear<I: Source, O: Sink>(
+/// Reads an answer over a link, and returns it to the client.
+pub fn return_answer<I: Source, O: Sink>(
     alloc: Global,
     asked: Asked,
     link_in: &mut I,
     client_out: &mut O,
 ) -> Talked
-    ensures hears { Hears asked.keep (I.state link_in.old) (I.state link_in.new) (O.state client_out.old) (O.state client_out.new) result }
+    ensures hears { Hears (ask_of asked) (I.state link_in.old) (I.state link_in.new) (O.state client_out.old) (O.state client_out.new) result }
     ensures cause { TalkCause (O.state client_out.old) (O.state client_out.new) result }
     ensures heard { IsHeard result }
     ensures open { (O.state client_out.new).finished ≡ (O.state client_out.old).finished }

@@ -3,11 +3,11 @@ ghost use Rattle.std.specs.Prelude.{◌≡◌, ◌≤◌, ◌&&◌, ◌++◌, On
 ghost use Rattle.px_exchange.specs.Answering.{stated_length, has_plain_body, body_by_length, body_of, most_of, has_end, framing};
 ghost use Rattle.px_exchange.specs.Pumps.{shorter};
 
-use crate::names::{has_field, is_same_name, push_field};
+use crate::fields::push_field;
 use crate::wire::{CONTENT_LENGTH, TRANSFER_ENCODING};
 use itoa::Buffer;
 use px_base::{List, Mem, read_decimal};
-use px_head::{Field, ResponseHead};
+use px_head::{Field, ResponseHead, has_field, has_name};
 use std::alloc::Global;
 
 /// The most bytes of a body: what a Content-Length may state, and what a body to the close may have.
@@ -67,8 +67,8 @@ fn stated_length(fields: &[Field]) -> Option<u64>
     ensures { result ≡ stated_length fields.now }
 {
     for (at, field) in fields.iter().enumerate() {
-        if is_same_name(field.name.as_bytes(), CONTENT_LENGTH) {
-            if has_field(CONTENT_LENGTH, &fields[at + 1..]) {
+        if has_name(field, CONTENT_LENGTH) {
+            if has_field(&fields[at + 1..], CONTENT_LENGTH) {
                 return None;
             }
             return read_decimal(field.value.as_bytes(), LENGTH_LIMIT);
@@ -86,7 +86,7 @@ fn has_plain_body(head: &ResponseHead) -> bool
     status >= 200
         && status != 204
         && status != 304
-        && !has_field(TRANSFER_ENCODING, head.fields.as_slice())
+        && !has_field(head.fields.as_slice(), TRANSFER_ENCODING)
 }
 
 /// The body by the Content-Length fields.
@@ -94,7 +94,7 @@ fn has_plain_body(head: &ResponseHead) -> bool
 fn body_by_length(fields: &[Field]) -> Option<Body>
     ensures { result ≡ body_by_length fields.now }
 {
-    if has_field(CONTENT_LENGTH, fields) {
+    if has_field(fields, CONTENT_LENGTH) {
         match stated_length(fields) {
             Some(len) => Some(Body::Length(len)),
             None => None,

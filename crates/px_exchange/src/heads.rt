@@ -25,9 +25,9 @@ pub enum HeadRead {
 
 /// Reads the head at the front of an answer's bytes, which begin with those that were searched.
 pub fn read_head(alloc: Global, held: &[u8], search: &mut HeadSearch) -> Result<HeadRead, Mem>
-    requires { BeginsSearched 65536 held.now search.old }
+    requires { BeginsSearched HEAD_LIMIT held.now search.old }
     ensures read { IfOk result (λ read. ReadsHead read held.now) }
-    ensures searched { IfOk result (λ read. read ≡ HeadRead.NotYet → Searched 65536 held.now search.new) }
+    ensures searched { IfOk result (λ read. read ≡ HeadRead.NotYet → Searched HEAD_LIMIT held.now search.new) }
 {
     match search.go_on(held, HEAD_LIMIT) {
         HeadEnd::NotYet => Ok(HeadRead::NotYet),

@@ -1,13 +1,19 @@
-// Judging: what a request asks for.
-ghost use Rattle.std.specs.Prelude.{◌≡◌, Bool, IfOk};
-ghost use Rattle.px_exchange.specs.Judging.{is_built, keeps, sent_fields, sent_head, plan_to, plan_of, Judged, JudgedSeen, JudgedBlock};
+// Judging: what is done for a request, before any dial.
+ghost use Rattle.std.specs.Prelude.{◌≡◌, IfOk};
+ghost use Rattle.px_exchange.specs.Judging.{is_built, keeps, sent_fields, sent_head, plan_to, refused, by_rule, by_place, judged, ReadsAs, BlockReads};
 
-use crate::names::{has_connection_word, has_field, keep_of_request, push_field};
+use crate::fields::{keep_of_request, push_field};
+use crate::pages::Page;
+use crate::pumps::Asked;
+use crate::snapshots::Config;
 use crate::targets::{Target, read_target};
-use crate::wire::{CLOSE, CONNECTION, CONTENT_LENGTH, EXPECT, GET, HOST, TRANSFER_ENCODING};
-use px_base::{List, Mem, Text};
-use px_head::{Field, HeadFault, RequestHead, print_head};
+use crate::wire::{
+    CLOSE, CONNECTION, CONTENT_LENGTH, EXPECT, GET, HOST, HTTP_PORT, NOT_BUILT, TRANSFER_ENCODING,
+};
+use px_base::{List, Mem, Peer, Text};
+use px_head::{Field, HeadFault, RequestHead, has_field, is_connection_word, print_head};
 use std::alloc::Global;
+use std::marker::Model;
 
 /// What was seen where a request begins.
 #[derive(Drop)]
@@ -18,13 +24,71 @@ pub enum HeadSeen {
     Over,
 }
 
-/// A request that is sent on: the host that is dialled, the bytes that are sent to it, and whether the client's connection
-/// may be kept.
+/// What the bytes that were seen read as.
+#[derive(Drop)]
+pub enum Reading {
+    /// No block within the limit.
+    Overlong,
+    /// A block that isn't one whole head.
+    Malformed,
+    /// A head of too many fields.
+    TooManyFields,
+    Head(RequestHead),
+}
+
+/// All that an exchange is handed, but for the objects that it works on.
+#[derive(Drop)]
+pub struct Handed<'a> {
+    pub config: &'a Config,
+    /// What was seen where the request begins.
+    pub seen: &'a HeadSeen,
+    /// Whether it is the first request of its connection.
+    pub first: bool,
+    /// Whether it is the last one that a connection may have.
+    pub last: bool,
+    /// The client's tags, which have no effect yet.
+    pub tags: &'a [Text],
+    /// The client, whose address has no effect yet.
+    pub peer: &'a Peer,
+    /// In seconds since 1970.
+    pub moment: u64,
+}
+
+impl<'a> Model for Handed<'a> {
+    ghost use Rattle.px_exchange.specs.Judging.{Given};
+
+    ghost Value = { Given };
+
+    ghost view = { λ h. record { config = h.config.now; seen = h.seen.now; first = h.first; last = h.last; tags = h.tags.now; peer = h.peer.now.address; moment = h.moment } };
+}
+
+/// Where a request is sent on to.
+#[derive(Drop)]
+pub struct Route {
+    pub host: Text,
+    pub port: u16,
+}
+
+/// A request that is sent on: where to, the head that is sent, and what was asked, as far as it says what is returned.
 #[derive(Drop)]
 pub struct Plan {
-    pub host: Text,
-    pub sent: Text,
-    pub keep: bool,
+    pub route: Route,
+    pub head: Text,
+    pub asked: Asked,
+}
+
+/// A page that is returned without a dial. `error` is the name of a refusal.
+#[derive(Drop)]
+pub struct LocalReply {
+    pub page: Page,
+    pub error: Text,
+}
+
+/// What is done for a request.
+#[derive(Drop)]
+pub enum Judgement {
+    Local(LocalReply),
+    Forward(Plan),
 }
 
 /// Whether the head is of a form that is sent on, apart from its target: a GET of HTTP/1.1 without a body and without Expect.
@@ -35,9 +99,9 @@ fn is_built(head: &RequestHead) -> bool
     let fields = head.fields.as_slice();
     head.method.as_bytes() == GET
         && head.minor == 1
-        && !has_field(TRANSFER_ENCODING, fields)
-        && !has_field(CONTENT_LENGTH, fields)
-        && !has_field(EXPECT, fields)
+        && !has_field(fields, TRANSFER_ENCODING)
+        && !has_field(fields, CONTENT_LENGTH)
+        && !has_field(fields, EXPECT)
 }
 
 /// Whether the connection may be kept behind a request of HTTP/1.1 (RFC 9112, section 9.3). `last` is the last request of a
@@ -46,7 +110,7 @@ fn is_built(head: &RequestHead) -> bool
 fn keeps(last: bool, fields: &[Field]) -> bool
     ensures { result ≡ keeps last fields.now }
 {
-    !last && !has_connection_word(CLOSE, fields)
+    !last && !is_connection_word(CLOSE, fields)
 }
 
 /// The fields that are sent on: Host of the target, the client's without those that are held back, and `Connection: close`.
@@ -84,56 +148,90 @@ fn plan_to(alloc: Global, last: bool, fields: &[Field], target: Target) -> Resul
     ensures { IfOk result (λ plan. plan ≡ plan_to last fields.now target) }
 {
     let Target { host, path } = target;
-    let sent = sent_head(alloc, host.as_bytes(), path, fields)?;
+    let head = sent_head(alloc, host.as_bytes(), path, fields)?;
     Ok(Plan {
-        host,
-        sent,
-        keep: keeps(last, fields),
+        route: Route {
+            host,
+            port: HTTP_PORT,
+        },
+        head,
+        asked: Asked {
+            keep: keeps(last, fields),
+        },
     })
 }
 
-/// What a head asks for, if it is built.
-#[tactic(auto, unfolding(crate::specs::Judging::plan_of))]
-fn plan_of(alloc: Global, last: bool, head: &RequestHead) -> Result<Option<Plan>, Mem>
-    ensures { IfOk result (λ plan. plan ≡ plan_of last head.now) }
+/// The refusal of a request.
+#[tactic(auto, unfolding(crate::specs::Judging::refused))]
+fn refused(alloc: Global) -> Result<Judgement, Mem>
+    ensures { IfOk result (λ judgement. judgement ≡ refused) }
+{
+    Ok(Judgement::Local(LocalReply {
+        page: Page::InvalidRequest,
+        error: Text::from_bytes(alloc, NOT_BUILT)?,
+    }))
+}
+
+/// Judges a head by its form.
+#[tactic(auto, unfolding(crate::specs::Judging::by_rule))]
+fn judge_form(
+    alloc: Global,
+    handed: &Handed<'_>,
+    head: &RequestHead,
+    target: Target,
+) -> Result<Judgement, Mem>
+    ensures { IfOk result (λ judgement. judgement ≡ by_rule handed.now head.now target) }
 {
     if !is_built(head) {
-        return Ok(None);
+        return refused(alloc);
+    }
+    let plan = plan_to(alloc, handed.last, head.fields.as_slice(), target)?;
+    Ok(Judgement::Forward(plan))
+}
+
+/// Judges a head by its place, its target and its form.
+#[tactic(auto, unfolding(crate::specs::Judging::by_place))]
+fn judge_head(alloc: Global, handed: &Handed<'_>, head: &RequestHead) -> Result<Judgement, Mem>
+    ensures { IfOk result (λ judgement. judgement ≡ by_place handed.now head.now) }
+{
+    if !handed.first {
+        return refused(alloc);
     }
     match read_target(alloc, head.target.as_bytes())? {
-        None => Ok(None),
-        Some(target) => Ok(Some(plan_to(alloc, last, head.fields.as_slice(), target)?)),
+        None => refused(alloc),
+        Some(target) => judge_form(alloc, handed, head, target),
     }
 }
 
-/// What a request asks for. None means that it is refused, as each is that isn't the first of its connection.
-pub fn judge(alloc: Global, seen: &HeadSeen, first: bool, last: bool) -> Result<Option<Plan>, Mem>
-    ensures { IfOk result (Judged seen.now first last) }
+/// What is done for a request that reads so.
+pub fn judge(alloc: Global, handed: &Handed<'_>, reading: &Reading) -> Result<Judgement, Mem>
+    ensures { IfOk result (λ judgement. judgement ≡ judged handed.now reading.now) }
 {
-    if first {
-        judge_seen(alloc, seen, last)
-    } else {
-        Ok(None)
+    match reading {
+        Reading::Overlong => refused(alloc),
+        Reading::Malformed => refused(alloc),
+        Reading::TooManyFields => refused(alloc),
+        Reading::Head(head) => judge_head(alloc, handed, head),
     }
 }
 
-fn judge_seen(alloc: Global, seen: &HeadSeen, last: bool) -> Result<Option<Plan>, Mem>
-    ensures { IfOk result (JudgedSeen seen.now last) }
+/// Reads what was seen.
+pub fn read_request(alloc: Global, seen: &HeadSeen) -> Result<Reading, Mem>
+    ensures { IfOk result (ReadsAs seen.now) }
 {
     match seen {
-        HeadSeen::Block(block) => judge_block(alloc, block.as_bytes(), last),
-        HeadSeen::Over => Ok(None),
+        HeadSeen::Block(block) => read_block(alloc, block.as_bytes()),
+        HeadSeen::Over => Ok(Reading::Overlong),
     }
 }
 
-/// What a block asks for.
-fn judge_block(alloc: Global, block: &[u8], last: bool) -> Result<Option<Plan>, Mem>
-    ensures { IfOk result (JudgedBlock block.now last) }
+fn read_block(alloc: Global, block: &[u8]) -> Result<Reading, Mem>
+    ensures { IfOk result (BlockReads block.now) }
 {
     match RequestHead::read(alloc, block) {
-        Ok(head) => plan_of(alloc, last, &head),
-        Err(HeadFault::Malformed) => Ok(None),
-        Err(HeadFault::TooManyFields) => Ok(None),
+        Ok(head) => Ok(Reading::Head(head)),
+        Err(HeadFault::Malformed) => Ok(Reading::Malformed),
+        Err(HeadFault::TooManyFields) => Ok(Reading::TooManyFields),
         Err(HeadFault::Mem) => Err(Mem),
     }
 }

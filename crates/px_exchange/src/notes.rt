@@ -1,4 +1,8 @@
 // What came of an exchange.
+ghost use Rattle.std.specs.Prelude.{◌≡◌};
+ghost use Rattle.px_exchange.specs.Answering.{after_whole};
+ghost use Rattle.px_exchange.specs.Returning.{broken};
+
 use crate::pages::Page;
 
 /// What an exchange returned.
@@ -23,6 +27,30 @@ pub enum After {
     /// The client's sink failed.
     WriteFailed,
     NoMemory,
+}
+
+/// How an exchange was concluded: its ending, and what comes after it.
+#[derive(Clone, Copy, Debug, PartialEq, Eq)]
+pub struct Conclusion {
+    pub ending: Ending,
+    pub after: After,
+}
+
+/// Not all that was due was returned, and that comes after.
+pub fn broken(after: After) -> Conclusion
+    ensures { result ≡ broken after }
+{
+    Conclusion {
+        ending: Ending::Broken,
+        after,
+    }
+}
+
+/// What comes after a reply that is returned whole.
+pub fn after_whole(keep: bool) -> After
+    ensures { result ≡ after_whole keep }
+{
+    if keep { After::Keep } else { After::Close }
 }
 
 /// The record of an exchange: the number of the configuration that it used, its moment in seconds since 1970, and its ending.

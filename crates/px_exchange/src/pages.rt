@@ -2,7 +2,7 @@
 ghost use Rattle.std.specs.Prelude.{◌≡◌, ◌++◌, IfOk, OnOk, length, decimal};
 ghost use Rattle.px_exchange.specs.Pages.{page_name, page_status, page_text, page_body, page_head, page_bytes};
 
-use crate::names::push_field;
+use crate::fields::push_field;
 use crate::wire::{
     CACHE_CONTROL, CLOSE, CONNECTION, CONTENT_LENGTH, CONTENT_TYPE, NO_CACHE, PAGE_END, PAGE_FRONT,
     TEXT_HTML,

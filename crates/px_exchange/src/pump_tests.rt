@@ -2,9 +2,9 @@
 ghost use Rattle.std.specs.Prelude.{◌<◌};
 ghost use Rattle.px_base.specs.Sources.{untold_source};
 
-use crate::answering::hear;
+use crate::answering::return_answer;
 use crate::talks::Talked;
-use crate::{Asked, Ending, Flow, Page, Pump};
+use crate::{After, Asked, Conclusion, Ending, Flow, Page, Pump};
 use px_base::{Failed, Mem, Sink, SinkFault, Source, TapeIn, TapeOut, Text};
 use std::alloc::Global;
 use std::sync::atomic::{AtomicU64, Ordering};
@@ -103,6 +103,8 @@ const AHEAD: u64 = 16_384;
 struct Paced<'a> {
     tape: TapeIn,
     given: u64,
+    /// How many bytes the greatest read asked for.
+    most: usize,
     taken: &'a AtomicU64,
     faults: u64,
 }
@@ -111,6 +113,7 @@ impl<'a> Source for Paced<'a> {
     ghost state = { λ s. untold_source s.faults 0 };
 
     fn read(&mut self, buf: &mut [u8]) -> Result<usize, Failed> {
+        self.most = self.most.max(buf.len());
         let may = self.taken.load(Ordering::SeqCst).saturating_add(AHEAD);
         let count = may.saturating_sub(self.given).min(buf.len() as u64) as usize;
         if count > 0 {
@@ -167,6 +170,7 @@ fn each_piece_is_written_before_the_next_is_read(rt: HostRuntime) -> Result<(), 
     let mut origin = Paced {
         tape: TapeIn::new(rt.alloc(), answer.as_bytes(), &[], &[])?,
         given: 0,
+        most: 0,
         taken: &taken,
         faults: 0,
     };
@@ -174,14 +178,15 @@ fn each_piece_is_written_before_the_next_is_read(rt: HostRuntime) -> Result<(), 
         tape: TapeOut::new(rt.alloc(), &[], &[])?,
         taken: &taken,
     };
-    let talked = hear(rt.alloc(), Asked { keep: true }, &mut origin, &mut client);
+    let talked = return_answer(rt.alloc(), Asked { keep: true }, &mut origin, &mut client);
     assert_eq!(rt;
         talked,
-        Talked::Returned {
-            keep: true,
+        Talked::Ended(Conclusion {
             ending: Ending::Passed,
-        }
+            after: After::Keep,
+        })
     );
+    assert_eq!(rt; origin.most, 8_192);
     assert!(rt; client.tape.taken() == with_body(rt.alloc(), RETURNED)?.as_bytes());
     Ok(())
 }

@@ -1,16 +1,16 @@
 // The pump: what is returned of an answer that comes in pieces.
 ghost use Rattle.std.specs.Prelude.{◌≡◌, ◌≢◌, ◌<◌, ◌≤◌, ◌&&◌, ℕ, List, [], ◌++◌, length, take, IfOk, OnErr, Bool};
 ghost use Rattle.px_head.specs.Searches.{BeginsSearched};
-ghost use Rattle.px_exchange.specs.Answering.{most_of};
-ghost use Rattle.px_exchange.specs.Pumps.{stage_behind, After, Pumped, Ends, SoFar, StaysAtEnd, added, flow_at, keeps_at, end_at, short_ending, IsOfAnswer, IsSettled, pieces_left, pieces_behind};
+ghost use Rattle.px_exchange.specs.Answering.{Ask, ask_of, most_of};
+ghost use Rattle.px_exchange.specs.Pumps.{stage_behind, StageAfter, Pumped, EndsAnswer, SoFar, StaysAtEnd, added, flow_at, keeps_at, end_at, short_ending, IsOfAnswer, IsSettled, pieces_left, pieces_behind};
 
 use crate::bodies::Body;
+use crate::dues::returned_head;
 use crate::heads::{HeadRead, read_head};
 use crate::notes::Ending;
 use crate::pages::Page;
-use crate::replies::returned_head;
 use px_base::{Mem, Text};
-use px_head::HeadSearch;
+use px_head::{HEAD_LIMIT, HeadSearch};
 use std::alloc::Global;
 use std::marker::Model;
 use std::mem::replace;
@@ -35,9 +35,9 @@ pub enum Flow {
 /// How far an answer has come. `keep` is whether the connection is kept behind it.
 #[derive(Drop)]
 pub enum Stage {
-    /// Its head isn't whole, and was searched so far. Here `keep` is what was asked.
+    /// Its head isn't whole, and was searched so far.
     Heading {
-        keep: bool,
+        asked: Asked,
         held: Text,
         search: HeadSearch,
     },
@@ -120,25 +120,29 @@ fn pass_body(keep: bool, body: Body, bytes: &[u8], out: &mut Text) -> Result<Sta
 /// Goes on from bytes that are held, the last of them new.
 fn pass_head(
     alloc: Global,
-    keep: bool,
+    asked: Asked,
     held: Text,
     search: HeadSearch,
     out: &mut Text,
 ) -> Result<Stage, Mem>
-    requires { BeginsSearched 65536 held search }
-    ensures after { IfOk result (λ next. After keep held (added out.old out.new) next) }
+    requires { BeginsSearched HEAD_LIMIT held search }
+    ensures after { IfOk result (λ next. StageAfter (ask_of asked) held (added out.old out.new) next) }
     ensures grows { IfOk result (λ _. out.new ≡ out.old ++ added out.old out.new) }
     ensures settled { IfOk result IsSettled }
-    ensures pieces { IfOk result (λ next. (n : ℕ) → n < length held → n < 65536 → flow_at next ≡ Flow.More → pieces_left next < pieces_behind n) }
+    ensures pieces { IfOk result (λ next. (n : ℕ) → n < length held → n < HEAD_LIMIT → flow_at next ≡ Flow.More → pieces_left next < pieces_behind n) }
 {
     let mut search = search;
     match read_head(alloc, held.as_bytes(), &mut search)? {
-        HeadRead::NotYet => Ok(Stage::Heading { keep, held, search }),
+        HeadRead::NotYet => Ok(Stage::Heading {
+            asked,
+            held,
+            search,
+        }),
         HeadRead::Refused => Ok(Stage::Refused(Page::NoServerData)),
         HeadRead::Good { head, body, count } => {
-            let first = returned_head(alloc, keep, body, head)?;
+            let first = returned_head(alloc, asked.keep, body, head)?;
             out.push_all(first.as_bytes())?;
-            let next = pass_body(body.keeps(keep), body, &held.as_bytes()[count..], out)?;
+            let next = pass_body(body.keeps(asked.keep), body, &held.as_bytes()[count..], out)?;
             Ok(next)
         }
     }
@@ -147,17 +151,21 @@ fn pass_head(
 /// Feeds a piece to a stage.
 fn advance(alloc: Global, stage: Stage, piece: &[u8], out: &mut Text) -> Result<Stage, Mem>
     requires { IsSettled stage }
-    ensures after { IfOk result (λ next. (keep : Bool) (fed put : List ℕ) → After keep fed put stage → After keep (fed ++ piece.now) (put ++ added out.old out.new) next) }
+    ensures after { IfOk result (λ next. (ask : Ask) (fed put : List ℕ) → StageAfter ask fed put stage → StageAfter ask (fed ++ piece.now) (put ++ added out.old out.new) next) }
     ensures grows { IfOk result (λ _. out.new ≡ out.old ++ added out.old out.new) }
     ensures settled { IfOk result IsSettled }
     ensures repeats { IfOk result (λ next. StaysAtEnd stage next out.old out.new) }
     ensures pieces { IfOk result (λ next. flow_at next ≡ Flow.More → 0 < length piece.now → pieces_left next < pieces_left stage) }
 {
     match stage {
-        Stage::Heading { keep, held, search } => {
+        Stage::Heading {
+            asked,
+            held,
+            search,
+        } => {
             let mut held = held;
             held.push_all(piece)?;
-            let next = pass_head(alloc, keep, held, search, out)?;
+            let next = pass_head(alloc, asked, held, search, out)?;
             Ok(next)
         }
         Stage::Passing { keep, left } => {
@@ -191,6 +199,7 @@ fn finish(stage: Stage, failed: bool) -> Result<Stage, Mem>
     ensures value { IfOk result (λ next. next ≡ end_at stage failed) }
     ensures settled { IfOk result (λ next. IsSettled stage → IsSettled next) }
     ensures live { IfOk result (λ _. stage ≢ Stage.Wanting) }
+    ensures over { IfOk result (λ next. flow_at next ≢ Flow.More) }
     ensures wanting { OnErr result (stage ≡ Stage.Wanting) }
 {
     match stage {
@@ -226,29 +235,29 @@ impl Model for Pump {
 impl Pump {
     /// A pump that was fed nothing.
     pub fn new(alloc: Global, asked: Asked) -> Pump
-        ensures { After asked.keep [] [] result }
+        ensures { StageAfter (ask_of asked) [] [] result }
     {
         Pump {
             alloc,
             stage: Stage::Heading {
-                keep: asked.keep,
+                asked,
                 held: Text::new(alloc),
                 search: HeadSearch::new(),
             },
         }
     }
 
-    /// Feeds a piece, and adds what it puts out. Once the flow isn't `More` it stays, and nothing is put out. After `Mem` each
+    /// Feeds a piece, and adds what it puts out. Once the flow isn't `More` it stays, and nothing is put out. StageAfter `Mem` each
     /// further call gives `Mem`.
     pub fn feed(&mut self, piece: &[u8], out: &mut Text) -> Result<Flow, Mem>
-        ensures after { IfOk result (λ _. (keep : Bool) (fed put : List ℕ) → After keep fed put self.old → After keep (fed ++ piece.now) (put ++ added out.old out.new) self.new) }
-        ensures pumped { IfOk result (λ f. (keep : Bool) (fed put : List ℕ) → After keep fed put self.old → Pumped keep (fed ++ piece.now) (put ++ added out.old out.new) f (keeps_at self.new)) }
+        ensures after { IfOk result (λ _. (ask : Ask) (fed put : List ℕ) → StageAfter ask fed put self.old → StageAfter ask (fed ++ piece.now) (put ++ added out.old out.new) self.new) }
+        ensures pumped { IfOk result (λ f. (ask : Ask) (fed put : List ℕ) → StageAfter ask fed put self.old → Pumped ask (fed ++ piece.now) (put ++ added out.old out.new) f (keeps_at self.new)) }
         ensures grows { IfOk result (λ _. out.new ≡ out.old ++ added out.old out.new) }
         ensures shows { IfOk result (λ f. f ≡ flow_at self.new) }
         ensures kind { IfOk result IsOfAnswer }
         ensures repeats { IfOk result (λ _. StaysAtEnd self.old self.new out.old out.new) }
         ensures progress { IfOk result (λ f. f ≡ Flow.More → 0 < length piece.now → pieces_left self.new < pieces_left self.old) }
-        ensures so_far { (keep : Bool) (fed put : List ℕ) → After keep fed put self.old → SoFar keep fed put }
+        ensures so_far { (ask : Ask) (fed put : List ℕ) → StageAfter ask fed put self.old → SoFar ask fed put }
         ensures wanting { OnErr result (self.new ≡ Stage.Wanting) }
     {
         let stage = replace(&mut self.stage, Stage::Wanting);
@@ -260,11 +269,12 @@ impl Pump {
 
     /// Ends the answer, and adds what it puts out. `failed` says that its source failed. The flow is then at its end.
     pub fn end(&mut self, failed: bool, out: &mut Text) -> Result<Flow, Mem>
-        ensures ended { IfOk result (λ f. (keep : Bool) (fed put : List ℕ) → After keep fed put self.old → Ends keep f (keeps_at self.new) fed failed (put ++ added out.old out.new)) }
+        ensures ended { IfOk result (λ f. (ask : Ask) (fed put : List ℕ) → StageAfter ask fed put self.old → EndsAnswer ask f (keeps_at self.new) fed failed (put ++ added out.old out.new)) }
         ensures grows { IfOk result (λ _. out.new ≡ out.old ++ added out.old out.new) }
         ensures shows { IfOk result (λ f. f ≡ flow_at self.new) }
         ensures kind { IfOk result IsOfAnswer }
         ensures repeats { IfOk result (λ _. StaysAtEnd self.old self.new out.old out.new) }
+        ensures settled { IfOk result (λ f. f ≢ Flow.More) }
         ensures wanting { OnErr result ((self.old ≡ Stage.Wanting) × (self.new ≡ Stage.Wanting)) }
     {
         let stage = replace(&mut self.stage, Stage::Wanting);

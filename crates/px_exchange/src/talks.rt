@@ -1,5 +1,5 @@
 // What came of a request that was sent on.
-use crate::notes::Ending;
+use crate::notes::Conclusion;
 use crate::pages::Page;
 
 /// What came of a request that was sent on.
@@ -7,9 +7,6 @@ use crate::pages::Page;
 pub enum Talked {
     /// That page is due, and nothing was returned yet.
     Page(Page),
-    /// The answer was returned, and whether the client's connection is kept behind it.
-    Returned { keep: bool, ending: Ending },
-    /// The client's sink failed.
-    WriteFailed,
-    NoMemory,
+    /// Nothing more is returned.
+    Ended(Conclusion),
 }

@@ -106,9 +106,9 @@ const UNREACHED: &[u8] =
 #[test]
 fn held_back_fields_are_taken_out_both_ways(rt: HostRuntime) {
     let head =
-        b"GET http://A.test/p?q#r HTTP/1.1\r\nhOST: other.test\r\nAccept: */*\r\nconnection: x-one , Close\r\nX-One: 1\r\nTE: trailers\r\nKeep-Alive: 5\r\nX-Two: a:b\r\nproxy-authorization: z\r\nUpgrade: h2c\r\n\r\n";
+        b"GET http://A.test/p?q#r HTTP/1.1\r\nhOST: other.test\r\nAccept: */*\r\nconnection: x-one , Close\r\nX-One: 1\r\nTE: trailers\r\nKeep-Alive: 5\r\nX-Two: a:b\r\nproxy-authorization: z\r\nUpgrade: h2c\r\nProxy-Connection: keep-alive\r\nTrailer: x\r\n\r\n";
     let bytes =
-        b"HTTP/1.0 404 Not Here\r\nServer: o\r\nConnection: x-one\r\nContent-length: 003\r\nX-ONE: 1\r\nKeep-Alive: 5\r\nTrailer: x\r\nHost: h\r\n\r\nabcdef";
+        b"HTTP/1.0 404 Not Here\r\nServer: o\r\nConnection: x-one\r\nContent-length: 003\r\nX-ONE: 1\r\nKeep-Alive: 5\r\nTrailer: x\r\nHost: h\r\nproxy-connection: keep-alive\r\nTE: x\r\nUpgrade: h2c\r\n\r\nabcdef";
     let outcome = answer(
         &rt,
         rt.alloc(),

@@ -1,4 +1,5 @@
 // Fixed texts on the wire.
+ghost use Rattle.std.specs.Prelude.{◌≡◌, codes};
 
 pub const GET: &[u8] = b"GET";
 
@@ -39,17 +40,25 @@ pub const PAGE_END: &[u8] = b"</body></html>\n";
 /// The refusal of a request of a form that isn't built.
 pub const NOT_BUILT: &[u8] = b"NotBuilt";
 
-/// The names of fields that speak of one connection alone (RFC 9110, section 7.6.1).
-pub const HOP_NAMES: [&[u8]; 8] = [
-    b"Connection",
-    b"Proxy-Connection",
-    b"Keep-Alive",
-    b"TE",
-    b"Trailer",
-    b"Transfer-Encoding",
-    b"Upgrade",
-    b"Content-Length",
-];
-
-/// The further names that aren't passed on of a request.
-pub const REQUEST_NAMES: [&[u8]; 3] = [b"Host", b"Expect", b"Proxy-Authorization"];
+/// What the constants of this crate are.
+pub fn constants()
+    ensures get { GET.now ≡ codes "GET" }
+    ensures scheme { SCHEME.now ≡ codes "http://" }
+    ensures http_port { HTTP_PORT ≡ 80 }
+    ensures slash { SLASH.now ≡ codes "/" }
+    ensures host { HOST.now ≡ codes "Host" }
+    ensures connection { CONNECTION.now ≡ codes "Connection" }
+    ensures content_length { CONTENT_LENGTH.now ≡ codes "Content-Length" }
+    ensures transfer_encoding { TRANSFER_ENCODING.now ≡ codes "Transfer-Encoding" }
+    ensures expect { EXPECT.now ≡ codes "Expect" }
+    ensures content_type { CONTENT_TYPE.now ≡ codes "Content-Type" }
+    ensures cache_control { CACHE_CONTROL.now ≡ codes "Cache-Control" }
+    ensures close { CLOSE.now ≡ codes "close" }
+    ensures keep_alive { KEEP_ALIVE.now ≡ codes "keep-alive" }
+    ensures text_html { TEXT_HTML.now ≡ codes "text/html" }
+    ensures no_cache { NO_CACHE.now ≡ codes "no-cache" }
+    ensures page_front { PAGE_FRONT.now ≡ codes "<html><body>" }
+    ensures page_end { PAGE_END.now ≡ codes "</body></html>\n" }
+    ensures not_built { NOT_BUILT.now ≡ codes "NotBuilt" }
+{
+}

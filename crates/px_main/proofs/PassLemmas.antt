@@ -1,39 +1,45 @@
 -- What a command did, step by step.
-use Rattle.std.proofs.Common.{◌≡◌, ℕ, List, [], ◌++◌, Option, Some, None, Result, Ok, Err, refl, sym, ap, ◌∙◌, ◌⊎◌, inl, inr, subst}
-use Rattle.px_base.specs.Contents.{Contents, Unchanged, OthersUnchanged, Puts}
+use Rattle.std.proofs.Common.{rules, ◌≡◌, ℕ, List, IsTrue, Option, Some, None, Result, Ok, Err, refl, sym, ap, ◌∙◌, ◌⊎◌, inl, inr, subst}
+use Rattle.px_base.specs.Causes.{Rose}
+use Rattle.px_base.specs.Contents.{Contents, FilesState, FilesGoOn, FilesCause, Unchanged, OthersUnchanged, Puts}
+use Rattle.px_base.specs.Sources.{SourceState, SourceGoesOn}
+use Rattle.px_base.specs.Sinks.{SinkState, SinkGoesOn}
+use Rattle.px_base.specs.Moments.{ClockState, ClockGoesOn}
 use Rattle.px_base.specs.declared.dials.Answer.{Answer}
 use Rattle.px_base.specs.declared.faults.FilesFault.{FilesFault}
-use Rattle.px_base.specs.declared.faults.FilesFault.TheVariants as fault
+use Rattle.px_base.specs.Dials.{DialerState, fresh_dialer, finished_links}
+use Rattle.px_exchange.specs.declared.notes.ExchangeNote.{ExchangeNote}
 use Rattle.px_serve.specs.declared.ends.SessionEnd.{SessionEnd}
-use Rattle.px_serve.specs.declared.ends.SessionEnd.TheVariants as end
+use Rattle.px_serve.specs.Ends.{ReadEndCause, WriteEndCause}
+use Rattle.px_serve.specs.Histories.{Looks}
+use Rattle.px_serve.specs.Sessions.{Caller, Serves}
+use Rattle.px_main.specs.Sents.{sent_text}
 use Rattle.px_main.specs.declared.statuses.Status.{Status}
-use Rattle.px_main.specs.declared.statuses.Status.TheVariants as status
 use Rattle.px_main.specs.Statuses.{status_after}
-use Rattle.px_main.specs.Passes.{World, IsSilent, IsSame, HasAnswers, PutsSent, PutsAfter, IsServed, Passes, RunsLoaded}
+use Rattle.px_main.specs.Passes.{Outside, Untouched, IsSame, GivesUp, HasAnswers, PutsSent, Withholds, PutsAfter, HasServed, IsServed, caller_of, FailsOnOrigin, RefusesOrigin, Passes, RunsLoaded}
 
--- SENT isn't put after want of memory in the session
-pub unput : (held : Contents) (sent text : List ℕ) (e : SessionEnd) → e ≡ end.NoMemory → PutsAfter held held sent text e status.NoMemory
-unput held sent text e is = record {
-  result = Err fault.Mem;
-  puts = record { put = inl refl; others = λ other apart. refl; unwritten = λ none name. refl };
-  status_is = ap (λ x. status_after {T = Unit {0}} x (Err fault.Mem)) (sym is);
-}
+-- files that were only read
+pub record OnlyRead (old new : FilesState) : Type 0 where
+  pub tells_same : new.tells ≡ old.tells
+  pub unchanged : IsTrue old.tells → Unchanged old.contents new.contents
+  pub reads_same : new.read_faults ≡ old.read_faults
+  pub puts_same : new.put_faults ≡ old.put_faults
 
 -- a put behind files that were only read
-put_behind : (a b c : Contents) (sent text : List ℕ) (e : SessionEnd) (s : Status) → Unchanged a b → PutsAfter b c sent text e s → PutsAfter a c sent text e s
-put_behind a b c sent text e s same h = record {
-  result = h.result;
-  puts = record {
-    put = moved h.result h.puts.put;
-    others = λ other apart. h.puts.others other apart ∙ same other;
-    unwritten = λ none name. h.puts.unwritten none name ∙ same name;
-  };
-  status_is = h.status_is;
-}
-  where
-    moved : (r : Result (Unit {0}) FilesFault) → Puts b c sent text r → Puts a c sent text r
-    moved (Ok done) k = k
-    moved (Err f) k = elim k [ inl stays ↦ inl (stays ∙ same sent) | inr front ↦ inr front ]
+put_moved : (a b c : Contents) (sent text : List ℕ) (r : Result (Unit {0}) FilesFault) → Unchanged a b → Puts b c sent text r → Puts a c sent text r
+put_moved a b c sent text (Ok done) same k = k
+put_moved a b c sent text (Err f) same k = elim k [ inl stays ↦ inl (stays ∙ same sent) | inr front ↦ inr front ]
+
+put_behind : (a b c : FilesState) (sent text : List ℕ) (e : SessionEnd) (s : Status) → OnlyRead a b → PutsAfter b c sent text e s → PutsAfter a c sent text e s
+put_behind a b c sent text e s h (inl p) = inl (record {
+  memory = p.memory;
+  result = p.result;
+  put = λ t. put_moved a.contents b.contents c.contents sent text p.result (h.unchanged t) (p.put (h.tells_same ∙ t));
+  others = λ t other apart. p.others (h.tells_same ∙ t) other apart ∙ h.unchanged t other;
+  cause = rw h.puts_same at p.cause;
+  status_is = p.status_is;
+})
+put_behind a b c sent text e s h (inr w) = inr (record { wanting = w.wanting; unchanged = λ t name. w.unchanged (h.tells_same ∙ t) name ∙ h.unchanged t name })
 
 -- the answers of a file that was only read
 moved_answers : (a b : Contents) (name : List ℕ) (answers : List Answer) → Unchanged a b → HasAnswers (b name) answers → HasAnswers (a name) answers
@@ -42,37 +48,87 @@ moved_answers a b name answers same h = subst (λ (held : Option (List ℕ)). Ha
 moved_back : (a b : Contents) (name : List ℕ) (answers : List Answer) → Unchanged a b → HasAnswers (a name) answers → HasAnswers (b name) answers
 moved_back a b name answers same h = subst (λ (held : Option (List ℕ)). HasAnswers held answers) (sym (same name)) h
 
-same_behind : (a b : Contents) (old new : World) → Unchanged a b → old.contents ≡ b → IsSame old new → IsSame (record old { contents = a }) new
-same_behind a b old new same is h = record {
-  silent = record {
-    same_files = λ name. h.silent.same_files name ∙ ap (λ (c : Contents). c name) is ∙ same name;
-    same_input = h.silent.same_input;
-    same_output = h.silent.same_output;
+-- a session, and SENT put behind it
+pub passes_by : (origin sent : List ℕ) (tags : List (List ℕ)) (f f1 f2 : FilesState) (i i' : SourceState) (o o' errors : SinkState) (t t' : ClockState) (answers : List Answer) (e : SessionEnd) (made : Option (List ℕ)) (s : Status)
+    → OnlyRead f f1 → (IsTrue f.tells → HasAnswers (f.contents origin) answers)
+    → HasServed tags answers i i' o o' t t' e made
+    → ((text : List ℕ) → ((x : List ℕ) → made ≡ Some x → x ≡ text) → PutsAfter f1 f2 sent text e s)
+    → Passes origin sent tags (record { files = f; input = i; out = o; errors = errors; clock = t }) (record { files = f2; input = i'; out = o'; errors = errors; clock = t' }) s
+passes_by origin sent tags f f1 f2 i i' o o' errors t t' answers e made s read has h puts = record {
+  answers = answers;
+  has_answers = has;
+  session_end = e;
+  text = h.text;
+  served = h.served;
+  put = put_behind f f1 f2 sent h.text e s read (puts h.text h.made_is);
+  unprinted = refl;
+}
+
+-- nothing was changed behind files that were only read
+same_behind : (f f1 : FilesState) (i : SourceState) (o errors : SinkState) (t : ClockState) (new : Outside) → OnlyRead f f1
+    → IsSame (record { files = f1; input = i; out = o; errors = errors; clock = t }) new → IsSame (record { files = f; input = i; out = o; errors = errors; clock = t }) new
+same_behind f f1 i o errors t new h same = record {
+  untouched = record {
+    files = λ u name. same.untouched.files (h.tells_same ∙ u) name ∙ h.unchanged u name;
+    input = same.untouched.input;
+    out = same.untouched.out;
+    clock = same.untouched.clock;
   };
-  unprinted = h.unprinted;
+  errors = same.errors;
 }
 
 -- what is done with files that were only read is done with those before
-pub loaded_behind : (origin sent : List ℕ) (a b : Contents) (input taken printed : List ℕ) (new : World) (s : Status) → Unchanged a b
-    → RunsLoaded origin sent (record { contents = b; input = input; taken = taken; printed = printed }) new s
-    → RunsLoaded origin sent (record { contents = a; input = input; taken = taken; printed = printed }) new s
-loaded_behind origin sent a b input taken printed new s same h = elim h [
-  | inl unread ↦ inl (unread.0, same_behind a b (record { contents = b; input = input; taken = taken; printed = printed }) new same refl unread.1)
-  | inr more ↦ inr (elim more [
-    | inl none ↦ inl (none.0, λ answers k. none.1 answers (moved_back a b origin answers same k), same_behind a b (record { contents = b; input = input; taken = taken; printed = printed }) new same refl none.2)
-    | inr rest ↦ inr (elim rest [
-      | inl served ↦ inl (
-        served.0,
-        moved_answers a b origin served.0 same served.1,
-        record {
-          session_end = served.2.session_end;
-          text = served.2.text;
-          served = served.2.served;
-          put = put_behind a b new.contents sent served.2.text served.2.session_end s same served.2.put;
-          unprinted = served.2.unprinted;
-        },
-      )
-      | inr wanting ↦ inr wanting
-    ])
-  ])
-]
+pub loaded_behind : (origin sent : List ℕ) (tags : List (List ℕ)) (f f1 : FilesState) (i : SourceState) (o errors : SinkState) (t : ClockState) (new : Outside) (s : Status) → OnlyRead f f1
+    → RunsLoaded origin sent tags (record { files = f1; input = i; out = o; errors = errors; clock = t }) new s
+    → RunsLoaded origin sent tags (record { files = f; input = i; out = o; errors = errors; clock = t }) new s
+loaded_behind origin sent tags f f1 i o errors t new s h (inl fails) =
+    inl (record { failed = fails.failed; cause = rw h.reads_same at fails.cause; same = same_behind f f1 i o errors t new h fails.same })
+loaded_behind origin sent tags f f1 i o errors t new s h (inr (inl r)) =
+    inr (inl (record { refused = r.refused; none = λ u answers k. r.none (h.tells_same ∙ u) answers (moved_back f.contents f1.contents origin answers (h.unchanged u) k); same = same_behind f f1 i o errors t new h r.same }))
+loaded_behind origin sent tags f f1 i o errors t new s h (inr (inr (inl p))) =
+    inr (inr (inl (record {
+      answers = p.answers;
+      has_answers = λ u. moved_answers f.contents f1.contents origin p.answers (h.unchanged u) (p.has_answers (h.tells_same ∙ u));
+      session_end = p.session_end;
+      text = p.text;
+      served = p.served;
+      put = put_behind f f1 new.files sent p.text p.session_end s h p.put;
+      unprinted = p.unprinted;
+    })))
+loaded_behind origin sent tags f f1 i o errors t new s h (inr (inr (inr w))) =
+    inr (inr (inr (record { wanting = w.wanting; same = same_behind f f1 i o errors t new h w.same })))
+
+pub files_go_on : {a b c : FilesState} → FilesGoOn a b → FilesGoOn b c → FilesGoOn a c
+files_go_on h k = search rules
+
+pub source_same : (i : SourceState) → SourceGoesOn i i
+source_same i = search rules
+
+pub sink_same : (o : SinkState) → SinkGoesOn o o
+sink_same o = search rules
+
+pub clock_same : (t : ClockState) → ClockGoesOn t t
+clock_same t = search rules
+
+-- what a session gave, with the dialer that is just made and the one client
+pub has_served : {tags : List (List ℕ)} {answers : List Answer} {i i' : SourceState} {o o' : SinkState} {t t' : ClockState} {e : SessionEnd} {made : Option (List ℕ)} {looks looks' : Looks} {d d' : DialerState} {notes : List ExchangeNote} {caller : Caller}
+    → Serves caller looks looks' i i' (record { client_out = o; dialer = d; clock = t }) (record { client_out = o'; dialer = d'; clock = t' }) notes e
+    → caller ≡ caller_of tags → d ≡ fresh_dialer answers → looks.held.number ≡ 0
+    → ReadEndCause i i' e → WriteEndCause o o' e
+    → ((x : List ℕ) → made ≡ Some x → x ≡ sent_text (finished_links d'.dials))
+    → HasServed tags answers i i' o o' t t' e made
+has_served {looks = looks} {looks' = looks'} {d' = d'} {notes = notes} serves client fresh one read write made_is = record {
+  text = sent_text (finished_links d'.dials);
+  served = record {
+    looks = looks;
+    looks_after = looks';
+    one = one;
+    dialer = d';
+    notes = notes;
+    serves = rw (client, fresh) at serves;
+    text_is = refl;
+    read_cause = read;
+    write_cause = write;
+  };
+  made_is = made_is;
+}

@@ -1,43 +1,54 @@
--- What `pass` does: with its words, the files, the input, the output and the error sink.
-use Rattle.std.specs.Prelude.{◌≡◌, ◌≢◌, ℕ, ◌≤◌, ◌⊎◌, List, [], ◌∷◌, ◌++◌, length, Option, None, Some, Result, codes, IsTrue}
+-- What `pass` does: with its words, the files, the input, the output, the error output and the clock.
+use Rattle.std.specs.Prelude.{◌≡◌, ℕ, ◌≤◌, false, ◌⊎◌, List, [], ◌∷◌, ◌++◌, length, Option, None, Some, Result, codes, IsTrue}
 use Rattle.px_base.specs.Causes.{Rose}
-use Rattle.px_base.specs.Contents.{Contents, FilesState, Unchanged, Puts, OthersUnchanged}
-use Rattle.px_base.specs.Sources.{SourceState}
-use Rattle.px_base.specs.Sinks.{SinkState, AddsFront}
+use Rattle.px_base.specs.Contents.{FilesState, FilesGoOn, FilesCause, Unchanged, Puts, OthersUnchanged}
+use Rattle.px_base.specs.Sources.{SourceState, SourceGoesOn}
+use Rattle.px_base.specs.Sinks.{SinkState, SinkGoesOn, AddsFront}
+use Rattle.px_base.specs.Moments.{ClockState, ClockGoesOn}
 use Rattle.px_base.specs.Dials.{DialerState, fresh_dialer, finished_links}
 use Rattle.px_base.specs.declared.dials.Answer.{Answer}
 use Rattle.px_base.specs.declared.faults.FilesFault.{FilesFault}
 use Rattle.px_exchange.specs.declared.notes.ExchangeNote.{ExchangeNote}
 use Rattle.px_serve.specs.declared.ends.SessionEnd.{SessionEnd}
-use Rattle.px_serve.specs.declared.ends.SessionEnd.TheVariants as end
-use Rattle.px_serve.specs.Sessions.{IsSession}
+use Rattle.px_serve.specs.Ends.{ReadEndCause, WriteEndCause}
+use Rattle.px_serve.specs.Histories.{Looks}
+use Rattle.px_serve.specs.Sessions.{Caller, Serves}
 use Rattle.px_main.specs.declared.statuses.Status.{Status}
 use Rattle.px_main.specs.declared.statuses.Status.TheVariants as status
 use Rattle.px_main.specs.declared.statuses.TheConstants.{USAGE}
 use Rattle.px_main.specs.Faults.{fault_line}
 use Rattle.px_main.specs.Origins.{IsOrigin}
 use Rattle.px_main.specs.Sents.{sent_text}
-use Rattle.px_main.specs.Statuses.{status_after, code_of}
+use Rattle.px_main.specs.Statuses.{is_wanting, status_after, code_of}
 use Rattle.px_main.specs.Words.{IsPass}
 
--- what a command reads and changes: what each file holds, the bytes left of the input, those that the output took, and those
--- that the error sink took
-pub record World : Type 0 where
-  pub contents : Contents
-  pub input : List ℕ
-  pub taken : List ℕ
-  pub printed : List ℕ
+-- the objects of a run: the files, the input, the output, the error output and the clock
+pub record Outside : Type 0 where
+  pub files : FilesState
+  pub input : SourceState
+  pub out : SinkState
+  pub errors : SinkState
+  pub clock : ClockState
 
--- nothing changed but what the error sink took
-pub record IsSilent (old new : World) : Type 0 where
-  pub same_files : Unchanged old.contents new.contents
-  pub same_input : new.input ≡ old.input
-  pub same_output : new.taken ≡ old.taken
+-- what lasts of them, whatever is done
+pub record OutsideGoesOn (old new : Outside) : Type 0 where
+  pub files : FilesGoOn old.files new.files
+  pub input : SourceGoesOn old.input new.input
+  pub out : SinkGoesOn old.out new.out
+  pub errors : SinkGoesOn old.errors new.errors
+  pub clock : ClockGoesOn old.clock new.clock
 
--- nothing changed at all
-pub record IsSame (old new : World) : Type 0 where
-  pub silent : IsSilent old new
-  pub unprinted : new.printed ≡ old.printed
+-- the files hold what they held, and the input, the output and the clock weren't used
+pub record Untouched (old new : Outside) : Type 0 where
+  pub files : IsTrue old.files.tells → Unchanged old.files.contents new.files.contents
+  pub input : new.input ≡ old.input
+  pub out : new.out ≡ old.out
+  pub clock : new.clock ≡ old.clock
+
+-- nor was the error output
+pub record IsSame (old new : Outside) : Type 0 where
+  pub untouched : Untouched old new
+  pub errors : new.errors ≡ old.errors
 
 -- a text was printed, and the status is that one; or a proper front of it was, and the error sink failed or wanted memory
 abbrev pub ReportsOn : List ℕ → List ℕ → List ℕ → Status → Status → Type 0
@@ -49,10 +60,16 @@ ReportsOn old new text whole s =
 abbrev pub ReportCause : SinkState → SinkState → Status → Status → Type 0
 ReportCause old new whole s = (s ≡ whole) ⊎ (((s ≡ status.WriteFailed) × Rose old.faults new.faults) ⊎ (s ≡ status.NoMemory))
 
--- the same, and nothing else changed
-pub record Reports (old new : World) (text : List ℕ) (whole s : Status) : Type 0 where
-  pub silent : IsSilent old new
-  pub reported : ReportsOn old.printed new.printed text whole s
+-- the command ends with a text for the error output, and that goes with a status
+pub record Reports (old new : Outside) (text : List ℕ) (whole s : Status) : Type 0 where
+  pub untouched : Untouched old new
+  pub reported : IsTrue old.errors.tells → ReportsOn old.errors.taken new.errors.taken text whole s
+  pub cause : ReportCause old.errors new.errors whole s
+
+-- memory was wanting before a session began, and nothing was printed
+pub record GivesUp (old new : Outside) (s : Status) : Type 0 where
+  pub wanting : s ≡ status.NoMemory
+  pub same : IsSame old new
 
 -- what is printed of a CONFIG that isn't built: only an empty one is
 abbrev pub refusal : List ℕ → Option (List ℕ) → Option (List ℕ)
@@ -65,86 +82,114 @@ abbrev pub HasAnswers : Option (List ℕ) → List Answer → Type 0
 HasAnswers None answers = ⊥
 HasAnswers (Some text) answers = (length text ≤ 67108864) × IsOrigin text answers
 
--- SENT was put, with that result; after want of memory in the session it wasn't
-pub record PutsSent {T : Type 0} (old new : Contents) (sent text : List ℕ) (e : SessionEnd) (result : Result T FilesFault) : Type 0 where
-  pub put : Puts old new sent text result
-  pub others : OthersUnchanged old new sent
-  pub unwritten : e ≡ end.NoMemory → Unchanged old new
-
--- SENT was put behind a session that ended so, and both give that status
-pub record PutsAfter (old new : Contents) (sent text : List ℕ) (e : SessionEnd) (s : Status) : Type 0 where
+-- SENT was put behind a session that ended so: not after want of memory in it; the first cause in time decides the status
+pub record PutsSent (old new : FilesState) (sent text : List ℕ) (e : SessionEnd) (s : Status) : Type 0 where
+  pub memory : is_wanting e ≡ false
   pub result : Result (Unit {0}) FilesFault
-  pub puts : PutsSent old new sent text e result
+  pub put : IsTrue old.tells → Puts old.contents new.contents sent text result
+  pub others : IsTrue old.tells → OthersUnchanged old.contents new.contents sent
+  pub cause : FilesCause old.put_faults new.put_faults result
   pub status_is : s ≡ status_after e result
 
--- a session over a client's bytes and the answers, and the text of SENT
-pub record IsServed (answers : List Answer) (input left taken taken' : List ℕ) (e : SessionEnd) (text : List ℕ) : Type 0 where
+-- memory was wanting in the session, or behind it, and SENT wasn't put
+pub record Withholds (old new : FilesState) (s : Status) : Type 0 where
+  pub wanting : s ≡ status.NoMemory
+  pub unchanged : IsTrue old.tells → Unchanged old.contents new.contents
+
+abbrev pub PutsAfter : FilesState → FilesState → List ℕ → List ℕ → SessionEnd → Status → Type 0
+PutsAfter old new sent text e s = PutsSent old new sent text e s ⊎ Withholds old new s
+
+-- the one client of `pass`
+abbrev pub caller_of : List (List ℕ) → Caller
+caller_of tags = record { tags = tags; peer = codes "127.0.0.1" }
+
+-- a session over the input and the answers, with one configuration, and the text of SENT
+pub record IsServed (tags : List (List ℕ)) (answers : List Answer) (i i' : SourceState) (o o' : SinkState) (t t' : ClockState) (e : SessionEnd) (text : List ℕ) : Type 0 where
+  pub looks : Looks
+  pub looks_after : Looks
+  pub one : looks.held.number ≡ 0
   pub dialer : DialerState
   pub notes : List ExchangeNote
-  pub session : IsSession input left (fresh_dialer answers) dialer taken taken' notes e
+  pub serves : Serves (caller_of tags) looks looks_after i i'
+      (record { client_out = o; dialer = fresh_dialer answers; clock = t })
+      (record { client_out = o'; dialer = dialer; clock = t' }) notes e
   pub text_is : text ≡ sent_text (finished_links dialer.dials)
+  -- the session's own faults
+  pub read_cause : ReadEndCause i i' e
+  pub write_cause : WriteEndCause o o' e
 
--- a session over the input and the answers, behind which SENT was put
-pub record Passes (sent : List ℕ) (answers : List Answer) (old new : World) (s : Status) : Type 0 where
+-- the same with the text that was made, if memory was there for it
+pub record HasServed (tags : List (List ℕ)) (answers : List Answer) (i i' : SourceState) (o o' : SinkState) (t t' : ClockState) (e : SessionEnd) (made : Option (List ℕ)) : Type 0 where
+  pub text : List ℕ
+  pub served : IsServed tags answers i i' o o' t t' e text
+  pub made_is : (x : List ℕ) → made ≡ Some x → x ≡ text
+
+-- ORIGIN couldn't be read
+pub record FailsOnOrigin (old new : Outside) (s : Status) : Type 0 where
+  pub failed : s ≡ status.ReadFailed
+  pub cause : Rose old.files.read_faults new.files.read_faults
+  pub same : IsSame old new
+
+-- ORIGIN is missing, too large or not of its format
+pub record RefusesOrigin (origin : List ℕ) (old new : Outside) (s : Status) : Type 0 where
+  pub refused : s ≡ status.NoOrigin
+  pub none : IsTrue old.files.tells → (answers : List Answer) → ¬ HasAnswers (old.files.contents origin) answers
+  pub same : IsSame old new
+
+-- a session was served, behind which SENT was put
+pub record Passes (origin sent : List ℕ) (tags : List (List ℕ)) (old new : Outside) (s : Status) : Type 0 where
+  pub answers : List Answer
+  pub has_answers : IsTrue old.files.tells → HasAnswers (old.files.contents origin) answers
   pub session_end : SessionEnd
   pub text : List ℕ
-  pub served : IsServed answers old.input new.input old.taken new.taken session_end text
-  pub put : PutsAfter old.contents new.contents sent text session_end s
-  pub unprinted : new.printed ≡ old.printed
+  pub served : IsServed tags answers old.input new.input old.out new.out old.clock new.clock session_end text
+  pub put : PutsAfter old.files new.files sent text session_end s
+  pub unprinted : new.errors ≡ old.errors
 
--- from a built CONFIG on: ORIGIN couldn't be read, it has no answers, or a session was served
-abbrev pub RunsLoaded : List ℕ → List ℕ → World → World → Status → Type 0
-RunsLoaded origin sent old new s =
-    ((s ≡ status.ReadFailed) × IsSame old new)
-    ⊎ (((s ≡ status.NoOrigin) × ((answers : List Answer) → ¬ HasAnswers (old.contents origin) answers) × IsSame old new)
-    ⊎ (((answers : List Answer) × HasAnswers (old.contents origin) answers × Passes sent answers old new s)
-    ⊎ (s ≡ status.NoMemory)))
+-- from a built CONFIG on
+abbrev pub RunsLoaded : List ℕ → List ℕ → List (List ℕ) → Outside → Outside → Status → Type 0
+RunsLoaded origin sent tags old new s =
+    FailsOnOrigin old new s ⊎ (RefusesOrigin origin old new s ⊎ (Passes origin sent tags old new s ⊎ GivesUp old new s))
 
--- with the words of `pass`: CONFIG couldn't be read, it isn't built, or it is
-abbrev pub RunsPass : List ℕ → List ℕ → List ℕ → World → World → Status → Type 0
-RunsPass config origin sent old new s =
-    Reports old new (fault_line config 0 33 (codes "ReadFault")) status.ReadFailed s
-    ⊎ (((text : List ℕ) × (refusal config (old.contents config) ≡ Some text) × Reports old new text status.NotLoaded s)
-    ⊎ (((old.contents config ≡ Some []) × RunsLoaded origin sent old new s)
-    ⊎ (s ≡ status.NoMemory)))
+-- CONFIG couldn't be read
+pub record FailsOnConfig (config : List ℕ) (old new : Outside) (s : Status) : Type 0 where
+  pub cause : Rose old.files.read_faults new.files.read_faults
+  pub text : List ℕ
+  pub text_is : IsTrue old.files.tells → text ≡ fault_line config 0 33 (codes "ReadFault")
+  pub reports : Reports old new text status.ReadFailed s
 
--- with any words: they aren't of the grammar, or they are those of `pass`
-abbrev pub Runs : List (List ℕ) → World → World → Status → Type 0
-Runs words old new s =
-    (((config origin sent : List ℕ) → (tags : List (List ℕ)) → ¬ IsPass words config origin sent tags) × Reports old new USAGE.now status.Usage s)
-    ⊎ ((config : List ℕ) × (origin : List ℕ) × (sent : List ℕ) × (tags : List (List ℕ)) × IsPass words config origin sent tags × RunsPass config origin sent old new s)
+-- CONFIG isn't built
+pub record RefusesConfig (config : List ℕ) (old new : Outside) (s : Status) : Type 0 where
+  pub text : List ℕ
+  pub refused : IsTrue old.files.tells → refusal config (old.files.contents config) ≡ Some text
+  pub reports : Reports old new text status.NotLoaded s
 
--- why a read fault or a write fault is answered: only where a count rose
-abbrev pub HasReadCause : FilesState → FilesState → SourceState → SourceState → Status → Type 0
-HasReadCause f f' i i' s = s ≡ status.ReadFailed → Rose f.read_faults f'.read_faults ⊎ Rose i.faults i'.faults
+-- CONFIG is the empty one
+pub record Loads (config origin sent : List ℕ) (tags : List (List ℕ)) (old new : Outside) (s : Status) : Type 0 where
+  pub empty : IsTrue old.files.tells → old.files.contents config ≡ Some []
+  pub runs : RunsLoaded origin sent tags old new s
 
-abbrev pub HasWriteCause : FilesState → FilesState → SinkState → SinkState → SinkState → SinkState → Status → Type 0
-HasWriteCause f f' o o' e e' s = s ≡ status.WriteFailed → Rose o.faults o'.faults ⊎ (Rose e.faults e'.faults ⊎ Rose f.put_faults f'.put_faults)
+-- with the words of `pass`
+abbrev pub RunsPass : List ℕ → List ℕ → List ℕ → List (List ℕ) → Outside → Outside → Status → Type 0
+RunsPass config origin sent tags old new s =
+    FailsOnConfig config old new s ⊎ (RefusesConfig config old new s ⊎ (Loads config origin sent tags old new s ⊎ GivesUp old new s))
 
--- what the objects tell
-abbrev pub world : FilesState → SourceState → SinkState → SinkState → World
-world f i o e = record { contents = f.contents; input = i.left; taken = o.taken; printed = e.taken }
+-- the words aren't those of `pass`
+pub record RefusesWords (words : List (List ℕ)) (old new : Outside) (s : Status) : Type 0 where
+  pub other : (config origin sent : List ℕ) → (tags : List (List ℕ)) → ¬ IsPass words config origin sent tags
+  pub reports : Reports old new USAGE.now status.Usage s
 
--- the objects tell their contents
-pub record Tell (f : FilesState) (i : SourceState) (o e : SinkState) : Type 0 where
-  pub files : IsTrue f.tells
-  pub input : IsTrue i.tells
-  pub output : IsTrue o.tells
-  pub errors : IsTrue e.tells
-
--- why a status comes behind a session and a put: by the session's end, or because a put failed
-pub record PutCause (old new : FilesState) (e : SessionEnd) (s : Status) : Type 0 where
-  pub read : s ≡ status.ReadFailed → e ≡ end.ReadFailed
-  pub write : s ≡ status.WriteFailed → (e ≡ end.WriteFailed) ⊎ Rose old.put_faults new.put_faults
-  pub reads_same : new.read_faults ≡ old.read_faults
-
-abbrev pub LoadedWriteCause : FilesState → FilesState → SinkState → SinkState → Status → Type 0
-LoadedWriteCause f f' o o' s = s ≡ status.WriteFailed → Rose o.faults o'.faults ⊎ Rose f.put_faults f'.put_faults
+-- the words are those of `pass`
+pub record PassesBy (words : List (List ℕ)) (old new : Outside) (s : Status) : Type 0 where
+  pub config : List ℕ
+  pub origin : List ℕ
+  pub sent : List ℕ
+  pub tags : List (List ℕ)
+  pub is_pass : IsPass words config origin sent tags
+  pub runs : RunsPass config origin sent tags old new s
 
 -- how a command ends: by one status, with what it did and why
-pub record Ends (words : List (List ℕ)) (f f' : FilesState) (i i' : SourceState) (o o' e e' : SinkState) (code : ℕ) : Type 0 where
+pub record RunsTool (words : List (List ℕ)) (old new : Outside) (code : ℕ) : Type 0 where
   pub ended : Status
   pub code_is : code ≡ code_of ended
-  pub runs : Tell f i o e → Runs words (world f i o e) (world f' i' o' e') ended
-  pub read_cause : HasReadCause f f' i i' ended
-  pub write_cause : HasWriteCause f f' o o' e e' ended
+  pub runs : RefusesWords words old new ended ⊎ PassesBy words old new ended

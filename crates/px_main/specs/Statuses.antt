@@ -1,5 +1,5 @@
 -- The statuses of a command, as numbers, and how the end of a session gives one.
-use Rattle.std.specs.Prelude.{◌≡◌, ℕ, Result, Ok, Err}
+use Rattle.std.specs.Prelude.{◌≡◌, ℕ, Bool, true, false, Result, Ok, Err}
 use Rattle.px_base.specs.declared.faults.FilesFault.{FilesFault}
 use Rattle.px_base.specs.declared.faults.FilesFault.TheVariants as fault
 use Rattle.px_serve.specs.declared.ends.SessionEnd.{SessionEnd}
@@ -15,6 +15,16 @@ code_of status.ReadFailed = 3
 code_of status.WriteFailed = 4
 code_of status.NoMemory = 5
 code_of status.NoOrigin = 8
+
+-- memory was wanting in a session that ended so
+abbrev pub is_wanting : SessionEnd → Bool
+is_wanting end.Ended = false
+is_wanting end.Cut = false
+is_wanting end.Closed = false
+is_wanting end.Spent = false
+is_wanting end.ReadFailed = false
+is_wanting end.WriteFailed = false
+is_wanting end.NoMemory = true
 
 -- the status of a put, where nothing went wrong before it
 abbrev pub status_of_put : {T : Type 0} → Result T FilesFault → Status

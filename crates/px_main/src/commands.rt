@@ -1,10 +1,6 @@
 // The commands by their words.
 ghost use Rattle.std.specs.Prelude.{◌≡◌, map, string_bytes};
-ghost use Rattle.px_base.specs.Sources.{SourceGoesOn};
-ghost use Rattle.px_base.specs.Sinks.{SinkGoesOn};
-ghost use Rattle.px_base.specs.Contents.{FilesGoOn};
-ghost use Rattle.px_base.specs.Moments.{ClockGoesOn};
-ghost use Rattle.px_main.specs.Passes.{Tell, world, Ends};
+ghost use Rattle.px_main.specs.Passes.{Outside, OutsideGoesOn, RunsTool};
 
 use crate::passes::run_pass;
 use crate::reports::report;
@@ -25,12 +21,12 @@ pub fn run_tool<F: Files, S: Source, O: Sink, E: Sink, T: Clock>(
     err: &mut E,
     clock: &mut T,
 ) -> u8
-    ensures ends { Ends (map string_bytes words.now) (F.state files.old) (F.state files.new) (S.state input.old) (S.state input.new) (O.state out.old) (O.state out.new) (E.state err.old) (E.state err.new) result }
-    ensures files_go_on { FilesGoOn (F.state files.old) (F.state files.new) }
-    ensures input_goes_on { SourceGoesOn (S.state input.old) (S.state input.new) }
-    ensures out_goes_on { SinkGoesOn (O.state out.old) (O.state out.new) }
-    ensures err_goes_on { SinkGoesOn (E.state err.old) (E.state err.new) }
-    ensures clock_goes_on { ClockGoesOn (T.state clock.old) (T.state clock.new) }
+    ensures runs { RunsTool (map string_bytes words.now)
+        (record { files = F.state files.old; input = S.state input.old; out = O.state out.old; errors = E.state err.old; clock = T.state clock.old })
+        (record { files = F.state files.new; input = S.state input.new; out = O.state out.new; errors = E.state err.new; clock = T.state clock.new }) result }
+    ensures goes_on { OutsideGoesOn
+        (record { files = F.state files.old; input = S.state input.old; out = O.state out.old; errors = E.state err.old; clock = T.state clock.old })
+        (record { files = F.state files.new; input = S.state input.new; out = O.state out.new; errors = E.state err.new; clock = T.state clock.new }) }
 {
     match read_pass(words) {
         Some(pass) => run_pass(alloc, pass, files, input, out, err, clock).code(),

@@ -14,7 +14,8 @@ mod words;
 
 use commands::run_tool;
 use px_base::{DiskFiles, ReaderSource, SystemClock, WriterSink};
-use statuses::Status;
+use reports::report;
+use statuses::{Status, USAGE};
 use std::process::ExitCode;
 use std::rt::Env;
 use std::{env, io};
@@ -29,23 +30,22 @@ fn program_words<R: Env + AllocGlobal>(rt: &R) -> io::Result<Vec<String>> {
 }
 
 fn main(rt: HostRuntime) -> ExitCode {
+    let alloc = rt.alloc();
+    let mut err = WriterSink::new(rt.stderr(), 0);
     let words = match program_words(&rt) {
         Ok(words) => words,
         Err(error) => {
-            let wanting = error.kind() == io::ErrorKind::OutOfMemory;
-            let status = if wanting {
+            let status = if error.kind() == io::ErrorKind::OutOfMemory {
                 Status::NoMemory
             } else {
-                Status::Usage
+                report(&mut err, USAGE, Status::Usage)
             };
             return ExitCode::from(status.code());
         }
     };
-    let alloc = rt.alloc();
     let mut files = DiskFiles::new(alloc, &rt);
     let mut input = ReaderSource::new(rt.stdin(), 0);
     let mut out = WriterSink::new(rt.stdout(), 0);
-    let mut err = WriterSink::new(rt.stderr(), 0);
     let mut clock = SystemClock::new(&rt);
     let status = run_tool(
         alloc, &words, &mut files, &mut input, &mut out, &mut err, &mut clock,

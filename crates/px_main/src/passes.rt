@@ -1,17 +1,16 @@
 // The command `pass`: one session over the input, with the answers of a file.
-ghost use Rattle.std.specs.Prelude.{◌≡◌, IsTrue, IfOk, List, ℕ, [], OnOk};
-ghost use Rattle.px_base.specs.Sources.{SourceGoesOn};
-ghost use Rattle.px_base.specs.Sinks.{SinkGoesOn};
+ghost use Rattle.std.specs.Prelude.{◌≡◌, List, ℕ, IfOk, OnErr, map, string_bytes};
 ghost use Rattle.px_base.specs.Contents.{FilesGoOn};
+ghost use Rattle.px_base.specs.Sources.{SourceGoesOn};
+ghost use Rattle.px_base.specs.Sinks.{SinkState, SinkGoesOn};
 ghost use Rattle.px_base.specs.Moments.{ClockGoesOn};
-ghost use Rattle.px_serve.specs.Ends.{ReadEndCause, WriteEndCause};
-ghost use Rattle.px_main.specs.Passes.{World, Tell, world, RunsPass, RunsLoaded, IsServed, PutsAfter, PutCause, LoadedWriteCause, HasReadCause, HasWriteCause};
+ghost use Rattle.px_main.specs.Passes.{Outside, OutsideGoesOn, RunsPass, RunsLoaded, HasServed, PutsAfter};
 
 use crate::answers::{OriginRead, read_answers};
 use crate::configs::{ConfigRead, read_config};
 use crate::reports::report;
-use crate::sents::print_sent;
-use crate::statuses::{Status, status_after};
+use crate::sents::made_sent;
+use crate::statuses::{Status, is_wanting, status_after};
 use crate::words::PassWords;
 use px_base::{Answer, Clock, Files, List, Mem, MemDialer, Peer, Sink, Source, Text};
 use px_exchange::{Config, FixedConfig};
@@ -32,15 +31,12 @@ pub fn run_pass<F: Files, S: Source, O: Sink, E: Sink, T: Clock>(
     err: &mut E,
     clock: &mut T,
 ) -> Status
-    ensures runs { Tell (F.state files.old) (S.state input.old) (O.state out.old) (E.state err.old)
-        → RunsPass pass.entry.config.now pass.entry.origin.now pass.entry.sent.now (world (F.state files.old) (S.state input.old) (O.state out.old) (E.state err.old)) (world (F.state files.new) (S.state input.new) (O.state out.new) (E.state err.new)) result }
-    ensures read_cause { HasReadCause (F.state files.old) (F.state files.new) (S.state input.old) (S.state input.new) result }
-    ensures write_cause { HasWriteCause (F.state files.old) (F.state files.new) (O.state out.old) (O.state out.new) (E.state err.old) (E.state err.new) result }
-    ensures files_go_on { FilesGoOn (F.state files.old) (F.state files.new) }
-    ensures input_goes_on { SourceGoesOn (S.state input.old) (S.state input.new) }
-    ensures out_goes_on { SinkGoesOn (O.state out.old) (O.state out.new) }
-    ensures err_goes_on { SinkGoesOn (E.state err.old) (E.state err.new) }
-    ensures clock_goes_on { ClockGoesOn (T.state clock.old) (T.state clock.new) }
+    ensures runs { RunsPass pass.entry.config.now pass.entry.origin.now pass.entry.sent.now (map string_bytes pass.entry.tags.now)
+        (record { files = F.state files.old; input = S.state input.old; out = O.state out.old; errors = E.state err.old; clock = T.state clock.old })
+        (record { files = F.state files.new; input = S.state input.new; out = O.state out.new; errors = E.state err.new; clock = T.state clock.new }) result }
+    ensures goes_on { OutsideGoesOn
+        (record { files = F.state files.old; input = S.state input.old; out = O.state out.old; errors = E.state err.old; clock = T.state clock.old })
+        (record { files = F.state files.new; input = S.state input.new; out = O.state out.new; errors = E.state err.new; clock = T.state clock.new }) }
 {
     match read_config(alloc, files, pass.config) {
         ConfigRead::Empty => run_loaded(alloc, pass, files, input, out, clock),
@@ -59,12 +55,9 @@ fn run_loaded<F: Files, S: Source, O: Sink, T: Clock>(
     out: &mut O,
     clock: &mut T,
 ) -> Status
-    ensures runs { IsTrue (F.state files.old).tells → IsTrue (S.state input.old).tells → IsTrue (O.state out.old).tells → (printed : List ℕ)
-        → RunsLoaded pass.entry.origin.now pass.entry.sent.now
-        (record { contents = (F.state files.old).contents; input = (S.state input.old).left; taken = (O.state out.old).taken; printed = printed })
-        (record { contents = (F.state files.new).contents; input = (S.state input.new).left; taken = (O.state out.new).taken; printed = printed }) result }
-    ensures read_cause { HasReadCause (F.state files.old) (F.state files.new) (S.state input.old) (S.state input.new) result }
-    ensures write_cause { LoadedWriteCause (F.state files.old) (F.state files.new) (O.state out.old) (O.state out.new) result }
+    ensures runs { (errors : SinkState) → RunsLoaded pass.entry.origin.now pass.entry.sent.now (map string_bytes pass.entry.tags.now)
+        (record { files = F.state files.old; input = S.state input.old; out = O.state out.old; errors = errors; clock = T.state clock.old })
+        (record { files = F.state files.new; input = S.state input.new; out = O.state out.new; errors = errors; clock = T.state clock.new }) result }
     ensures files_go_on { FilesGoOn (F.state files.old) (F.state files.new) }
     ensures input_goes_on { SourceGoesOn (S.state input.old) (S.state input.new) }
     ensures out_goes_on { SinkGoesOn (O.state out.old) (O.state out.new) }
@@ -74,7 +67,7 @@ fn run_loaded<F: Files, S: Source, O: Sink, T: Clock>(
         OriginRead::Answers(answers) => match serve_input(
             alloc, pass.tags, answers, input, out, clock,
         ) {
-            Ok(served) => put_sent(files, pass.sent, served.sent.as_bytes(), served.end),
+            Ok(served) => put_served(files, pass.sent, served),
             Err(Mem) => Status::NoMemory,
         },
         OriginRead::Refused => Status::NoOrigin,
@@ -83,14 +76,14 @@ fn run_loaded<F: Files, S: Source, O: Sink, T: Clock>(
     }
 }
 
-/// How a session ended, and the text of SENT.
+/// How a session ended, and the text of SENT, if memory was there for it.
 #[derive(Drop)]
-struct Served {
+pub struct Served {
     end: SessionEnd,
-    sent: Text,
+    sent: Option<Text>,
 }
 
-/// Serves the input as one client, whose dials have the answers.
+/// Serves the input as one client, whose dials have the answers. After `Mem` nothing was read, asked or returned.
 fn serve_input<S: Source, O: Sink, T: Clock>(
     alloc: Global,
     tags: &[String],
@@ -99,10 +92,8 @@ fn serve_input<S: Source, O: Sink, T: Clock>(
     out: &mut O,
     clock: &mut T,
 ) -> Result<Served, Mem>
-    ensures served { IsTrue (S.state input.old).tells → IsTrue (O.state out.old).tells
-        → IfOk result (λ s. IsServed answers (S.state input.old).left (S.state input.new).left (O.state out.old).taken (O.state out.new).taken s.end s.sent) }
-    ensures read_cause { IfOk result (λ s. ReadEndCause (S.state input.old) (S.state input.new) s.end) }
-    ensures write_cause { IfOk result (λ s. WriteEndCause (O.state out.old) (O.state out.new) s.end) }
+    ensures served { IfOk result (λ s. HasServed (map string_bytes tags.now) answers (S.state input.old) (S.state input.new) (O.state out.old) (O.state out.new) (T.state clock.old) (T.state clock.new) s.end s.sent) }
+    ensures unused { OnErr result ((S.state input.new ≡ S.state input.old) × (O.state out.new ≡ O.state out.old) × (T.state clock.new ≡ T.state clock.old)) }
     ensures input_goes_on { SourceGoesOn (S.state input.old) (S.state input.new) }
     ensures out_goes_on { SinkGoesOn (O.state out.old) (O.state out.new) }
     ensures clock_goes_on { ClockGoesOn (T.state clock.old) (T.state clock.new) }
@@ -125,26 +116,39 @@ fn serve_input<S: Source, O: Sink, T: Clock>(
     );
     Ok(Served {
         end: session.end,
-        sent: print_sent(alloc, dialer.links())?,
+        sent: made_sent(alloc, dialer.links()),
     })
 }
 
 /// The client's tags as texts.
-fn tag_texts(alloc: Global, words: &[String]) -> Result<List<Text>, Mem> {
+fn tag_texts(alloc: Global, words: &[String]) -> Result<List<Text>, Mem>
+    ensures { IfOk result (λ tags. tags ≡ map string_bytes words.now) }
+{
     let mut tags = Vec::new(alloc);
-    for word in words {
+    'words: for word in words {
         tags.push(Text::from_bytes(alloc, word.as_bytes())?)?;
     }
     Ok(List::from_vec(tags))
 }
 
-/// Puts SENT behind a session, unless memory was wanting in it.
-fn put_sent<F: Files>(files: &mut F, name: &str, text: &[u8], end: SessionEnd) -> Status
-    ensures puts { IsTrue (F.state files.old).tells → PutsAfter (F.state files.old).contents (F.state files.new).contents name.now text.now end result }
-    ensures cause { PutCause (F.state files.old) (F.state files.new) end result }
+/// Puts SENT behind a session, unless memory was wanting in it or for the text.
+fn put_served<F: Files>(files: &mut F, name: &str, served: Served) -> Status
+    ensures puts { (text : List ℕ) → ((x : List ℕ) → served.sent ≡ Some x → x ≡ text) → PutsAfter (F.state files.old) (F.state files.new) name.now text served.end result }
     ensures go_on { FilesGoOn (F.state files.old) (F.state files.new) }
 {
-    if end == SessionEnd::NoMemory {
+    let Served { end, sent } = served;
+    match sent {
+        Some(text) => put_sent(files, name, text.as_bytes(), end),
+        None => Status::NoMemory,
+    }
+}
+
+/// Puts SENT behind a session, unless memory was wanting in it.
+fn put_sent<F: Files>(files: &mut F, name: &str, text: &[u8], end: SessionEnd) -> Status
+    ensures puts { PutsAfter (F.state files.old) (F.state files.new) name.now text.now end result }
+    ensures go_on { FilesGoOn (F.state files.old) (F.state files.new) }
+{
+    if is_wanting(end) {
         return Status::NoMemory;
     }
     let put = files.put(name, text);

@@ -1,5 +1,5 @@
 // The file SENT: what was sent over each link.
-ghost use Rattle.std.specs.Prelude.{◌≡◌, ◌++◌, IfOk, OnOk};
+ghost use Rattle.std.specs.Prelude.{◌≡◌, ◌++◌, IfOk, IfSome, OnOk};
 ghost use Rattle.px_main.specs.Sents.{sent_text, entry_text};
 
 use itoa::Buffer;
@@ -7,7 +7,7 @@ use px_base::{LinkNote, Mem, Text};
 use std::alloc::Global;
 
 /// For each link in order: the host as dialled, a colon, the port, a space, the number of bytes sent, LF, and those bytes.
-pub fn print_sent(alloc: Global, links: &[LinkNote]) -> Result<Text, Mem>
+fn print_sent(alloc: Global, links: &[LinkNote]) -> Result<Text, Mem>
     ensures { IfOk result (λ text. text ≡ sent_text links.now) }
 {
     let mut text = Text::new(alloc);
@@ -15,6 +15,16 @@ pub fn print_sent(alloc: Global, links: &[LinkNote]) -> Result<Text, Mem>
         print_entry(link, &mut text)?;
     }
     Ok(text)
+}
+
+/// The same, if memory is there for it.
+pub fn made_sent(alloc: Global, links: &[LinkNote]) -> Option<Text>
+    ensures { IfSome result (λ text. text ≡ sent_text links.now) }
+{
+    match print_sent(alloc, links) {
+        Ok(text) => Some(text),
+        Err(Mem) => None,
+    }
 }
 
 fn print_entry(link: &LinkNote, text: &mut Text) -> Result<(), Mem>

@@ -1,12 +1,18 @@
 // How a command ends.
-ghost use Rattle.std.specs.Prelude.{◌≡◌};
-ghost use Rattle.px_main.specs.Statuses.{code_of, status_after, status_of_put};
+ghost use Rattle.std.specs.Prelude.{◌≡◌, codes};
+ghost use Rattle.px_main.specs.Statuses.{code_of, is_wanting, status_after, status_of_put};
 
 use px_base::FilesFault;
 use px_serve::SessionEnd;
 
 /// How the commands are used, a line for each that is built.
 pub const USAGE: &[u8] = b"usage: pass CONFIG ORIGIN SENT [TAG]...\n";
+
+/// What the text of the usage is.
+pub fn constants()
+    ensures { USAGE.now ≡ codes "usage: pass CONFIG ORIGIN SENT [TAG]...\n" }
+{
+}
 
 /// How a command ended.
 #[derive(Clone, Copy, Debug, PartialEq, Eq)]
@@ -55,6 +61,21 @@ pub fn status_after(end: SessionEnd, put: Result<(), FilesFault>) -> Status
         SessionEnd::Cut => status_of_put(put),
         SessionEnd::Closed => status_of_put(put),
         SessionEnd::Spent => status_of_put(put),
+    }
+}
+
+/// Whether memory was wanting in a session that ended so.
+pub fn is_wanting(end: SessionEnd) -> bool
+    ensures { result ≡ is_wanting end }
+{
+    match end {
+        SessionEnd::ReadFailed => false,
+        SessionEnd::WriteFailed => false,
+        SessionEnd::NoMemory => true,
+        SessionEnd::Ended => false,
+        SessionEnd::Cut => false,
+        SessionEnd::Closed => false,
+        SessionEnd::Spent => false,
     }
 }
 

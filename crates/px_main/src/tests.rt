@@ -1,5 +1,5 @@
 use crate::commands::run_tool;
-use px_base::{Content, Files, FixedClock, List, Mem, MemFiles, TapeIn, TapeOut, Text};
+use px_base::{Clock, Content, Files, FixedClock, List, Mem, MemFiles, TapeIn, TapeOut, Text};
 use std::alloc::Global;
 use std::process::Abort;
 use std::test::Fail;
@@ -19,7 +19,12 @@ struct Run {
     out: Text,
     err: Text,
     sent: Option<Text>,
+    /// What the clock gives next.
+    next_moment: u64,
 }
+
+/// The moments of the clock, in order.
+const MOMENTS: [u64; 3] = [10, 20, 30];
 
 /// How the objects of a run behave: the most bytes of their first reads and writes, and the calls that fail.
 #[derive(Clone, Copy)]
@@ -74,7 +79,11 @@ fn run_over(
     )?;
     let mut out = TapeOut::new(alloc, outside.out_cuts, outside.out_fails)?;
     let mut err = TapeOut::new(alloc, &[7], outside.err_fails)?;
-    let mut clock = FixedClock::new(List::new(alloc));
+    let mut moments = Vec::new(alloc);
+    for moment in MOMENTS {
+        moments.push(moment)?;
+    }
+    let mut clock = FixedClock::new(List::from_vec(moments));
     let status = run_tool(
         alloc, &given, &mut files, &mut input, &mut out, &mut err, &mut clock,
     );
@@ -85,6 +94,7 @@ fn run_over(
         Err(_) => None,
     };
     Ok(Run {
+        next_moment: clock.now(),
         status,
         out: out.into_taken(),
         err: err.into_taken(),
@@ -144,6 +154,8 @@ fn pass_serves_its_input_however_it_is_cut(rt: HostRuntime) -> Result<(), Fail> 
             assert_eq!(rt; run.out.as_bytes(), out.as_bytes(), "at {input}");
             assert!(rt; run.err.is_empty(), "at {input}");
             assert!(rt; put(&run, sent), "SENT at {input}");
+            let requests = usize::from(!out.is_empty());
+            assert_eq!(rt; run.next_moment, MOMENTS[requests], "at {input}");
         }
     }
     Ok(())
@@ -259,13 +271,19 @@ fn pass_refuses_other_words_and_files(rt: HostRuntime) -> Result<(), Fail> {
 
 #[test]
 fn a_failing_call_of_the_files_gives_its_status(rt: HostRuntime) -> Result<(), Fail> {
-    for (call, status, err) in [(0, 3, "c:0: 33 ReadFault\n"), (1, 3, ""), (2, 4, "")] {
+    let rows = [
+        (0, 3, "c:0: 33 ReadFault\n", ""),
+        (1, 3, "", ""),
+        (2, 4, "", REPLY),
+    ];
+    for (call, status, err, out) in rows {
         let fails = [call];
         let mut outside = cut_so(&SEVENS, &SEVENS);
         outside.files_fails = &fails;
         let run = pass(rt.alloc(), ANSWER, GET, outside)?;
         assert_eq!(rt; run.status, status);
         assert_eq!(rt; run.err.as_bytes(), err.as_bytes());
+        assert_eq!(rt; run.out.as_bytes(), out.as_bytes());
         assert!(rt; run.sent.is_none());
     }
     Ok(())

@@ -14,6 +14,10 @@ only_empty [] = true
 only_empty (b ∷ []) = b == 10
 only_empty (b ∷ c ∷ bs) = if b == 10 then only_empty (c ∷ bs) else (if b == 13 && c == 10 then only_empty bs else false)
 
+-- how a session ends where the client's bytes end, by those behind the last request
+abbrev pub end_of_bytes : List ℕ → SessionEnd
+end_of_bytes bytes = if only_empty bytes then end.Ended else end.Cut
+
 -- how a session ends behind an exchange, if it does; the last one that a connection may have ends it
 abbrev pub end_after : Bool → After → Option SessionEnd
 end_after last after.Keep = if last then Some end.Spent else None

@@ -1,3 +1,3 @@
 pub mod Ends
-pub mod Notes
+pub mod Histories
 pub mod Sessions

@@ -1,31 +1,40 @@
 -- Sessions: exchanges chained over one client's stream.
-use Rattle.std.specs.Prelude.{◌≡◌, ℕ, ◌+◌, zero, suc, Bool, true, false, ◌==◌, IsTrue, ◌⊎◌, List, [], ◌∷◌, ◌++◌, length, Option, None, Some}
-use Rattle.px_base.specs.Sources.{SourceState}
-use Rattle.px_base.specs.Sinks.{SinkState}
-use Rattle.px_base.specs.Dials.{DialerState}
+use Rattle.std.specs.Prelude.{◌≡◌, ℕ, ◌+◌, zero, suc, Bool, true, false, ◌==◌, IsTrue, ◌⊎◌, List, [], ◌∷◌, ◌++◌, length, map, Option, None, Some}
+use Rattle.px_base.specs.Sources.{SourceState, SourceGoesOn}
+use Rattle.px_base.specs.Sinks.{SinkState, SinkGoesOn}
+use Rattle.px_base.specs.Dials.{DialerState, DialerGoesOn}
+use Rattle.px_base.specs.Moments.{ClockState, ClockGoesOn}
+use Rattle.px_head.specs.declared.TheConstants.{HEAD_LIMIT}
 use Rattle.px_head.specs.Blocks.{head_end}
 use Rattle.px_head.specs.declared.blocks.HeadEnd.TheVariants as head
 use Rattle.px_exchange.specs.declared.judging.HeadSeen.{HeadSeen}
 use Rattle.px_exchange.specs.declared.judging.HeadSeen.TheVariants as seen
-use Rattle.px_exchange.specs.declared.notes.After.{After}
 use Rattle.px_exchange.specs.declared.notes.ExchangeNote.{ExchangeNote}
-use Rattle.px_exchange.specs.Exchange.{Exchanges}
+use Rattle.px_exchange.specs.Judging.{Given}
+use Rattle.px_exchange.specs.Exchange.{Answers}
 use Rattle.px_serve.specs.declared.ends.SessionEnd.{SessionEnd}
 use Rattle.px_serve.specs.declared.ends.SessionEnd.TheVariants as end
 use Rattle.px_serve.specs.declared.ends.TheConstants.{REQUEST_LIMIT}
 use Rattle.px_serve.specs.Ends.{only_empty, end_after}
+use Rattle.px_serve.specs.Histories.{Begun, Looks, Noted, TakesOne, note_of}
 
--- between two requests: the client's bytes that are left, the dialer, what the client's sink has taken, and the notes
+-- between two requests: the client's bytes that are left, the dialer, what the client's sink has taken, and the exchanges that
+-- were begun
 pub record State : Type 0 where
   pub stream : List ℕ
   pub dialer : DialerState
   pub taken : List ℕ
-  pub notes : List ExchangeNote
+  pub begun : List Begun
+
+-- what stays the same over a session: the client's tags and its address
+pub record Caller : Type 0 where
+  pub tags : List (List ℕ)
+  pub peer : List ℕ
 
 -- the head at the front of a stream, and what is left behind it
-abbrev pub Begins : List ℕ → HeadSeen → List ℕ → Type 0
-Begins stream (seen.Block block) rest = (head_end 65536 stream ≡ head.At (length block)) × (stream ≡ block ++ rest)
-Begins stream seen.Over rest = (head_end 65536 stream ≡ head.Over) × (rest ≡ stream)
+abbrev pub HeadOf : List ℕ → HeadSeen → List ℕ → Type 0
+HeadOf stream (seen.Block block) rest = (head_end HEAD_LIMIT stream ≡ head.At (length block)) × (stream ≡ block ++ rest)
+HeadOf stream seen.Over rest = (head_end HEAD_LIMIT stream ≡ head.Over) × (rest ≡ stream)
 
 -- the request of that number, from 0, is the first, or the last that a connection may have
 abbrev pub is_first : ℕ → Bool
@@ -34,38 +43,41 @@ is_first n = n == 0
 abbrev pub is_last : ℕ → Bool
 is_last n = n + 1 == REQUEST_LIMIT
 
--- the exchange of that number: its head stands at the front of the stream, and it has one note
-pub record Step (n : ℕ) (s t : State) (a : After) : Type 0 where
-  pub seen : HeadSeen
-  pub begins : Begins s.stream seen t.stream
-  pub note : ExchangeNote
-  pub noted : t.notes ≡ s.notes ++ note ∷ []
-  pub exchanged : Exchanges seen (is_first n) (is_last n) s.dialer t.dialer s.taken t.taken note.ending a
+-- what the exchange of that number is handed
+abbrev pub given_of : Caller → ℕ → HeadSeen → Begun → Given
+given_of caller n seen b = record {
+  config = b.config;
+  seen = seen;
+  first = is_first n;
+  last = is_last n;
+  tags = caller.tags;
+  peer = caller.peer;
+  moment = b.moment;
+}
 
--- the exchange of that number, for that head: its note, and how the session ends behind it, if it does
-pub record Answers (n : ℕ) (seen : HeadSeen) (old new : DialerState) (taken taken' : List ℕ) (notes notes' : List ExchangeNote) (e : Option SessionEnd) : Type 0 where
-  pub after : After
-  pub note : ExchangeNote
-  pub noted : notes' ≡ notes ++ note ∷ []
-  pub exchanged : Exchanges seen (is_first n) (is_last n) old new taken taken' note.ending after
-  pub ends : e ≡ end_after (is_last n) after
+-- the exchange of that number: its head stands at the front of the stream
+pub record Step (caller : Caller) (n : ℕ) (s t : State) (b : Begun) : Type 0 where
+  pub seen : HeadSeen
+  pub head : HeadOf s.stream seen t.stream
+  pub noted : t.begun ≡ s.begun ++ b ∷ []
+  pub answers : Answers (given_of caller n seen b) s.dialer t.dialer s.taken t.taken b.concluded
 
 -- an exchange behind which the session goes on
-pub record Keeps (n : ℕ) (s t : State) : Type 0 where
-  pub after : After
-  pub step : Step n s t after
-  pub goes_on : end_after (is_last n) after ≡ None
+pub record Keeps (caller : Caller) (n : ℕ) (s t : State) : Type 0 where
+  pub begun : Begun
+  pub step : Step caller n s t begun
+  pub goes_on : end_after (is_last n) begun.concluded.after ≡ None
 
 -- the states that so many exchanges lead to
-abbrev pub Reaches : State → ℕ → State → Type 0
-Reaches s zero t = t ≡ s
-Reaches s (suc n) t = (m : State) × Reaches s n m × Keeps n m t
+abbrev pub Reaches : Caller → State → ℕ → State → Type 0
+Reaches caller s zero t = t ≡ s
+Reaches caller s (suc n) t = (m : State) × Reaches caller s n m × Keeps caller n m t
 
 -- why a session ends between two requests; where the source failed, the bytes that came hold no whole head
 abbrev pub EndsBetween : List ℕ → List ℕ → SessionEnd → Type 0
-EndsBetween stream left end.Ended = (head_end 65536 stream ≡ head.NotYet) × (only_empty stream ≡ true)
-EndsBetween stream left end.Cut = (head_end 65536 stream ≡ head.NotYet) × (only_empty stream ≡ false)
-EndsBetween stream left end.ReadFailed = (came : List ℕ) × (stream ≡ came ++ left) × (head_end 65536 came ≡ head.NotYet)
+EndsBetween stream left end.Ended = (head_end HEAD_LIMIT stream ≡ head.NotYet) × (only_empty stream ≡ true)
+EndsBetween stream left end.Cut = (head_end HEAD_LIMIT stream ≡ head.NotYet) × (only_empty stream ≡ false)
+EndsBetween stream left end.ReadFailed = (came : List ℕ) × (stream ≡ came ++ left) × (head_end HEAD_LIMIT came ≡ head.NotYet)
 EndsBetween stream left end.NoMemory = Unit {0}
 EndsBetween stream left end.Closed = ⊥
 EndsBetween stream left end.Spent = ⊥
@@ -75,38 +87,80 @@ EndsBetween stream left end.WriteFailed = ⊥
 pub record Stops (s t : State) (left : List ℕ) (e : SessionEnd) : Type 0 where
   pub undialled : t.dialer ≡ s.dialer
   pub unreturned : t.taken ≡ s.taken
-  pub unnoted : t.notes ≡ s.notes
+  pub unbegun : t.begun ≡ s.begun
   pub why : EndsBetween s.stream left e
 
 -- a session that ends behind an exchange
-pub record Closes (n : ℕ) (s t : State) (e : SessionEnd) : Type 0 where
-  pub after : After
-  pub step : Step n s t after
-  pub ends : end_after (is_last n) after ≡ Some e
+pub record Closes (caller : Caller) (n : ℕ) (s t : State) (e : SessionEnd) : Type 0 where
+  pub begun : Begun
+  pub step : Step caller n s t begun
+  pub ends : end_after (is_last n) begun.concluded.after ≡ Some e
 
 -- how a session ends behind so many exchanges; `left` are the client's bytes that its source has left
-abbrev pub Ends : ℕ → State → State → List ℕ → SessionEnd → Type 0
-Ends n s t left e = Stops s t left e ⊎ Closes n s t e
+abbrev pub EndsSession : Caller → ℕ → State → State → List ℕ → SessionEnd → Type 0
+EndsSession caller n s t left e = Stops s t left e ⊎ Closes caller n s t e
 
 -- one more exchange, or an end
-abbrev pub Turns : ℕ → State → State → List ℕ → Option SessionEnd → Type 0
-Turns n s t left None = Keeps n s t
-Turns n s t left (Some e) = Ends n s t left e
+abbrev pub Turns : Caller → ℕ → State → State → List ℕ → Option SessionEnd → Type 0
+Turns caller n s t left None = Keeps caller n s t
+Turns caller n s t left (Some e) = EndsSession caller n s t left e
 
 -- where a session begins
 abbrev pub begin : List ℕ → DialerState → List ℕ → State
-begin stream dialer taken = record { stream = stream; dialer = dialer; taken = taken; notes = [] }
+begin stream dialer taken = record { stream = stream; dialer = dialer; taken = taken; begun = [] }
 
 -- a session over a client's bytes: those left before and after, the dialer before and after, what the client's sink had taken
--- before and after, the notes and the end
-pub record IsSession (stream left : List ℕ) (old new : DialerState) (taken taken' : List ℕ) (notes : List ExchangeNote) (e : SessionEnd) : Type 0 where
+-- before and after, the exchanges that were begun and the end
+pub record IsSession (caller : Caller) (stream left : List ℕ) (old new : DialerState) (taken taken' : List ℕ) (begun : List Begun) (e : SessionEnd) : Type 0 where
   pub kept : ℕ
   pub middle : State
   pub rest : List ℕ
-  pub reached : Reaches (begin stream old taken) kept middle
-  pub ended : Ends kept middle (record { stream = rest; dialer = new; taken = taken'; notes = notes }) left e
+  pub reached : Reaches caller (begin stream old taken) kept middle
+  pub ended : EndsSession caller kept middle (record { stream = rest; dialer = new; taken = taken'; begun = begun }) left e
 
--- a session of these objects, where they tell
-abbrev pub Serves : SourceState → SourceState → DialerState → DialerState → SinkState → SinkState → List ExchangeNote → SessionEnd → Type 0
-Serves i i' d d' o o' notes e =
-    IsTrue i.tells → IsTrue o.tells → IsTrue d.tells → IsSession i.left i'.left d d' o.taken o'.taken notes e
+-- the objects that each exchange of a session is lent
+pub record Objects : Type 0 where
+  pub client_out : SinkState
+  pub dialer : DialerState
+  pub clock : ClockState
+
+-- what lasts of them, whatever is done
+pub record Lasts (old new : Objects) : Type 0 where
+  pub client_out : SinkGoesOn old.client_out new.client_out
+  pub dialer : DialerGoesOn old.dialer new.dialer
+  pub clock : ClockGoesOn old.clock new.clock
+
+-- the client's source, its sink and the dialer tell
+pub record Tell (i : SourceState) (o : Objects) : Type 0 where
+  pub client_in : IsTrue i.tells
+  pub client_out : IsTrue o.client_out.tells
+  pub dialer : IsTrue o.dialer.tells
+
+-- the exchange of that number, for that head: what was noted of it, and how the session ends behind it, if it does
+pub record Begins (caller : Caller) (n : ℕ) (seen : HeadSeen) (looks looks' : Looks) (old new : Objects) (notes notes' : List ExchangeNote) (e : Option SessionEnd) : Type 0 where
+  pub begun : Begun
+  pub noted : notes' ≡ notes ++ note_of begun ∷ []
+  pub takes : TakesOne looks looks' old.clock new.clock begun
+  pub answers : IsTrue old.client_out.tells → IsTrue old.dialer.tells
+      → Answers (given_of caller n seen begun) old.dialer new.dialer old.client_out.taken new.client_out.taken begun.concluded
+  pub ends : e ≡ end_after (is_last n) begun.concluded.after
+
+-- between two requests, with that stream left, and behind the exchanges that were begun
+abbrev pub state_at : List ℕ → Objects → List Begun → State
+state_at stream o begun = record { stream = stream; dialer = o.dialer; taken = o.client_out.taken; begun = begun }
+
+-- the turn of that number: the exchanges that it began, one or none, and what they add to those before; the client's source
+-- before and after, and what was read ahead of it
+pub record Turned (caller : Caller) (n : ℕ) (looks looks' : Looks) (i i' : SourceState) (ahead ahead' : List ℕ) (old new : Objects) (notes notes' : List ExchangeNote) (e : Option SessionEnd) : Type 0 where
+  pub begun : List Begun
+  pub noted : notes' ≡ notes ++ map note_of begun
+  pub history : (first : Looks) (clock : ClockState) (before : List Begun) → Noted first looks clock old.clock before → Noted first looks' clock new.clock (before ++ begun)
+  pub turns : Tell i old → (before : List Begun) → Turns caller n (state_at (ahead ++ i.left) old before) (state_at (ahead' ++ i'.left) new (before ++ begun)) i'.left e
+
+-- a session of these objects: the exchanges that it began, whose notes it gives, and how it ended
+pub record Serves (caller : Caller) (looks looks' : Looks) (i i' : SourceState) (old new : Objects) (notes : List ExchangeNote) (e : SessionEnd) : Type 0 where
+  pub begun : List Begun
+  pub notes_are : notes ≡ map note_of begun
+  pub noted : Noted looks looks' old.clock new.clock begun
+  pub session : Tell i old
+      → IsSession caller i.left i'.left old.dialer new.dialer old.client_out.taken new.client_out.taken begun e

@@ -1,11 +1,19 @@
 //! Sessions: the requests of one client's connection, one after the other.
 #![tactic(auto)]
 
+ghost use Rattle.std.specs.Prelude.{◌≡◌};
+
 mod ends;
 mod sessions;
 
 pub use ends::{REQUEST_LIMIT, SessionEnd};
 pub use sessions::{Session, serve_connection};
+
+/// What the constant of this crate is.
+pub fn constants()
+    ensures { REQUEST_LIMIT ≡ 100 }
+{
+}
 
 #[cfg(test)]
 mod tests;

@@ -1,21 +1,16 @@
 // One session.
-ghost use Rattle.std.specs.Prelude.{◌≡◌, ◌≢◌, ◌<◌, ◌≤◌, ◌+◌, ◌++◌, ◌∷◌, [], ℕ, List, IsTrue, IfOk, None, Some, length, vec_len, vec_capacity};
+ghost use Rattle.std.specs.Prelude.{◌≡◌, ◌≢◌, ◌<◌, ◌≤◌, ◌+◌, ◌++◌, ◌∷◌, [], List, ℕ, IsTrue, None, Some, length, vec_len, vec_capacity};
 ghost use Rattle.px_base.specs.Sources.{SourceGoesOn};
-ghost use Rattle.px_base.specs.Sinks.{SinkGoesOn};
-ghost use Rattle.px_base.specs.Dials.{DialerGoesOn};
-ghost use Rattle.px_base.specs.Moments.{ClockGoesOn};
 ghost use Rattle.px_exchange.specs.Configs.{Entry};
-ghost use Rattle.px_exchange.specs.declared.snapshots.Config.{Config};
-ghost use Rattle.px_serve.specs.Ends.{ReadEndCause, WriteEndCause, ReadTurnCause, WriteTurnCause};
-ghost use Rattle.px_serve.specs.Notes.{HaveMoments, HaveLooks, NoneOlder};
-ghost use Rattle.px_serve.specs.Sessions.{State, Turns, Answers, Serves, is_first, is_last};
+ghost use Rattle.px_serve.specs.Ends.{end_of_bytes, ReadEndCause, WriteEndCause, ReadTurnCause, WriteTurnCause};
+ghost use Rattle.px_serve.specs.Histories.{Looks};
+ghost use Rattle.px_serve.specs.Sessions.{Caller, Objects, Lasts, Begins, Turned, Serves};
 
 use crate::ends::{REQUEST_LIMIT, SessionEnd, end_after, is_empty_lines};
 use px_base::{Clock, Dialer, List, Peer, Sink, Source, Text};
-use px_exchange::{
-    Ahead, Config, Configs, ExchangeNote, Front, HeadSeen, ReadFault, answer_request, read_front,
-};
+use px_exchange::{Config, Configs, ExchangeNote, Handed, HeadSeen, answer_request};
 use px_head::HEAD_LIMIT;
+use px_streams::{Ahead, Front, ReadFault, read_front};
 use std::alloc::Global;
 
 /// What came of a session: a note of each exchange that was begun, in order, and how it ended.
@@ -23,6 +18,13 @@ use std::alloc::Global;
 pub struct Session {
     pub exchanges: List<ExchangeNote>,
     pub end: SessionEnd,
+}
+
+/// The client of a session: its tags and its address.
+#[derive(Drop)]
+pub struct Client<'a> {
+    tags: &'a [Text],
+    peer: &'a Peer,
 }
 
 /// Adds a note, for which there is room.
@@ -40,6 +42,7 @@ fn add_note(notes: &mut Vec<ExchangeNote>, note: ExchangeNote)
 /// Answers the request of that number, from 0, with one look at the configurations and one moment.
 fn serve_request<K, O, D, T>(
     alloc: Global,
+    client: &Client<'_>,
     number: u64,
     configs: &mut K,
     seen: &HeadSeen,
@@ -55,41 +58,60 @@ where
     T: Clock,
     requires number { number < REQUEST_LIMIT }
     requires room { vec_len notes.old < vec_capacity notes.old }
-    ensures answers { IsTrue (O.state client_out.old).tells → IsTrue (D.state dialer.old).tells
-        → Answers number seen.now (D.state dialer.old) (D.state dialer.new) (O.state client_out.old).taken (O.state client_out.new).taken notes.old.items notes.new.items result }
+    ensures begins { Begins (record { tags = client.now.tags.now; peer = client.now.peer.now.address }) number seen.now
+        (record { tells = K.tells; held = K.held configs.old; coming = K.coming configs.old })
+        (record { tells = K.tells; held = K.held configs.new; coming = K.coming configs.new })
+        (record { client_out = O.state client_out.old; dialer = D.state dialer.old; clock = T.state clock.old })
+        (record { client_out = O.state client_out.new; dialer = D.state dialer.new; clock = T.state clock.new })
+        notes.old.items notes.new.items result }
     ensures one_more { length notes.new.items ≡ length notes.old.items + 1 }
     ensures room { vec_capacity notes.old ≤ vec_capacity notes.new }
-    ensures moments { IsTrue (T.state clock.old).tells → (first : ℕ → ℕ) → HaveMoments first (T.state clock.old).coming notes.old.items → HaveMoments first (T.state clock.new).coming notes.new.items }
-    ensures looks { IsTrue K.tells → (first : ℕ → Entry Config) → HaveLooks (λ e. e.number) first (K.coming configs.old) notes.old.items → HaveLooks (λ e. e.number) first (K.coming configs.new) notes.new.items }
-    ensures none_older { (first : ℕ) → NoneOlder first notes.old.items (K.held configs.old).number → NoneOlder first notes.new.items (K.held configs.new).number }
     ensures goes_on_below { result ≡ None → number + 1 < REQUEST_LIMIT }
     ensures write_cause { WriteTurnCause (O.state client_out.old) (O.state client_out.new) result }
     ensures not_read { result ≢ Some SessionEnd.ReadFailed }
-    ensures out_goes_on { SinkGoesOn (O.state client_out.old) (O.state client_out.new) }
-    ensures goes_on { DialerGoesOn (D.state dialer.old) (D.state dialer.new) }
-    ensures clock_goes_on { ClockGoesOn (T.state clock.old) (T.state clock.new) }
+    ensures open { (O.state client_out.new).finished ≡ (O.state client_out.old).finished }
+    ensures lasts { Lasts
+        (record { client_out = O.state client_out.old; dialer = D.state dialer.old; clock = T.state clock.old })
+        (record { client_out = O.state client_out.new; dialer = D.state dialer.new; clock = T.state clock.new }) }
 {
     let last = number + 1 == REQUEST_LIMIT;
     configs.look();
     let snapshot = configs.current();
     let moment = clock.now();
-    let exchanged = answer_request(
-        alloc,
-        &snapshot,
+    let handed = Handed {
+        config: snapshot.config,
         seen,
-        number == 0,
+        first: number == 0,
         last,
-        client_out,
-        dialer,
+        tags: client.tags,
+        peer: client.peer,
         moment,
-    );
-    add_note(notes, exchanged.note);
-    end_after(last, exchanged.after)
+    };
+    let concluded = answer_request(alloc, &handed, client_out, dialer);
+    let note = ExchangeNote {
+        config: snapshot.number,
+        moment,
+        ending: concluded.ending,
+    };
+    add_note(notes, note);
+    end_after(last, concluded.after)
+}
+
+/// How a session ends where the client's bytes end: in nothing but empty lines, or elsewhere in a head.
+fn end_of_bytes(bytes: &[u8]) -> SessionEnd
+    ensures { result ≡ end_of_bytes bytes.now }
+{
+    if is_empty_lines(bytes) {
+        SessionEnd::Ended
+    } else {
+        SessionEnd::Cut
+    }
 }
 
 /// Serves the request of that number, or sees how the session ends before it.
 fn turn<K, S, O, D, T>(
     alloc: Global,
+    client: &Client<'_>,
     number: u64,
     configs: &mut K,
     client_in: &mut S,
@@ -107,26 +129,28 @@ where
     T: Clock,
     requires number { number < REQUEST_LIMIT }
     requires room { vec_len notes.old < vec_capacity notes.old }
-    ensures turns { IsTrue (S.state client_in.old).tells → IsTrue (O.state client_out.old).tells → IsTrue (D.state dialer.old).tells → Turns number
-        (record { stream = ahead.old ++ (S.state client_in.old).left; dialer = D.state dialer.old; taken = (O.state client_out.old).taken; notes = notes.old.items })
-        (record { stream = ahead.new ++ (S.state client_in.new).left; dialer = D.state dialer.new; taken = (O.state client_out.new).taken; notes = notes.new.items })
-        (S.state client_in.new).left result }
+    ensures turned { Turned (record { tags = client.now.tags.now; peer = client.now.peer.now.address }) number
+        (record { tells = K.tells; held = K.held configs.old; coming = K.coming configs.old })
+        (record { tells = K.tells; held = K.held configs.new; coming = K.coming configs.new })
+        (S.state client_in.old) (S.state client_in.new) ahead.old ahead.new
+        (record { client_out = O.state client_out.old; dialer = D.state dialer.old; clock = T.state clock.old })
+        (record { client_out = O.state client_out.new; dialer = D.state dialer.new; clock = T.state clock.new })
+        notes.old.items notes.new.items result }
     ensures one_more { result ≡ None → length notes.new.items ≡ length notes.old.items + 1 }
     ensures room { vec_capacity notes.old ≤ vec_capacity notes.new }
-    ensures moments { IsTrue (T.state clock.old).tells → (first : ℕ → ℕ) → HaveMoments first (T.state clock.old).coming notes.old.items → HaveMoments first (T.state clock.new).coming notes.new.items }
-    ensures looks { IsTrue K.tells → (first : ℕ → Entry Config) → HaveLooks (λ e. e.number) first (K.coming configs.old) notes.old.items → HaveLooks (λ e. e.number) first (K.coming configs.new) notes.new.items }
-    ensures none_older { (first : ℕ) → NoneOlder first notes.old.items (K.held configs.old).number → NoneOlder first notes.new.items (K.held configs.new).number }
     ensures goes_on_below { result ≡ None → number + 1 < REQUEST_LIMIT }
     ensures read_cause { ReadTurnCause (S.state client_in.old) (S.state client_in.new) result }
     ensures write_cause { WriteTurnCause (O.state client_out.old) (O.state client_out.new) result }
+    ensures open { (O.state client_out.new).finished ≡ (O.state client_out.old).finished }
     ensures in_goes_on { SourceGoesOn (S.state client_in.old) (S.state client_in.new) }
-    ensures out_goes_on { SinkGoesOn (O.state client_out.old) (O.state client_out.new) }
-    ensures goes_on { DialerGoesOn (D.state dialer.old) (D.state dialer.new) }
-    ensures clock_goes_on { ClockGoesOn (T.state clock.old) (T.state clock.new) }
+    ensures lasts { Lasts
+        (record { client_out = O.state client_out.old; dialer = D.state dialer.old; clock = T.state clock.old })
+        (record { client_out = O.state client_out.new; dialer = D.state dialer.new; clock = T.state clock.new }) }
 {
     match read_front(alloc, client_in, ahead, HEAD_LIMIT) {
         Ok(Front::Block(block)) => serve_request(
             alloc,
+            client,
             number,
             configs,
             &HeadSeen::Block(block),
@@ -137,6 +161,7 @@ where
         ),
         Ok(Front::Over) => serve_request(
             alloc,
+            client,
             number,
             configs,
             &HeadSeen::Over,
@@ -145,13 +170,7 @@ where
             clock,
             notes,
         ),
-        Ok(Front::End) => {
-            if is_empty_lines(ahead.as_bytes()) {
-                Some(SessionEnd::Ended)
-            } else {
-                Some(SessionEnd::Cut)
-            }
-        }
+        Ok(Front::End) => Some(end_of_bytes(ahead.as_bytes())),
         Err(ReadFault::Failed) => Some(SessionEnd::ReadFailed),
         Err(ReadFault::Mem) => Some(SessionEnd::NoMemory),
     }
@@ -160,6 +179,7 @@ where
 /// Serves requests until the session ends. For the notes there is room.
 fn serve<K, S, O, D, T>(
     alloc: Global,
+    client: &Client<'_>,
     configs: &mut K,
     client_in: &mut S,
     client_out: &mut O,
@@ -175,22 +195,26 @@ where
     T: Clock,
     requires none { notes.old.items ≡ [] }
     requires room { REQUEST_LIMIT ≤ vec_capacity notes.old }
-    ensures session { Serves (S.state client_in.old) (S.state client_in.new) (D.state dialer.old) (D.state dialer.new) (O.state client_out.old) (O.state client_out.new) notes.new.items result }
-    ensures moments { IsTrue (T.state clock.old).tells → HaveMoments (T.state clock.old).coming (T.state clock.new).coming notes.new.items }
-    ensures looks { IsTrue K.tells → HaveLooks (λ e. e.number) (K.coming configs.old) (K.coming configs.new) notes.new.items }
-    ensures none_older { NoneOlder (K.held configs.old).number notes.new.items (K.held configs.new).number }
+    ensures serves { Serves (record { tags = client.now.tags.now; peer = client.now.peer.now.address })
+        (record { tells = K.tells; held = K.held configs.old; coming = K.coming configs.old })
+        (record { tells = K.tells; held = K.held configs.new; coming = K.coming configs.new })
+        (S.state client_in.old) (S.state client_in.new)
+        (record { client_out = O.state client_out.old; dialer = D.state dialer.old; clock = T.state clock.old })
+        (record { client_out = O.state client_out.new; dialer = D.state dialer.new; clock = T.state clock.new })
+        notes.new.items result }
     ensures read_cause { ReadEndCause (S.state client_in.old) (S.state client_in.new) result }
     ensures write_cause { WriteEndCause (O.state client_out.old) (O.state client_out.new) result }
+    ensures open { (O.state client_out.new).finished ≡ (O.state client_out.old).finished }
     ensures in_goes_on { SourceGoesOn (S.state client_in.old) (S.state client_in.new) }
-    ensures out_goes_on { SinkGoesOn (O.state client_out.old) (O.state client_out.new) }
-    ensures goes_on { DialerGoesOn (D.state dialer.old) (D.state dialer.new) }
-    ensures clock_goes_on { ClockGoesOn (T.state clock.old) (T.state clock.new) }
+    ensures lasts { Lasts
+        (record { client_out = O.state client_out.old; dialer = D.state dialer.old; clock = T.state clock.old })
+        (record { client_out = O.state client_out.new; dialer = D.state dialer.new; clock = T.state clock.new }) }
 {
     let mut ahead = Ahead::new(alloc);
     let mut number = 0u64;
     'requests: loop {
         match turn(
-            alloc, number, configs, client_in, &mut ahead, client_out, dialer, clock, notes,
+            alloc, client, number, configs, client_in, &mut ahead, client_out, dialer, clock, notes,
         ) {
             Some(end) => return end,
             None => number += 1,
@@ -198,8 +222,56 @@ where
     }
 }
 
+/// Takes room for the notes and serves. The client's sink is left open.
+fn serve_noted<K, S, O, D, T>(
+    alloc: Global,
+    client: &Client<'_>,
+    configs: &mut K,
+    client_in: &mut S,
+    client_out: &mut O,
+    dialer: &mut D,
+    clock: &mut T,
+) -> Session
+where
+    K: Configs<Held = Config>,
+    S: Source,
+    O: Sink,
+    D: Dialer,
+    T: Clock,
+    ensures serves { Serves (record { tags = client.now.tags.now; peer = client.now.peer.now.address })
+        (record { tells = K.tells; held = K.held configs.old; coming = K.coming configs.old })
+        (record { tells = K.tells; held = K.held configs.new; coming = K.coming configs.new })
+        (S.state client_in.old) (S.state client_in.new)
+        (record { client_out = O.state client_out.old; dialer = D.state dialer.old; clock = T.state clock.old })
+        (record { client_out = O.state client_out.new; dialer = D.state dialer.new; clock = T.state clock.new })
+        result.exchanges result.end }
+    ensures read_cause { ReadEndCause (S.state client_in.old) (S.state client_in.new) result.end }
+    ensures write_cause { WriteEndCause (O.state client_out.old) (O.state client_out.new) result.end }
+    ensures open { (O.state client_out.new).finished ≡ (O.state client_out.old).finished }
+    ensures in_goes_on { SourceGoesOn (S.state client_in.old) (S.state client_in.new) }
+    ensures lasts { Lasts
+        (record { client_out = O.state client_out.old; dialer = D.state dialer.old; clock = T.state clock.old })
+        (record { client_out = O.state client_out.new; dialer = D.state dialer.new; clock = T.state clock.new }) }
+{
+    match Vec::with_capacity(alloc, REQUEST_LIMIT as usize) {
+        Ok(mut notes) => {
+            let end = serve(
+                alloc, client, configs, client_in, client_out, dialer, clock, &mut notes,
+            );
+            Session {
+                exchanges: List::from_vec(notes),
+                end,
+            }
+        }
+        Err(_) => Session {
+            exchanges: List::new(alloc),
+            end: SessionEnd::NoMemory,
+        },
+    }
+}
+
 /// Serves one connection: its requests one after the other, up to `REQUEST_LIMIT`. Before anything is read, room for the notes
-/// is taken. Whatever the end, the client's sink is finished. The client's address and tags have no effect yet.
+/// is taken. Whatever the end, the client's sink is finished behind it. The client's address and tags have no effect yet.
 pub fn serve_connection<K, S, O, D, T>(
     alloc: Global,
     configs: &mut K,
@@ -216,62 +288,25 @@ where
     O: Sink,
     D: Dialer,
     T: Clock,
-    ensures session { Serves (S.state client_in.old) (S.state client_in.new) (D.state dialer.old) (D.state dialer.new) (O.state client_out.old) (O.state client_out.new) result.exchanges result.end }
-    ensures moments { IsTrue (T.state clock.old).tells → HaveMoments (T.state clock.old).coming (T.state clock.new).coming result.exchanges }
-    ensures looks { IsTrue K.tells → HaveLooks (λ e. e.number) (K.coming configs.old) (K.coming configs.new) result.exchanges }
-    ensures none_older { NoneOlder (K.held configs.old).number result.exchanges (K.held configs.new).number }
+    ensures serves { Serves (record { tags = tags.now; peer = peer.now.address })
+        (record { tells = K.tells; held = K.held configs.old; coming = K.coming configs.old })
+        (record { tells = K.tells; held = K.held configs.new; coming = K.coming configs.new })
+        (S.state client_in.old) (S.state client_in.new)
+        (record { client_out = O.state client_out.old; dialer = D.state dialer.old; clock = T.state clock.old })
+        (record { client_out = O.state client_out.new; dialer = D.state dialer.new; clock = T.state clock.new })
+        result.exchanges result.end }
     ensures read_cause { ReadEndCause (S.state client_in.old) (S.state client_in.new) result.end }
     ensures write_cause { WriteEndCause (O.state client_out.old) (O.state client_out.new) result.end }
     ensures finished { IsTrue (O.state client_out.old).tells → IsTrue (O.state client_out.new).finished }
     ensures in_goes_on { SourceGoesOn (S.state client_in.old) (S.state client_in.new) }
-    ensures out_goes_on { SinkGoesOn (O.state client_out.old) (O.state client_out.new) }
-    ensures goes_on { DialerGoesOn (D.state dialer.old) (D.state dialer.new) }
-    ensures clock_goes_on { ClockGoesOn (T.state clock.old) (T.state clock.new) }
+    ensures lasts { Lasts
+        (record { client_out = O.state client_out.old; dialer = D.state dialer.old; clock = T.state clock.old })
+        (record { client_out = O.state client_out.new; dialer = D.state dialer.new; clock = T.state clock.new }) }
 {
-    let session = serve_noted(alloc, configs, client_in, client_out, dialer, clock);
+    let client = Client { tags, peer };
+    let session = serve_noted(
+        alloc, &client, configs, client_in, client_out, dialer, clock,
+    );
     client_out.finish();
     session
-}
-
-/// Takes room for the notes and serves. The client's sink is left open.
-fn serve_noted<K, S, O, D, T>(
-    alloc: Global,
-    configs: &mut K,
-    client_in: &mut S,
-    client_out: &mut O,
-    dialer: &mut D,
-    clock: &mut T,
-) -> Session
-where
-    K: Configs<Held = Config>,
-    S: Source,
-    O: Sink,
-    D: Dialer,
-    T: Clock,
-    ensures session { Serves (S.state client_in.old) (S.state client_in.new) (D.state dialer.old) (D.state dialer.new) (O.state client_out.old) (O.state client_out.new) result.exchanges result.end }
-    ensures moments { IsTrue (T.state clock.old).tells → HaveMoments (T.state clock.old).coming (T.state clock.new).coming result.exchanges }
-    ensures looks { IsTrue K.tells → HaveLooks (λ e. e.number) (K.coming configs.old) (K.coming configs.new) result.exchanges }
-    ensures none_older { NoneOlder (K.held configs.old).number result.exchanges (K.held configs.new).number }
-    ensures read_cause { ReadEndCause (S.state client_in.old) (S.state client_in.new) result.end }
-    ensures write_cause { WriteEndCause (O.state client_out.old) (O.state client_out.new) result.end }
-    ensures in_goes_on { SourceGoesOn (S.state client_in.old) (S.state client_in.new) }
-    ensures out_goes_on { SinkGoesOn (O.state client_out.old) (O.state client_out.new) }
-    ensures goes_on { DialerGoesOn (D.state dialer.old) (D.state dialer.new) }
-    ensures clock_goes_on { ClockGoesOn (T.state clock.old) (T.state clock.new) }
-{
-    match Vec::with_capacity(alloc, REQUEST_LIMIT as usize) {
-        Ok(mut notes) => {
-            let end = serve(
-                alloc, configs, client_in, client_out, dialer, clock, &mut notes,
-            );
-            Session {
-                exchanges: List::from_vec(notes),
-                end,
-            }
-        }
-        Err(_) => Session {
-            exchanges: List::new(alloc),
-            end: SessionEnd::NoMemory,
-        },
-    }
 }

@@ -1,14 +1,15 @@
 //! Sessions over objects in memory.
+use crate::ends::end_after;
 use crate::{SessionEnd, serve_connection};
 use px_base::{Answer, FixedClock, List, MemDialer, Peer, TapeIn, TapeOut, Text};
-use px_exchange::{Config, Ending, FixedConfig, Page};
+use px_exchange::{After, Config, Ending, FixedConfig, Page};
 use std::alloc::Global;
 use std::process::Abort;
 use std::sync::Arc;
 
 /// A client's bytes and how they are cut, an origin's answer, and the calls of the two ends that fail.
-struct Row {
-    input: &'static [u8],
+struct Row<'a> {
+    input: &'a [u8],
     cuts: &'static [usize],
     read_fails: &'static [u64],
     write_fails: &'static [u64],
@@ -28,8 +29,11 @@ struct Outcome {
     links: usize,
 }
 
-/// Serves a row at the moment 1,000,000,000.
-fn serve(rt: &impl Abort, alloc: Global, row: Row) -> Outcome {
+/// The moments of the clock, in order.
+const MOMENTS: [u64; 2] = [1_000_000_000, 1_000_000_007];
+
+/// Serves a row, at one moment for each request.
+fn serve(rt: &impl Abort, alloc: Global, row: Row<'_>) -> Outcome {
     let Row {
         input,
         cuts,
@@ -42,7 +46,9 @@ fn serve(rt: &impl Abort, alloc: Global, row: Row) -> Outcome {
         assert!(rt; answers.push(answer).is_ok());
     }
     let mut moments = List::new(alloc);
-    assert!(rt; moments.push(1_000_000_000).is_ok());
+    for moment in MOMENTS {
+        assert!(rt; moments.push(moment).is_ok());
+    }
     let config = Arc::new(alloc, Config {}).expect(rt, "memory");
     let mut configs = FixedConfig::new(config);
     let mut client_in = TapeIn::new(alloc, input, cuts, read_fails).expect(rt, "memory");
@@ -63,9 +69,9 @@ fn serve(rt: &impl Abort, alloc: Global, row: Row) -> Outcome {
         &[],
     );
     let mut endings = List::new(alloc);
-    for note in session.exchanges.as_slice() {
+    for (note, moment) in session.exchanges.as_slice().iter().zip(MOMENTS) {
         assert_eq!(rt; note.config, 0);
-        assert_eq!(rt; note.moment, 1_000_000_000);
+        assert_eq!(rt; note.moment, moment);
         assert!(rt; endings.push(note.ending).is_ok());
     }
     let mut outcome = Outcome {
@@ -110,10 +116,11 @@ const SENT: &[u8] = b"GET /x HTTP/1.1\r\nHost: a.test\r\nConnection: close\r\n\r
 
 const RETURNED: &[u8] = b"HTTP/1.1 200 OK\r\nContent-Length: 2\r\nConnection: keep-alive\r\n\r\nhi";
 
+const REFUSED: &[u8] =
+    b"HTTP/1.1 400 Bad Request\r\nContent-Type: text/html\r\nContent-Length: 52\r\nCache-Control: no-cache\r\nConnection: close\r\n\r\n<html><body>invalid-request: NotBuilt</body></html>\n";
+
 #[test]
 fn a_get_is_sent_on_in_origin_form_and_its_answer_returned(rt: HostRuntime) {
-    assert_eq!(rt; SENT.len(), 52);
-    assert_eq!(rt; RETURNED.len(), 64);
     let cuts: [&'static [usize]; 3] = [&[], &[1; 80], &[29, 2, 7, 1]];
     for cut in cuts {
         let row = Row {
@@ -178,7 +185,9 @@ fn a_second_request_is_refused_and_the_connection_closes(rt: HostRuntime) {
         outcome.endings.as_slice(),
         [Ending::Passed, Ending::Page(Page::InvalidRequest)].as_slice()
     );
-    assert!(rt; outcome.returned.as_bytes().starts_with(RETURNED));
+    let (first, second) = outcome.returned.as_bytes().split_at(64);
+    assert_eq!(rt; first, RETURNED);
+    assert_eq!(rt; second, REFUSED);
     assert_eq!(rt; outcome.links, 1);
 }
 
@@ -209,4 +218,45 @@ fn a_failing_call_of_the_client_ends_the_session_with_its_own_fault(rt: HostRunt
     assert!(rt; RETURNED.starts_with(outcome.returned.as_bytes()));
     assert!(rt; outcome.finished);
     assert_eq!(rt; outcome.sent.as_bytes(), SENT);
+}
+
+/// A GET whose head has so many bytes.
+fn long_get(rt: &impl Abort, alloc: Global, len: usize) -> Text {
+    let mut head = Text::from_bytes(alloc, b"GET http://a.test/x HTTP/1.1\r\nX: ").expect(rt, "memory");
+    while head.len() < len.saturating_sub(4) {
+        head.push(b'x').expect(rt, "memory");
+    }
+    head.push_all(b"\r\n\r\n").expect(rt, "memory");
+    assert_eq!(rt; head.len(), len);
+    head
+}
+
+#[test]
+fn a_head_of_65_536_bytes_is_sent_on_and_a_longer_one_refused(rt: HostRuntime) {
+    let rows: [(usize, SessionEnd, &'static [u8], usize); 2] = [
+        (65_536, SessionEnd::Ended, RETURNED, 1),
+        (65_537, SessionEnd::Closed, REFUSED, 0),
+    ];
+    for (len, end, returned, links) in rows {
+        let head = long_get(&rt, rt.alloc(), len);
+        let row = Row {
+            input: head.as_bytes(),
+            cuts: &[],
+            read_fails: &[],
+            write_fails: &[],
+            answer: link(&rt, rt.alloc(), ANSWER),
+        };
+        let outcome = serve(&rt, rt.alloc(), row);
+        assert_eq!(rt; outcome.end, end);
+        assert_eq!(rt; outcome.returned.as_bytes(), returned);
+        assert_eq!(rt; outcome.links, links);
+    }
+}
+
+#[test]
+fn the_hundredth_request_ends_a_session_however_its_reply_ends(rt: HostRuntime) {
+    assert_eq!(rt; end_after(true, After::Keep), Some(SessionEnd::Spent));
+    assert_eq!(rt; end_after(true, After::Close), Some(SessionEnd::Spent));
+    assert_eq!(rt; end_after(false, After::Keep), None);
+    assert_eq!(rt; end_after(false, After::Close), Some(SessionEnd::Closed));
 }

@@ -3,12 +3,12 @@ use Rattle.px_exchange.proofs.PumpLemmas.{body_stage, done_stage}
 use Rattle.px_exchange.proofs.pumps.advance.Goals as goal
 
 pub returns-in_ok-next-in-Passing-clause-after : goal.returns-in_ok-next-in-Passing-clause-after
-returns-in_ok-next-in-Passing-clause-after c keep fed put h =
-    body_stage keep fed put c.args.piece.now c.args.out.now c.pass_body.new.out c.in-Passing.keep c.in-Passing.left c.in_ok-next-in-Passing.next
+returns-in_ok-next-in-Passing-clause-after c ask fed put h =
+    body_stage ask fed put c.args.piece.now c.args.out.now c.pass_body.new.out c.in-Passing.keep c.in-Passing.left c.in_ok-next-in-Passing.next
     (rw c.in-Passing.is at h) c.in_ok-next-in-Passing.ensures.out c.in_ok-next-in-Passing.ensures.next
 
 pub returns-in-Done-clause-after : goal.returns-in-Done-clause-after
-returns-in-Done-clause-after c keep fed put h = done_stage keep fed put c.args.piece.now c.args.out.now c.in-Done.keep c.in-Done.ending (rw c.in-Done.is at h)
+returns-in-Done-clause-after c ask fed put h = done_stage ask fed put c.args.piece.now c.args.out.now c.in-Done.keep c.in-Done.ending (rw c.in-Done.is at h)
 
 pub returns-in_ok-next-in-Heading-clause-pieces : goal.returns-in_ok-next-in-Heading-clause-pieces
 returns-in_ok-next-in-Heading-clause-pieces c more some =

@@ -1,8 +1,17 @@
-use Rattle.std.proofs.Common.{sym, rules}
-use denote.Enum.Bare.{same_true}
-use Rattle.px_serve.specs.contracts.ends.SessionEnd.{the_type}
-use Rattle.px_main.proofs.PassLemmas.{unput}
+use Rattle.std.proofs.Common.{refl, sym, ◌∙◌, inl, inr}
 use Rattle.px_main.proofs.passes.put_sent.Goals as goal
 
-pub returns-then-eq-clause-puts : goal.returns-then-eq-clause-puts
-returns-then-eq-clause-puts g c t = unput (g.F.Files.state c.args.files.now).contents c.args.name.now c.args.text.now c.args.end (same_true the_type (search rules) _ _ (sym c.if-eq.ensures))
+pub returns-then-is_wanting-clause-puts : goal.returns-then-is_wanting-clause-puts
+returns-then-is_wanting-clause-puts g c = inr (record { wanting = refl; unchanged = λ t name. refl })
+
+pub returns-clause-puts : goal.returns-clause-puts
+returns-clause-puts g c =
+    let puts = c.put-put.ensures.puts in
+    inl (record {
+      memory = sym c.is_wanting.ensures ∙ c.if-is_wanting.false;
+      result = c.put-put.result;
+      put = puts.put;
+      others = puts.others;
+      cause = puts.cause;
+      status_is = c.status_after.ensures;
+    })

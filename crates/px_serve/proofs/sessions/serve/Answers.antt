@@ -1,26 +1,24 @@
-use Rattle.std.proofs.Common.{◌≡◌, ◌∙◌, ◌≤◌, ◌+◌, add-one, arith, rules, refl}
-use Rattle.px_base.specs.Sources.{SourceGoesOn}
-use Rattle.px_base.specs.Sinks.{SinkGoesOn}
-use Rattle.px_base.specs.Dials.{DialerGoesOn}
+use Rattle.std.proofs.Common.{refl, arith}
+use Rattle.px_serve.proofs.SessionLemmas.{serving_none, serving_on, serves_to, lasts_on, source_goes_on}
 use Rattle.px_serve.proofs.sessions.serve.Goals as goal
+
+pub requests-init : goal.requests-init
+requests-init g c = record { serving = serving_none c.args.notes.now.items c.new-ahead.result (omega arith) c.requires.none c.new-ahead.ensures; room = c.requires.room }
 
 pub requests-preserved : goal.requests-preserved
 requests-preserved g c =
     let before = c.requests.invariant in
     let e = c.in-None.ensures in
     record {
-      number = e.goes_on_below refl;
-      counted = e.one_more refl ∙ omega (arith, before.counted);
+      serving = serving_on before.serving e.turned (e.goes_on_below refl) (e.one_more refl) e.read_cause e.write_cause c.turn.ensures.open c.turn.ensures.in_goes_on c.turn.ensures.lasts;
       room = omega (arith, before.room, e.room);
-      reached = λ s o d.
-          rw add-one (_, before.reached s o d, e.turns (before.in_goes_on.tells_same ∙ s) (before.out_goes_on.tells_same ∙ o) (before.goes_on.tells_same ∙ d));
-      moments = λ t. e.moments (before.clock_goes_on ∙ t) _ (before.moments t);
-      looks = λ t. e.looks t _ (before.looks t);
-      none_older = e.none_older _ before.none_older;
-      unfailed_in = e.read_cause ∙ before.unfailed_in;
-      unfailed_out = e.write_cause ∙ before.unfailed_out;
-      in_goes_on = search rules;
-      out_goes_on = search rules;
-      goes_on = search rules;
-      clock_goes_on = e.clock_goes_on ∙ before.clock_goes_on;
     }
+
+pub returns-in-Some-clause-serves : goal.returns-in-Some-clause-serves
+returns-in-Some-clause-serves g c = serves_to c.requests.invariant.serving c.in-Some.ensures.turned
+
+pub returns-in-Some-clause-lasts : goal.returns-in-Some-clause-lasts
+returns-in-Some-clause-lasts g c = lasts_on c.requests.invariant.serving.lasts c.turn.ensures.lasts
+
+pub returns-in-Some-clause-in_goes_on : goal.returns-in-Some-clause-in_goes_on
+returns-in-Some-clause-in_goes_on g c = source_goes_on c.requests.invariant.serving.in_goes_on c.turn.ensures.in_goes_on
