@@ -7,12 +7,11 @@ use Rattle.std.proofs.lemmas.List.Elements.{filter_map-append}
 use Rattle.std.proofs.lemmas.List.Folds.{list_any-append}
 use Rattle.std.proofs.lemmas.Option.{none-some}
 use Rattle.px_text.specs.declared.lines.Line.{Line}
-use Rattle.px_filter_files.specs.declared.kinds.Keyword.{Keyword}
 use Rattle.px_filter_files.specs.declared.faults.FilterFault.{FilterFault}
 use Rattle.px_filter_files.specs.declared.faults.FilterFault.TheVariants.{At}
 use Rattle.px_filter_files.specs.declared.files.NamedFilter.{NamedFilter}
 use Rattle.px_filter_files.specs.declared.files.FilterFile.{FilterFile}
-use Rattle.px_filter_files.specs.Headings.{Key, is_job, key_at, keyword_at, same_key}
+use Rattle.px_filter_files.specs.Headings.{HeadingParts, Key, heading_at, is_job, key_at, same_key}
 use Rattle.px_filter_files.specs.Seen.{begins_filter}
 use Rattle.px_filter_files.specs.FilterFiles.{all_skipped, begins_part, file_of, filter_at, filters_in, first_fault, heading_refusal, is_among, keys_in, own_lines, refusal_at, skipped_in}
 
@@ -21,11 +20,11 @@ pub slice_to_end : {X : Type 0} (i : ℕ) (xs : List X) → take (length xs - i)
 slice_to_end i xs = take_all _ _ (omega (arith, length-drop i xs))
 
 -- a line that isn't refused leaves a part begun
-part_is_begun : (taken : Key → Bool) (text : List ℕ) (k : Option Keyword) (begun : Bool) →
-    option_map_or (λ k. heading_refusal taken k text) k (cond begun None (Some 25)) ≡ None → (begun || not (is_none k)) ≡ true
-part_is_begun taken text k true e = refl
-part_is_begun taken text (Some k) false e = refl
-part_is_begun taken text None false e = absurd (none-some 25 (sym e))
+part_is_begun : (taken : Key → Bool) (heading : Option HeadingParts) (begun : Bool) →
+    option_map_or (heading_refusal taken) heading (cond begun None (Some 25)) ≡ None → (begun || not (is_none heading)) ≡ true
+part_is_begun taken heading true e = refl
+part_is_begun taken (Some heading) false e = refl
+part_is_begun taken None false e = absurd (none-some 25 (sym e))
 
 one_key : (o : Option Key) (line : Line) → key_at line.text ≡ o → filter_map (λ (l : Line). key_at l.text) (line ∷ []) ≡ option_to_list o
 one_key None line is = ap (λ o. cons_option o []) is
@@ -74,7 +73,7 @@ module _ (lines : List Line) (i : ℕ) (line : Line) (inside : i < length lines)
       append_assoc skipped (cond (is_some (key_at line.text)) (skipped_in (own_lines (drop (i + 1) lines))) []) (all_skipped (drop (i + 1) lines))
       ∙ ap (λ ls. skipped ++ all_skipped ls) (sym drop_is) ∙ so_far
 
-  pub seen_later : (key : Key) → is_among (take (i + 1) lines) key ≡ (is_among (take i lines) key || begins_filter line.text key)
+  pub seen_later : (key : Key) → is_among (take (i + 1) lines) key ≡ (is_among (take i lines) key || begins_filter (heading_at line.text) key)
   seen_later key =
       ap (λ ls. is_among ls key) take_is
       ∙ ap (list_any (same_key key)) (filter_map-append (λ (l : Line). key_at l.text) (take i lines) (line ∷ []))
@@ -86,7 +85,7 @@ module _ (lines : List Line) (i : ℕ) (line : Line) (inside : i < length lines)
   begun_later fine =
       sym (ap begins_part take_is ∙ list_any-append (λ l. not (is_job l)) (take i lines) (line ∷ [])
       ∙ ap (λ b. begins_part (take i lines) || b) (or_false (not (is_job line)))
-      ∙ part_is_begun (is_among (take i lines)) line.text (keyword_at line.text) (begins_part (take i lines)) fine)
+      ∙ part_is_begun (is_among (take i lines)) (heading_at line.text) (begins_part (take i lines)) fine)
 
 -- a file whose lines are all read
 pub file_is_read : (lines : List Line) (i : ℕ) (filters : List NamedFilter) (skipped : List ℕ) → length lines ≤ i →

@@ -1,17 +1,16 @@
 -- What the lines of a filter file stand for.
-use Rattle.std.specs.Prelude.{ℕ, Bool, false, not, ◌==◌, List, [], ◌∷◌, ◌++◌, length, filter_map, flat_map, find, Option, Some, None, option_map, option_to_list, is_some, Result, Ok, Err, if◌then◌else◌}
+use Rattle.std.specs.Prelude.{ℕ, Bool, false, not, ◌==◌, List, [], ◌∷◌, ◌++◌, length, filter_map, flat_map, find, Option, Some, None, option_map, option_to_list, is_some, unwrap_or, Result, Ok, Err, if◌then◌else◌}
 use Rattle.std.specs.List.{list_any}
-use Rattle.std.specs.Option.{option_map_or}
+use Rattle.std.specs.Option.{option_and_then, option_map_or}
 use Rattle.std.specs.Result.{result_ok}
 use Rattle.std.specs.Str.{is_utf8}
 use Rattle.px_text.specs.declared.lines.Line.{Line}
 use Rattle.px_subst.specs.Jobs.{JobParts, job_of}
-use Rattle.px_filter_files.specs.declared.kinds.Keyword.{Keyword}
 use Rattle.px_filter_files.specs.declared.faults.FilterFault.{FilterFault}
 use Rattle.px_filter_files.specs.declared.faults.FilterFault.TheVariants.{At}
 use Rattle.px_filter_files.specs.declared.files.NamedFilter.{NamedFilter}
 use Rattle.px_filter_files.specs.declared.files.FilterFile.{FilterFile}
-use Rattle.px_filter_files.specs.Headings.{Key, keyword_at, key_at, same_key, name_behind, is_job}
+use Rattle.px_filter_files.specs.Headings.{HeadingParts, Key, heading_at, key_at, key_in, same_key, is_job}
 
 -- the lines up to the next one that begins a part
 abbrev pub own_lines : List Line → List Line
@@ -30,10 +29,14 @@ jobs_in lines = filter_map (λ line. job_in line.text) lines
 abbrev pub skipped_in : List Line → List ℕ
 skipped_in lines = filter_map (λ line. if is_some (job_in line.text) then None else Some line.number) lines
 
--- the filter that a line begins, with the jobs of the lines below
+-- the filter that a line with this heading begins, with the jobs of the lines below
+abbrev pub filter_of : Option HeadingParts → ℕ → List Line → Option NamedFilter
+filter_of heading number below =
+    option_map (λ key. record { kind = key.kind; name = key.name; line = number; filter = jobs_in (own_lines below) })
+    (option_and_then key_in heading)
+
 abbrev pub filter_at : Line → List Line → Option NamedFilter
-filter_at line below =
-    option_map (λ key. record { kind = key.kind; name = key.name; line = line.number; filter = jobs_in (own_lines below) }) (key_at line.text)
+filter_at line below = filter_of (heading_at line.text) line.number below
 
 -- the filters that lines begin, in order
 unfoldable pub filters_in : List Line → List NamedFilter
@@ -54,16 +57,15 @@ abbrev pub is_among : List Line → Key → Bool
 is_among lines key = list_any (same_key key) (keys_in lines)
 
 -- what is refused at a heading: a missing name, or a filter's key that is taken
-abbrev pub heading_refusal : (Key → Bool) → Keyword → List ℕ → Option ℕ
-heading_refusal taken k text =
-    if length (name_behind k text) == 0 then Some 26
-    else if option_map_or taken (key_at text) false then Some 27
+abbrev pub heading_refusal : (Key → Bool) → HeadingParts → Option ℕ
+heading_refusal taken heading =
+    if length heading.name == 0 then Some 26
+    else if option_map_or taken (key_in heading) false then Some 27
     else None
 
--- what is refused at a line, by which keys are taken and whether any part begins before it
-abbrev pub refusal_by : (Key → Bool) → Bool → List ℕ → Option ℕ
-refusal_by taken begun text =
-    option_map_or (λ k. heading_refusal taken k text) (keyword_at text) (if begun then None else Some 25)
+-- what is refused at a line, by its heading, by which keys are taken and whether any part begins before it
+abbrev pub refusal_by : (Key → Bool) → Bool → Option HeadingParts → Option ℕ
+refusal_by taken begun heading = option_map_or (heading_refusal taken) heading (if begun then None else Some 25)
 
 -- a part begins among the lines
 abbrev pub begins_part : List Line → Bool
@@ -71,7 +73,7 @@ begins_part lines = list_any (λ line. not (is_job line)) lines
 
 -- what is refused at a line: a job below no part, or a heading
 abbrev pub refusal_at : List Line → Line → Option ℕ
-refusal_at before line = refusal_by (is_among before) (begins_part before) line.text
+refusal_at before line = refusal_by (is_among before) (begins_part before) (heading_at line.text)
 
 -- the first refusal among lines that follow others
 unfoldable pub first_fault : List Line → List Line → Option FilterFault
@@ -94,6 +96,15 @@ has_key key f = same_key key (key_of f)
 abbrev pub filters_of_all : List FilterFile → List NamedFilter
 filters_of_all files = flat_map (λ file. file.filters) files
 
+-- how many files there are, and their filters in order
+pub record FiltersOfFiles : Type 0 where
+  pub files : ℕ
+  pub filters : List NamedFilter
+
 -- the first filter of a kind and a name
-unfoldable pub found : List FilterFile → Key → Option (List JobParts)
-found files key = option_map (λ f. f.filter) (find (has_key key) (filters_of_all files))
+unfoldable pub found : FiltersOfFiles → Key → Option (List JobParts)
+found all key = option_map (λ f. f.filter) (find (has_key key) all.filters)
+
+-- the jobs of the first filter of a kind and a name, or none
+abbrev pub jobs_of : FiltersOfFiles → Key → List JobParts
+jobs_of all key = unwrap_or (found all key) []

@@ -1,8 +1,9 @@
 -- The lines of a filter file that begin a part, and their names.
-use Rattle.std.specs.Prelude.{ℕ, Bool, ◌&&◌, ◌||◌, not, ◌==◌, nat_eq, List, [], ◌∷◌, length, drop, find, take_while, Option, Some, None, option_map, is_none, codes}
+use Rattle.std.specs.Prelude.{ℕ, Bool, ◌&&◌, not, ◌==◌, nat_eq, List, [], ◌∷◌, length, drop, find, take_while, Option, Some, None, option_map, is_none, codes}
 use Rattle.std.specs.List.{starts_with, prefix_len}
 use Rattle.std.specs.Option.{option_and_then}
 use Rattle.std.specs.Str.{bytes_eq}
+use Rattle.px_base.specs.Blanks.{is_blank}
 use Rattle.px_text.specs.declared.lines.Line.{Line}
 use Rattle.px_filter_files.specs.declared.kinds.FilterKind.{FilterKind}
 use Rattle.px_filter_files.specs.declared.kinds.FilterKind.TheVariants.{Content, ClientHeader, ServerHeader, ClientTagger, ServerTagger}
@@ -36,30 +37,39 @@ kind_of keyword.ExternalFilter = None
 kind_of keyword.ClientBodyFilter = None
 kind_of keyword.ClientBodyTagger = None
 
--- the keyword with which a line begins; a line with none is a job
+-- the keyword with which a line begins
 abbrev pub keyword_at : List ℕ → Option Keyword
 keyword_at text = find (λ k. starts_with nat_eq text (word_of k)) keywords
-
-abbrev pub is_job : Line → Bool
-is_job line = is_none (keyword_at line.text)
-
-abbrev pub is_white : ℕ → Bool
-is_white b = b == 32 || b == 9
 
 -- the name behind a keyword: up to white space, behind white space
 abbrev pub name_behind : Keyword → List ℕ → List ℕ
 name_behind k text =
     let rest = drop (length (word_of k)) text in
-    take_while (λ b. not (is_white b)) (drop (prefix_len is_white rest) rest)
+    take_while (λ b. not (is_blank b)) (drop (prefix_len is_blank rest) rest)
+
+-- a line that begins a part: the kind of its filter, or None for a part whose lines aren't read, and a name
+pub record HeadingParts : Type 0 where
+  pub kind : Option FilterKind
+  pub name : List ℕ
+
+-- the heading that a line is; a line that is none is a job
+abbrev pub heading_at : List ℕ → Option HeadingParts
+heading_at text = option_map (λ k. record { kind = kind_of k; name = name_behind k text }) (keyword_at text)
+
+abbrev pub is_job : Line → Bool
+is_job line = is_none (heading_at line.text)
 
 -- a filter's kind and name
 pub record Key : Type 0 where
   pub kind : FilterKind
   pub name : List ℕ
 
--- the kind and the name of the filter that a line begins, if it begins one
+-- the kind and the name of the filter that a heading begins, if it begins one
+abbrev pub key_in : HeadingParts → Option Key
+key_in heading = option_map (λ kind. record { kind = kind; name = heading.name }) heading.kind
+
 abbrev pub key_at : List ℕ → Option Key
-key_at text = option_and_then (λ k. option_map (λ kind. record { kind = kind; name = name_behind k text }) (kind_of k)) (keyword_at text)
+key_at text = option_and_then key_in (heading_at text)
 
 abbrev pub rank : FilterKind → ℕ
 rank Content = 0

@@ -1,14 +1,14 @@
 // What a filter file stands for.
-ghost use Rattle.std.specs.Prelude.{◌≡◌, ◌≢◌, ◌||◌, ◌++◌, ◌∷◌, [], not, Err, None, IfOk, OnOk, is_some, option_to_list, if◌then◌else◌, Some, ◌≤◌, length, option_map};
+ghost use Rattle.std.specs.Prelude.{◌≡◌, ◌≢◌, ◌||◌, ◌++◌, ◌∷◌, [], not, Err, None, IfOk, IfErr, IfSome, OnOk, is_some, option_to_list, if◌then◌else◌, ◌≤◌, option_map};
 ghost use Rattle.std.specs.Result.{result_ok};
 ghost use Rattle.px_subst.specs.Jobs.{job_of};
-ghost use Rattle.px_filter_files.specs.Headings.{Key, keyword_at, key_at, is_job, word_of};
-ghost use Rattle.px_filter_files.specs.Seen.{begins_filter, has_seen};
-ghost use Rattle.px_filter_files.specs.FilterFiles.{job_in, jobs_in, skipped_in, own_lines, filter_at, refusal_by, heading_refusal};
+ghost use Rattle.std.specs.Option.{option_and_then};
+ghost use Rattle.px_filter_files.specs.Headings.{Key, is_job, key_in};
+ghost use Rattle.px_filter_files.specs.FilterFiles.{job_in, jobs_in, skipped_in, own_lines, filter_of, refusal_by, heading_refusal};
 
 use crate::faults::{FilterFault, JOB_BEFORE_FILTER, NAME_MISSING, NAME_TWICE};
-use crate::kinds::{FilterKind, Keyword};
-use px_base::{List, Mem, Text};
+use crate::kinds::{FilterKind, Heading};
+use px_base::{List, Mem, Text, as_text};
 use px_subst::{Filter, Job, JobFault};
 use px_text::Line;
 use std::alloc::Global;
@@ -33,16 +33,7 @@ pub struct FilterFile {
     pub skipped: List<u32>,
 }
 
-impl NamedFilter {
-    ghost use Rattle.px_filter_files.specs.FilterFiles.{has_key};
-
-    /// Whether it has this kind and name.
-    pub(crate) fn has(&self, kind: FilterKind, name: &[u8]) -> bool
-        ensures { result ≡ has_key (record { kind = kind; name = name.now }) self.now }
-    {
-        kind.is(self.kind) && name == self.name.as_bytes()
-    }
-}
+ghost use Rattle.px_filter_files.specs.Seen.{begins_filter, has_seen, heading_seen, parts_seen};
 
 /// What a refused job counts as: no job, or want of memory.
 fn without_job(fault: JobFault) -> Result<Option<Job>, Mem>
@@ -71,9 +62,9 @@ fn read_text(alloc: Global, text: &str) -> Result<Option<Job>, Mem>
 fn read_job(alloc: Global, text: &[u8]) -> Result<Option<Job>, Mem>
     ensures { IfOk result (λ job. job ≡ job_in text.now) }
 {
-    match str::from_utf8(text) {
-        Ok(text) => read_text(alloc, text),
-        Err(_) => Ok(None),
+    match as_text(text) {
+        Some(text) => read_text(alloc, text),
+        None => Ok(None),
     }
 }
 
@@ -92,17 +83,14 @@ fn add_job(
             jobs.push(job)?;
             Ok(())
         }
-        None => match skipped.push(line.number) {
-            Ok(()) => Ok(()),
-            Err(_) => Err(Mem),
-        },
+        None => skipped.add(line.number),
     }
 }
 
 fn is_job(line: &Line) -> bool
     ensures { result ≡ is_job line.now }
 {
-    Keyword::at(line.text.as_bytes()).is_none()
+    Heading::at(line.text.as_bytes()).is_none()
 }
 
 /// The filter of the lines up to the next that begins a part.
@@ -128,22 +116,16 @@ fn is_taken<'l>(seen: &BTreeSet<(u8, &'l [u8])>, kind: FilterKind, name: &'l [u8
 }
 
 /// The number of the refusal at a heading, if it is refused.
-fn heading_refusal<'l>(
-    keyword: Keyword,
-    text: &'l [u8],
-    seen: &BTreeSet<(u8, &'l [u8])>,
-) -> Option<u8>
-    requires begins { keyword_at text.now ≡ Some keyword }
-    requires within { length (word_of keyword) ≤ length text.now }
-    ensures { result ≡ heading_refusal (has_seen seen.now) keyword text.now }
+fn heading_refusal<'l>(heading: &Heading<'l>, seen: &BTreeSet<(u8, &'l [u8])>) -> Option<u8>
+    ensures number { result ≡ heading_refusal (has_seen seen.now) (parts_seen heading.now) }
+    ensures known { IfSome result (λ number. (25 ≤ number) × (number ≤ 27)) }
 {
-    let name = keyword.name(text);
-    if name.is_empty() {
+    if heading.name.is_empty() {
         return Some(NAME_MISSING);
     }
-    match keyword.kind() {
+    match heading.kind {
         Some(kind) => {
-            if is_taken(seen, kind, name) {
+            if is_taken(seen, kind, heading.name) {
                 Some(NAME_TWICE)
             } else {
                 None
@@ -153,23 +135,35 @@ fn heading_refusal<'l>(
     }
 }
 
-/// The number of the refusal at a line, if it is refused. `begun` says whether a part begins before it.
-fn refusal<'l>(text: &'l [u8], seen: &BTreeSet<(u8, &'l [u8])>, begun: bool) -> Option<u8>
-    ensures { result ≡ refusal_by (has_seen seen.now) begun text.now }
+/// The number of the refusal at a line, by its heading. `begun` says whether a part begins before it.
+fn refusal<'l>(
+    heading: &Option<Heading<'l>>,
+    seen: &BTreeSet<(u8, &'l [u8])>,
+    begun: bool,
+) -> Option<u8>
+    ensures number { result ≡ refusal_by (has_seen seen.now) begun (heading_seen heading.now) }
+    ensures known { IfSome result (λ number. (25 ≤ number) × (number ≤ 27)) }
 {
-    match Keyword::at(text) {
-        Some(keyword) => heading_refusal(keyword, text, seen),
-        None => { if begun { None } else { Some(JOB_BEFORE_FILTER) } }
+    match heading {
+        Some(heading) => heading_refusal(heading, seen),
+        None => {
+            if begun {
+                None
+            } else {
+                Some(JOB_BEFORE_FILTER)
+            }
+        }
     }
 }
 
-/// The kind and the name of the filter that a line begins.
-fn key_at(text: &[u8]) -> Option<(FilterKind, &[u8])>
-    ensures { option_map (λ key. record { kind = key.0; name = key.1.now }) result ≡ key_at text.now }
+/// The kind and the name of the filter that a line begins, by its heading.
+fn key_in<'l>(heading: &Option<Heading<'l>>) -> Option<(FilterKind, &'l [u8])>
+    ensures { option_map (λ key. record { kind = key.0; name = key.1.now }) result
+        ≡ option_and_then key_in (heading_seen heading.now) }
 {
-    match Keyword::at(text) {
-        Some(keyword) => match keyword.kind() {
-            Some(kind) => Some((kind, keyword.name(text))),
+    match heading {
+        Some(heading) => match heading.kind {
+            Some(kind) => Some((kind, heading.name)),
             None => None,
         },
         None => None,
@@ -177,12 +171,16 @@ fn key_at(text: &[u8]) -> Option<(FilterKind, &[u8])>
 }
 
 /// Notes the kind and the name of the filter that a line begins, if it begins one.
-fn add_key<'l>(text: &'l [u8], seen: &mut BTreeSet<(u8, &'l [u8])>) -> Result<(), Mem>
-    ensures { OnOk result ((key : Key) → has_seen seen.new key ≡ (has_seen seen.old key || begins_filter text.now key)) }
+fn add_key<'l>(
+    heading: &Option<Heading<'l>>,
+    seen: &mut BTreeSet<(u8, &'l [u8])>,
+) -> Result<(), Mem>
+    ensures { OnOk result ((key : Key) → has_seen seen.new key
+        ≡ (has_seen seen.old key || begins_filter (heading_seen heading.now) key)) }
 {
-    match key_at(text) {
-        Some(key) => {
-            seen.insert((key.0.rank(), key.1))?;
+    match key_in(heading) {
+        Some((kind, name)) => {
+            seen.insert((kind.rank(), name))?;
             Ok(())
         }
         None => Ok(()),
@@ -192,55 +190,54 @@ fn add_key<'l>(text: &'l [u8], seen: &mut BTreeSet<(u8, &'l [u8])>) -> Result<()
 /// Adds the filter that a line begins, if it begins one, with the jobs of the lines below.
 fn add_filter(
     alloc: Global,
-    line: &Line,
+    heading: &Option<Heading<'_>>,
+    line: u32,
     below: &[Line],
     filters: &mut List<NamedFilter>,
     skipped: &mut List<u32>,
 ) -> Result<(), Mem>
-    ensures filters { OnOk result (filters.new ≡ filters.old ++ option_to_list (filter_at line.now below.now)) }
+    ensures filters { OnOk result (filters.new
+        ≡ filters.old ++ option_to_list (filter_of (heading_seen heading.now) line below.now)) }
     ensures skipped { OnOk result (skipped.new ≡ skipped.old
-        ++ (if is_some (key_at line.now.text) then skipped_in (own_lines below.now) else [])) }
+        ++ (if is_some (option_and_then key_in (heading_seen heading.now)) then skipped_in (own_lines below.now) else [])) }
 {
-    match key_at(line.text.as_bytes()) {
-        Some(key) => {
-            let named = NamedFilter {
-                kind: key.0,
-                name: Text::from_bytes(alloc, key.1)?,
-                line: line.number,
-                filter: read_filter(alloc, below, skipped)?,
-            };
-            match filters.push(named) {
-                Ok(()) => Ok(()),
-                Err(_) => Err(Mem),
-            }
-        }
+    match key_in(heading) {
+        Some((kind, name)) => filters.add(NamedFilter {
+            kind,
+            name: Text::from_bytes(alloc, name)?,
+            line,
+            filter: read_filter(alloc, below, skipped)?,
+        }),
         None => Ok(()),
     }
 }
 
 impl FilterFile {
     ghost use Rattle.px_filter_files.specs.FilterFiles.{file_of};
+    ghost use Rattle.px_filter_files.specs.Faults.{HasKnownNumber};
 
     /// Reads the lines of a filter file (Privoxy's manual, "Filter Files"). A keyword begins a filter, or a part whose
     /// lines aren't read; a name and a description follow it. Every other line is a job of the filter above it, and one
     /// that isn't read is left out. The first line that is refused is answered.
     pub fn read(alloc: Global, lines: &[Line]) -> Result<FilterFile, FilterFault>
-        ensures { result ≢ Err FilterFault.Mem → result ≡ file_of lines.now }
+        ensures value { result ≢ Err FilterFault.Mem → result ≡ file_of lines.now }
+        ensures known { IfErr result HasKnownNumber }
     {
         let mut filters = List::new(alloc);
         let mut skipped = List::new(alloc);
         let mut seen = BTreeSet::new(alloc);
         let mut begun = false;
         for (at, line) in lines.iter().enumerate() {
-            let text = line.text.as_bytes();
-            if let Some(number) = refusal(text, &seen, begun) {
+            let heading = Heading::at(line.text.as_bytes());
+            if let Some(number) = refusal(&heading, &seen, begun) {
                 return Err(FilterFault::At {
                     line: line.number,
                     number,
                 });
             }
-            add_key(text, &mut seen)?;
-            add_filter(alloc, line, &lines[at + 1..], &mut filters, &mut skipped)?;
+            add_key(&heading, &mut seen)?;
+            let below = &lines[at + 1..];
+            add_filter(alloc, &heading, line.number, below, &mut filters, &mut skipped)?;
             begun = true;
         }
         Ok(FilterFile { filters, skipped })

@@ -1,10 +1,13 @@
 // The filters of all files.
-ghost use Rattle.std.specs.Prelude.{◌≡◌, ◌<◌, ◌^◌, length, sum_by, find, IfOk, option_map};
+ghost use Rattle.std.specs.Prelude.{◌≡◌, ◌++◌, ◌<◌, ◌^◌, length, sum_by, IfOk, IfSome};
 ghost use Rattle.std.specs.Option.{option_copied};
-ghost use Rattle.px_filter_files.specs.FilterFiles.{found, has_key, filters_of_all};
+ghost use Rattle.px_filter_files.specs.FilterFiles.{found, filters_of_all, has_key};
+ghost use Rattle.px_filter_files.specs.Places.{first_place};
 
 use crate::files::{FilterFile, NamedFilter};
 use crate::kinds::FilterKind;
+use crate::places::Places;
+use crate::warm_filters::WarmFilters;
 use px_base::{List, Mem};
 use px_subst::Filter;
 use std::alloc::Global;
@@ -17,83 +20,99 @@ pub struct FilterCounts {
     pub filters: u32,
 }
 
-/// The filters of files in order, seen as the list of the files.
+/// The filters of files, seen as the number of the files and their filters in order.
 #[derive(Drop)]
 pub struct Filters {
-    files: List<FilterFile>,
+    files: u32,
+    filters: Vec<NamedFilter>,
+    places: Places,
 }
 
 impl Model for Filters {
-    ghost use Rattle.std.specs.Prelude.{List, length, sum_by, ◌<◌, ◌^◌};
-    ghost use Rattle.px_filter_files.specs.declared.files.FilterFile.{FilterFile};
+    ghost use Rattle.std.specs.Prelude.{length, ◌<◌, ◌^◌};
+    ghost use Rattle.px_filter_files.specs.FilterFiles.{FiltersOfFiles};
+    ghost use Rattle.px_filter_files.specs.Places.{ArePlacesOf};
 
-    ghost Value = { List FilterFile };
+    ghost Value = { FiltersOfFiles };
 
-    ghost view = { λ f. f.files };
+    ghost view = { λ f. record { files = f.files; filters = f.filters.items } };
 
-    ghost invariant = { λ f. (length f.files < 2 ^ 32) × (sum_by (λ file. length file.filters) f.files < 2 ^ 32) };
+    ghost invariant = { λ f. (length f.filters.items < 2 ^ 32) × ArePlacesOf f.filters.items f.places };
 }
 
-/// The first filter of this kind and name.
-fn find_in<'f>(filters: &'f [NamedFilter], kind: FilterKind, name: &[u8]) -> Option<&'f Filter>
-    ensures { option_copied result
-        ≡ option_map (λ f. f.filter) (find (has_key (record { kind = kind; name = name.now })) filters.now) }
+/// The filters of files in order.
+fn joined(alloc: Global, files: Vec<FilterFile>) -> Result<Vec<NamedFilter>, Mem>
+    ensures { IfOk result (λ filters. filters.items ≡ filters_of_all files.items) }
 {
-    for filter in filters {
-        if filter.has(kind, name) {
-            return Some(&filter.filter);
-        }
+    let mut rest = files;
+    let mut joined = Vec::new(alloc);
+    'files: while !rest.is_empty() {
+        let FilterFile {
+            filters,
+            skipped: _skipped,
+        } = rest.remove(0);
+        let mut filters = filters.into_vec();
+        joined.append(&mut filters)?;
     }
-    None
-}
-
-fn find_in_all<'f>(files: &'f [FilterFile], kind: FilterKind, name: &[u8]) -> Option<&'f Filter>
-    ensures { option_copied result ≡ found files.now (record { kind = kind; name = name.now }) }
-{
-    for file in files {
-        if let Some(filter) = find_in(file.filters.as_slice(), kind, name) {
-            return Some(filter);
-        }
-    }
-    None
-}
-
-fn count_filters(files: &[FilterFile]) -> u32
-    requires { sum_by (λ file. length file.filters) files.now < 2 ^ 32 }
-    ensures { result ≡ sum_by (λ file. length file.filters) files.now }
-{
-    let mut filters = 0;
-    for file in files {
-        filters += file.filters.len() as u32;
-    }
-    filters
+    Ok(joined)
 }
 
 impl Filters {
     /// The filters of files in order.
-    pub fn new(files: List<FilterFile>) -> Result<Filters, Mem>
+    pub fn new(alloc: Global, files: List<FilterFile>) -> Result<Filters, Mem>
         requires files { length files < 2 ^ 32 }
         requires filters { sum_by (λ file. length file.filters) files < 2 ^ 32 }
-        ensures { IfOk result (λ filters. filters ≡ files) }
+        ensures { IfOk result (λ filters. filters ≡ record { files = length files; filters = filters_of_all files }) }
     {
-        Ok(Filters { files })
+        let count = files.len() as u32;
+        let filters = joined(alloc, files.into_vec())?;
+        let places = Places::new(alloc, filters.as_slice())?;
+        Ok(Filters {
+            files: count,
+            filters,
+            places,
+        })
     }
 
-    /// The first filter of this kind and name.
+    /// The place of the first filter of this kind and name.
+    pub(crate) fn place(&self, kind: FilterKind, name: &[u8]) -> Option<usize>
+        ensures place { result ≡ first_place (has_key (record { kind = kind; name = name.now })) self.now.filters }
+        ensures within { IfSome result (λ at. at < length self.now.filters) }
+    {
+        self.places.get(kind, name)
+    }
+
+    pub(crate) fn as_slice(&self) -> &[NamedFilter]
+        ensures { result.now ≡ self.now.filters }
+    {
+        self.filters.as_slice()
+    }
+
+    /// The first filter of this kind and name. It takes no memory, and looks at few filters.
     pub fn find(&self, kind: FilterKind, name: &[u8]) -> Option<&Filter>
         ensures { option_copied result ≡ found self.now (record { kind = kind; name = name.now }) }
     {
-        find_in_all(self.files.as_slice(), kind, name)
+        match self.place(kind, name) {
+            Some(at) => Some(&self.as_slice()[at].filter),
+            None => None,
+        }
+    }
+
+    /// The filters with what each keeps from run to run. What searches is made at the first.
+    pub fn warm(&self, alloc: Global) -> Result<WarmFilters<'_>, Mem>
+        ensures { IfOk result (λ warm. warm ≡ self.now) }
+    {
+        WarmFilters::new(alloc, self)
     }
 
     /// How many files and filters there are.
     pub fn counts(&self) -> FilterCounts
-        ensures files { result.files ≡ length self.now }
-        ensures filters { result.filters ≡ sum_by (λ file. length file.filters) self.now }
+        ensures files { result.files ≡ self.now.files }
+        ensures filters { result.filters ≡ length self.now.filters }
     {
         FilterCounts {
-            files: self.files.len() as u32,
-            filters: count_filters(self.files.as_slice()),
+            files: self.files,
+            filters: self.filters.len() as u32,
         }
     }
 }

@@ -1,7 +1,10 @@
 // The parts of a filter file.
 ghost use Rattle.std.specs.Prelude.{◌≡◌, ◌≤◌, ◌==◌, not, length, take_while, IfSome};
 ghost use Rattle.std.specs.List.{prefix_len};
-ghost use Rattle.px_filter_files.specs.Headings.{word_of, kind_of, keyword_at, name_behind, is_white, rank};
+ghost use Rattle.px_base.specs.Blanks.{is_blank};
+ghost use Rattle.px_filter_files.specs.Headings.{word_of, kind_of, keyword_at, name_behind, rank};
+
+use px_base::is_blank;
 
 /// What a filter is applied to.
 #[derive(Clone, Copy, Debug, PartialEq, Eq)]
@@ -45,6 +48,18 @@ pub(crate) enum Keyword {
     ClientBodyTagger,
 }
 
+/// The keywords, in the order in which they are looked for. No two begin alike.
+const KEYWORDS: [Keyword; 8] = [
+    Keyword::Filter,
+    Keyword::ClientHeaderFilter,
+    Keyword::ServerHeaderFilter,
+    Keyword::ClientHeaderTagger,
+    Keyword::ServerHeaderTagger,
+    Keyword::ExternalFilter,
+    Keyword::ClientBodyFilter,
+    Keyword::ClientBodyTagger,
+];
+
 impl Keyword {
     fn word(self) -> &'static [u8]
         ensures { result.now ≡ word_of self }
@@ -62,7 +77,7 @@ impl Keyword {
     }
 
     /// The kind of the filter that begins, or None for a part whose lines aren't read.
-    pub(crate) fn kind(self) -> Option<FilterKind>
+    fn kind(self) -> Option<FilterKind>
         ensures { result ≡ kind_of self }
     {
         match self {
@@ -78,33 +93,15 @@ impl Keyword {
     }
 
     /// The keyword with which a line begins. A line with none is a job.
-    pub(crate) fn at(text: &[u8]) -> Option<Keyword>
+    fn at(text: &[u8]) -> Option<Keyword>
         ensures keyword { result ≡ keyword_at text.now }
         ensures within { IfSome result (λ keyword. length (word_of keyword) ≤ length text.now) }
     {
-        if text.starts_with(Keyword::Filter.word()) {
-            Some(Keyword::Filter)
-        } else if text.starts_with(Keyword::ClientHeaderFilter.word()) {
-            Some(Keyword::ClientHeaderFilter)
-        } else if text.starts_with(Keyword::ServerHeaderFilter.word()) {
-            Some(Keyword::ServerHeaderFilter)
-        } else if text.starts_with(Keyword::ClientHeaderTagger.word()) {
-            Some(Keyword::ClientHeaderTagger)
-        } else if text.starts_with(Keyword::ServerHeaderTagger.word()) {
-            Some(Keyword::ServerHeaderTagger)
-        } else if text.starts_with(Keyword::ExternalFilter.word()) {
-            Some(Keyword::ExternalFilter)
-        } else if text.starts_with(Keyword::ClientBodyFilter.word()) {
-            Some(Keyword::ClientBodyFilter)
-        } else if text.starts_with(Keyword::ClientBodyTagger.word()) {
-            Some(Keyword::ClientBodyTagger)
-        } else {
-            None
-        }
+        KEYWORDS.iter().copied().find(|keyword| text.starts_with(keyword.word()))
     }
 
     /// The name behind the keyword, which may be empty.
-    pub(crate) fn name(self, text: &[u8]) -> &[u8]
+    fn name(self, text: &[u8]) -> &[u8]
         requires { length (word_of self) ≤ length text.now }
         ensures { result.now ≡ name_behind self text.now }
     {
@@ -114,19 +111,40 @@ impl Keyword {
     }
 }
 
-fn is_white(byte: u8) -> bool
-    ensures { result ≡ is_white byte }
-{
-    byte == b' ' || byte == b'\t'
+/// A line that begins a part.
+#[derive(Clone, Copy)]
+pub(crate) struct Heading<'t> {
+    /// The kind of the filter that begins, or None for a part whose lines aren't read.
+    pub(crate) kind: Option<FilterKind>,
+    /// What stands behind the keyword up to white space. It may be empty, which is refused.
+    pub(crate) name: &'t [u8],
+}
+
+impl<'t> Heading<'t> {
+    ghost use Rattle.px_filter_files.specs.Headings.{heading_at};
+    ghost use Rattle.px_filter_files.specs.Seen.{heading_seen};
+
+    /// The heading that a line is, or None for a job.
+    pub(crate) fn at(text: &'t [u8]) -> Option<Heading<'t>>
+        ensures { heading_seen result ≡ heading_at text.now }
+    {
+        match Keyword::at(text) {
+            Some(keyword) => Some(Heading {
+                kind: keyword.kind(),
+                name: keyword.name(text),
+            }),
+            None => None,
+        }
+    }
 }
 
 /// Where the white space ends with which the bytes begin.
 fn white_end(bytes: &[u8]) -> usize
-    ensures end { result ≡ prefix_len is_white bytes.now }
+    ensures end { result ≡ prefix_len is_blank bytes.now }
     ensures within { result ≤ length bytes.now }
 {
     for (at, byte) in bytes.iter().enumerate() {
-        if !is_white(*byte) {
+        if !is_blank(*byte) {
             return at;
         }
     }
@@ -135,10 +153,10 @@ fn white_end(bytes: &[u8]) -> usize
 
 /// The bytes up to white space.
 fn first_word(bytes: &[u8]) -> &[u8]
-    ensures { result.now ≡ take_while (λ b. not (is_white b)) bytes.now }
+    ensures { result.now ≡ take_while (λ b. not (is_blank b)) bytes.now }
 {
     for (at, byte) in bytes.iter().enumerate() {
-        if is_white(*byte) {
+        if is_blank(*byte) {
             return &bytes[..at];
         }
     }

@@ -5,10 +5,13 @@ mod faults;
 mod files;
 mod filters;
 mod kinds;
+mod places;
 #[cfg(test)]
 mod tests;
+mod warm_filters;
 
 pub use faults::FilterFault;
 pub use files::{FilterFile, NamedFilter};
 pub use filters::{FilterCounts, Filters};
 pub use kinds::FilterKind;
+pub use warm_filters::WarmFilters;

@@ -1,5 +1,5 @@
 // Filter files whose filters and refusals are known from outside.
-use crate::{FilterFault, FilterFile, FilterKind, Filters};
+use crate::{FilterCounts, FilterFault, FilterFile, FilterKind, Filters};
 use px_base::{List, Text};
 use px_subst::Vars;
 use px_text::Line;
@@ -43,23 +43,32 @@ fn shared<T: Send + Sync>(_value: &T) {}
 #[test]
 fn gives_the_first_refusal(rt: HostRuntime) -> Result<(), Fail> {
     let alloc = rt.alloc();
-    let rows: [(&[&str], u32, u8); 8] = [
-        (&["s/a/b/"], 1, 25),
-        (&["s/a/b/", "FILTER:"], 1, 25),
-        (&["FILTER:"], 1, 26),
-        (&["FILTER: f a", "FILTER:", "FILTER: f a"], 2, 26),
-        (&["EXTERNAL-FILTER:  "], 1, 26),
-        (&["FILTER: f a", "FILTER: f a"], 2, 27),
-        (&["FILTER: f a", "s/a/b/", "FILTER: f other"], 3, 27),
+    let rows: [(&[&str], u32, u8, &str); 8] = [
+        (&["s/a/b/"], 1, 25, "JobBeforeFilter"),
+        (&["s/a/b/", "FILTER:"], 1, 25, "JobBeforeFilter"),
+        (&["FILTER:"], 1, 26, "NameMissing"),
+        (&["FILTER: f a", "FILTER:", "FILTER: f a"], 2, 26, "NameMissing"),
+        (&["EXTERNAL-FILTER:  "], 1, 26, "NameMissing"),
+        (&["FILTER: f a", "FILTER: f a"], 2, 27, "NameTwice"),
+        (
+            &["FILTER: f a", "s/a/b/", "FILTER: f other"],
+            3,
+            27,
+            "NameTwice",
+        ),
         (
             &["FILTER: f a", "FILTER: g", "s/a/b", "FILTER: f", "FILTER:"],
             4,
             27,
+            "NameTwice",
         ),
     ];
-    for (texts, line, number) in rows {
-        let fault = refusal(alloc, texts)?;
-        assert_eq!(rt; fault, Some(FilterFault::At { line, number }));
+    for (texts, line, number, name) in rows {
+        let fault = refusal(alloc, texts)?.ok_or("not refused")?;
+        assert_eq!(rt; fault, FilterFault::At { line, number });
+        assert!(rt; fault != FilterFault::Mem);
+        assert_eq!(rt; fault.number(), number);
+        assert_eq!(rt; fault.name(), name);
     }
     Ok(())
 }
@@ -84,20 +93,6 @@ fn refuses_nothing_else(rt: HostRuntime) -> Result<(), Fail> {
 }
 
 #[test]
-fn names_its_refusals(rt: HostRuntime) {
-    for (number, name) in [
-        (25, "JobBeforeFilter"),
-        (26, "NameMissing"),
-        (27, "NameTwice"),
-    ] {
-        let fault = FilterFault::At { line: 1, number };
-        assert!(rt; fault != FilterFault::Mem);
-        assert_eq!(rt; fault.number(), number);
-        assert_eq!(rt; fault.name(), name);
-    }
-}
-
-#[test]
 fn leaves_out_a_job_that_is_not_read(rt: HostRuntime) -> Result<(), Fail> {
     let alloc = rt.alloc();
     let texts = [
@@ -117,26 +112,57 @@ fn leaves_out_a_job_that_is_not_read(rt: HostRuntime) -> Result<(), Fail> {
     Ok(())
 }
 
+fn file(alloc: Global, texts: &[&str]) -> Result<FilterFile, FilterFault> {
+    match lines(alloc, texts) {
+        Ok(lines) => FilterFile::read(alloc, lines.as_slice()),
+        Err(_) => Err(FilterFault::Mem),
+    }
+}
+
+const FIRST: [&str; 10] = [
+    "SERVER-HEADER-FILTER: f a description",
+    "s/a/server/",
+    "FILTER: f",
+    "s/a/content/",
+    "CLIENT-HEADER-FILTER: f",
+    "s/a/client/",
+    "CLIENT-HEADER-TAGGER: f",
+    "s/a/client tag/",
+    "SERVER-HEADER-TAGGER: f",
+    "s/a/server tag/",
+];
+
 #[test]
-fn finds_the_first_filter_of_a_name(rt: HostRuntime) -> Result<(), Fail> {
+fn finds_the_first_filter_of_a_kind_and_name(rt: HostRuntime) -> Result<(), Fail> {
     let alloc = rt.alloc();
-    let first = lines(alloc, &["SERVER-HEADER-FILTER: f", "FILTER: f", "s/a/1/"])?;
-    let first = FilterFile::read(alloc, first.as_slice())?;
-    let second = FilterFile::read(alloc, lines(alloc, &["FILTER: f", "s/a/2/"])?.as_slice())?;
-    assert_eq!(rt; first.filters.len(), 2);
-    assert_eq!(rt; second.filters.len(), 1);
     let mut files = Vec::new(alloc);
-    files.push(first)?;
-    files.push(second)?;
-    let filters = Filters::new(List::from_vec(files))?;
+    for texts in [FIRST.as_slice(), ["FILTER: f", "s/a/2/", "FILTER: g"].as_slice()] {
+        let file = file(alloc, texts)?;
+        assert!(rt; file.filters.len() < 9);
+        files.push(file)?;
+    }
+    let filters = Filters::new(alloc, List::from_vec(files))?;
     shared(&filters);
-    let counts = filters.counts();
-    assert_eq!(rt; counts.files, 2);
-    assert_eq!(rt; counts.filters, 3);
-    let filter = filters.find(FilterKind::Content, b"f").ok_or("no filter")?;
-    let outcome = filter.run(alloc, b"a", &no_vars(alloc))?;
-    assert_eq!(rt; outcome.text.as_bytes(), b"1".as_slice());
-    assert!(rt; filters.find(FilterKind::Content, b"g").is_none());
-    assert!(rt; filters.find(FilterKind::ClientTagger, b"f").is_none());
+    assert_eq!(rt; filters.counts(), FilterCounts { files: 2, filters: 7 });
+    let mut warm = filters.warm(alloc)?;
+    let vars = no_vars(alloc);
+    let rows = [
+        (FilterKind::Content, "content"),
+        (FilterKind::ClientHeader, "client"),
+        (FilterKind::ServerHeader, "server"),
+        (FilterKind::ClientTagger, "client tag"),
+        (FilterKind::ServerTagger, "server tag"),
+        (FilterKind::Content, "content"),
+    ];
+    for (kind, text) in rows {
+        let filter = filters.find(kind, b"f").ok_or("no filter")?;
+        let outcome = filter.run(alloc, b"a", &vars)?;
+        assert_eq!(rt; outcome.text.as_bytes(), text.as_bytes());
+        let outcome = warm.try_run(alloc, kind, b"f", b"a", &vars)?.ok_or("no hit")?;
+        assert_eq!(rt; outcome.text.as_bytes(), text.as_bytes());
+    }
+    assert!(rt; filters.find(FilterKind::ClientTagger, b"g").is_none());
+    assert!(rt; warm.try_run(alloc, FilterKind::ClientTagger, b"g", b"a", &vars)?.is_none());
+    assert!(rt; warm.try_run(alloc, FilterKind::Content, b"f", b"b", &vars)?.is_none());
     Ok(())
 }

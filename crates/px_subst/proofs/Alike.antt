@@ -1,5 +1,5 @@
 -- A replaced text depends on the spans of the matches and their groups alone, so a built expression gives what the written one gives.
-use Rattle.std.proofs.Common.{◌≡◌, ℕ, ◌+◌, ◌*◌, ◌<◌, ◌==◌, Bool, true, false, cond, List, [], ◌∷◌, ◌++◌, Option, Some, None, flat_map, map, take, length, unwrap_or, option_map, slice_range, slice_index, refl, sym, ap, ap₂, ◌∙◌, arith, ◌-◌, ◌≤◌, ◌^◌}
+use Rattle.std.proofs.Common.{◌≡◌, ℕ, ◌+◌, ◌*◌, ◌<◌, ◌==◌, Bool, true, false, cond, List, [], ◌∷◌, ◌++◌, Option, Some, None, flat_map, map, take, length, slice_range, slice_index, refl, sym, ap, ap₂, ◌∙◌, arith, ◌-◌, ◌≤◌, ◌^◌}
 use Rattle.std.specs.Option.{option_map_or}
 use Rattle.std.proofs.lemmas.List.{length-map, take-map, take_all}
 use Rattle.regex_hir.specs.Re.{Re}

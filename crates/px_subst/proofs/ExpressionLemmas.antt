@@ -1,5 +1,5 @@
 -- What a built expression says of its text, and what a refusal says.
-use Rattle.std.proofs.Common.{◌≡◌, ◌≢◌, ◌<◌, ◌≤◌, ℕ, Bool, true, false, List, Option, None, Some, IsSomeAnd, IfSome, IsUtf8, chars, nat_le, refl, ap, ◌∙◌, le-leb, inl, inr, length, if◌then◌else◌}
+use Rattle.std.proofs.Common.{◌≡◌, ◌≢◌, ◌<◌, ◌≤◌, ℕ, false, List, Option, None, Some, IsSomeAnd, IfSome, IsUtf8, chars, nat_le, refl, ap, ◌∙◌, le-leb, inl, inr, length, if◌then◌else◌}
 use Rattle.std.specs.Option.{option_and_then}
 use Rattle.std.specs.Str.{is_utf8}
 use Rattle.std.proofs.lemmas.Str.{is_utf8-from_IsUtf8}

@@ -1,5 +1,4 @@
 -- What a job is, by what is built of it, and what is kept from run to run.
-use Rattle.std.specs.Prelude.{◌≡◌, Option, None, MatchOption}
 use Rattle.px_subst.specs.declared.jobs.Form.{Form}
 use Rattle.px_subst.specs.declared.jobs.Form.TheVariants as form
 use Rattle.px_subst.specs.declared.kept_jobs.KeptForm.{KeptForm}

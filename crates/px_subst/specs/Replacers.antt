@@ -1,5 +1,5 @@
 -- What a built expression with its parts stands for, and how it is searched.
-use Rattle.std.specs.Prelude.{◌≡◌, ◌<◌, ◌+◌, ◌==◌, ℕ, false, List, [], ◌∷◌, map, flat_map, length, take, Option, Some, None, IfSome, if◌then◌else◌}
+use Rattle.std.specs.Prelude.{◌≡◌, ◌<◌, ◌+◌, ◌==◌, ℕ, false, List, [], ◌∷◌, map, flat_map, length, take, Some, IfSome, if◌then◌else◌}
 use Rattle.regex_hir.specs.Re.{Re}
 use Rattle.regex_hir.specs.Find.{Match, find_all}
 use Rattle.regex_vm.specs.Found.{span}

@@ -8,6 +8,6 @@ use Rattle.px_filter_files.proofs.files.add_key.Goals as goal
 pub returns-in_ok-insert-in-Some : goal.returns-in_ok-insert-in-Some
 returns-in_ok-insert-in-Some c = λ key.
     c.in_ok-insert-in-Some.ensures.updates.0 (rank key.kind, record { ref_ptr = (0, 0); now = key.name })
-    ∙ seen_once_added c.rank.result (rank key.kind) c.in-Some.key.1.now key.name (has_seen c.args.seen.now key)
-    ∙ ap (λ r. has_seen c.args.seen.now key || (rank key.kind == r && bytes_eq key.name c.in-Some.key.1.now)) c.rank.ensures
+    ∙ seen_once_added c.rank.result (rank key.kind) c.in-Some.name.now key.name (has_seen c.args.seen.now key)
+    ∙ ap (λ r. has_seen c.args.seen.now key || (rank key.kind == r && bytes_eq key.name c.in-Some.name.now)) c.rank.ensures
     ∙ ap (λ o. has_seen c.args.seen.now key || option_map_or (same_key key) o false) c.in-Some.ensures

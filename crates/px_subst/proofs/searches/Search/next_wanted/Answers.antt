@@ -1,4 +1,4 @@
-use Rattle.std.proofs.Common.{◌≡◌, ◌∷◌, ◌+◌, ◌≤◌, ◌<◌, ℕ, false, ap, subst, sym, ◌∙◌, arith}
+use Rattle.std.proofs.Common.{◌∷◌, ◌+◌, ◌≤◌, ℕ, false, ap, subst, sym, ◌∙◌, arith}
 use Rattle.regex.specs.Bytes.{matcher_pattern}
 use Rattle.regex.specs.Search.{matches_after}
 use Rattle.px_subst.proofs.MatchLemmas.{first_left, first_later, if_none, if_none_then, if_some_then, none_later, none_left, take_of_none}

@@ -1,4 +1,4 @@
-use Rattle.std.proofs.Common.{◌≡◌, ◌+◌, ◌++◌, ◌∷◌, ℕ, false, length, flat_map, slice_range, refl, ap, subst, subst₂, sym, ◌∙◌, arith}
+use Rattle.std.proofs.Common.{◌≡◌, ◌+◌, ◌++◌, ◌∷◌, ℕ, false, flat_map, slice_range, refl, ap, subst, subst₂, sym, ◌∙◌}
 use Rattle.regex_hir.specs.Find.{find_all}
 use Rattle.regex.specs.Bytes.{matcher_pattern}
 use Rattle.regex.specs.Search.{matches_after}

@@ -1,4 +1,4 @@
-use Rattle.std.proofs.Common.{◌≡◌, ◌≤◌, false, length}
+use Rattle.std.proofs.Common.{◌≡◌, false, length}
 use Rattle.regex_hir.specs.Find.{find_all}
 use Rattle.regex.specs.Bytes.{matcher_pattern, matcher_names}
 use Rattle.regex.specs.Search.{matches_after}
