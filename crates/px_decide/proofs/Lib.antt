@@ -1,0 +1,4 @@
+pub mod TargetLemmas
+pub mod RouteLemmas
+pub mod WordLemmas
+pub mod Crossing

@@ -1,0 +1,5 @@
+pub mod Targets
+pub mod Decisions
+pub mod Forwards
+pub mod Lines
+pub mod Routes

@@ -1,0 +1,23 @@
+-- Forward lines as they are kept.
+use Rattle.px_patterns.specs.declared.faults.PatternFault.{PatternFault}
+use Rattle.px_patterns.specs.declared.faults.PatternFault.TheVariants as pattern
+use Rattle.px_patterns.specs.Faults.{pattern_fault_number}
+use Rattle.px_actions.specs.Hops.{NextHop, direct, parent}
+use Rattle.px_decide.specs.declared.faults.ForwardFault.{ForwardFault}
+use Rattle.px_decide.specs.declared.faults.ForwardFault.TheVariants as fault
+use Rattle.px_decide.specs.declared.forwards.ForwardLine.{ForwardLine}
+use Rattle.px_decide.specs.declared.forwards.Next.{Next}
+use Rattle.px_decide.specs.declared.forwards.Next.TheVariants as next
+use Rattle.px_decide.specs.Forwards.{Line}
+
+abbrev pub next_of : Next → NextHop
+next_of next.Direct = direct
+next_of (next.Parent host port) = parent host port
+
+abbrev pub line_of : ForwardLine → Line
+line_of l = record { pattern = l.pattern; hop = next_of l.next }
+
+-- the refusal of a line whose pattern is refused so
+abbrev pub fault_of : PatternFault → ForwardFault
+fault_of pattern.Mem = fault.Mem
+fault_of refusal = fault.Pattern (pattern_fault_number refusal)

@@ -1,0 +1,19 @@
+//! What becomes of a request before it is sent on: the decision by its actions, and the route.
+#![tactic(auto)]
+
+mod decisions;
+mod faults;
+mod forwards;
+mod redirects;
+mod routes;
+mod routing;
+mod targets;
+#[cfg(test)]
+mod tests;
+mod words;
+
+pub use decisions::{Decision, decide};
+pub use faults::ForwardFault;
+pub use forwards::Forwards;
+pub use routes::Route;
+pub use routing::route;

@@ -1,0 +1,113 @@
+// Where a request is sent.
+ghost use Rattle.std.specs.Prelude.{◌≡◌, ◌<◌, IfOk, false, map, option_map, true};
+ghost use Rattle.px_patterns.specs.Patterns.{url_matches};
+ghost use Rattle.px_actions.specs.Hops.{seen_hop};
+ghost use Rattle.px_decide.specs.Lines.{line_of, next_of};
+ghost use Rattle.px_decide.specs.Routes.{hop_by_lines, last_hop, route_by, route_of};
+
+use crate::forwards::{ForwardLine, Forwards, Next};
+use crate::routes::Route;
+use px_actions::{ActionSet, Hop, Kind, override_hop};
+use px_base::{Mem, Steps, Text};
+use px_patterns::Url;
+use std::alloc::Global;
+use std::marker::Brand;
+use std::sync::ledger::{Blank, Ledger};
+
+/// The route of a request for this URL: that of `forward-override` where it is set, else that of the last forward line whose
+/// pattern matches, else the URL's own host and port (Privoxy's manual, "The Main Configuration File", forward).
+#[tactic(auto, unfolding(crate::specs::Routes::route_of))]
+pub fn route(alloc: Global, url: &Url, set: &ActionSet, forwards: &Forwards) -> Result<Route, Mem>
+    ensures { IfOk result (λ route. route ≡ route_of url.now set.now forwards.now) }
+{
+    match set.value(Kind::ForwardOverride) {
+        Some(value) => route_by_hop(alloc, url, override_hop(value)),
+        None => route_by_lines(alloc, url, forwards.lines()),
+    }
+}
+
+fn route_by_hop(alloc: Global, url: &Url, hop: Hop) -> Result<Route, Mem>
+    ensures { IfOk result (λ route. route ≡ route_by url.now (seen_hop hop.entry)) }
+{
+    match hop {
+        Hop::Direct => origin(alloc, url),
+        Hop::Parent { host, port } => parent(alloc, host, port),
+    }
+}
+
+fn route_by_lines(alloc: Global, url: &Url, lines: &[ForwardLine]) -> Result<Route, Mem>
+    ensures { IfOk result (λ route. route ≡ route_by url.now (hop_by_lines url.now (map line_of lines.now))) }
+{
+    counted_route::<Brand>(alloc, url, lines, Blank::new(1))
+}
+
+/// The same, where L is the name of the blank.
+fn counted_route<L: Ledger>(
+    alloc: Global,
+    url: &Url,
+    lines: &[ForwardLine],
+    blank: Blank,
+) -> Result<Route, Mem>
+    requires name { blank.name ≡ L.name }
+    requires parts { blank.parts ≡ L.parts }
+    requires some { 0 < L.parts }
+    ensures { IfOk result (λ route. route ≡ route_by url.now (hop_by_lines url.now (map line_of lines.now))) }
+{
+    match last_next::<L>(alloc, url, lines, blank)? {
+        Some(next) => route_by_next(alloc, url, next),
+        None => origin(alloc, url),
+    }
+}
+
+fn route_by_next(alloc: Global, url: &Url, next: &Next) -> Result<Route, Mem>
+    ensures { IfOk result (λ route. route ≡ route_by url.now (next_of next.now)) }
+{
+    match next {
+        Next::Direct => origin(alloc, url),
+        Next::Parent { host, port } => parent(alloc, host.as_bytes(), *port),
+    }
+}
+
+/// Where the last line whose pattern matches sends requests.
+fn last_next<'l, L: Ledger>(
+    alloc: Global,
+    url: &Url,
+    lines: &'l [ForwardLine],
+    blank: Blank,
+) -> Result<Option<&'l Next>, Mem>
+    requires name { blank.name ≡ L.name }
+    requires parts { blank.parts ≡ L.parts }
+    requires some { 0 < L.parts }
+    ensures { IfOk result (λ next. option_map (λ n. next_of n.now) next ≡ last_hop url.now (map line_of lines.now)) }
+{
+    let mut steps: Steps<L> = Steps::begin(blank);
+    let mut at = lines.len();
+    'lines: while at > 0 {
+        at -= 1;
+        if lines[at].pattern.matches(alloc, url, &mut steps)? {
+            return Ok(Some(&lines[at].next));
+        }
+    }
+    Ok(None)
+}
+
+/// The route to the URL's own host and port.
+fn origin(alloc: Global, url: &Url) -> Result<Route, Mem>
+    ensures { IfOk result (λ route. route ≡ record { host = url.now.host; port = url.now.port; parent = false }) }
+{
+    Ok(Route {
+        host: Text::from_bytes(alloc, url.host.as_bytes())?,
+        port: url.port,
+        parent: false,
+    })
+}
+
+fn parent(alloc: Global, host: &[u8], port: u16) -> Result<Route, Mem>
+    ensures { IfOk result (λ route. route ≡ record { host = host.now; port = port; parent = true }) }
+{
+    Ok(Route {
+        host: Text::from_bytes(alloc, host)?,
+        port,
+        parent: true,
+    })
+}
