@@ -1,0 +1,14 @@
+//! What the sections of actions files set for a URL, for a tag, and where tags are absent.
+#![tactic(auto)]
+
+mod building;
+mod lists;
+mod places;
+mod sections;
+mod selections;
+mod sides;
+mod tries;
+
+pub use places::{Placed, SectionCounts, SectionRef};
+pub use sections::Sections;
+pub use sides::Side;
