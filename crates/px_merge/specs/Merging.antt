@@ -1,7 +1,7 @@
 -- What sections set for a URL, for a tag, and where tags are absent (the manual's chapter on actions files).
-use Rattle.std.specs.Prelude.{ℕ, ◌≡◌, Bool, false, not, List, [], ◌∷◌, ◌++◌, filter}
+use Rattle.std.specs.Prelude.{ℕ, Bool, false, not, List, filter}
 use Rattle.std.specs.List.{flat_map, list_any}
-use Rattle.px_actions.specs.Sets.{empty_set, updated}
+use Rattle.px_actions.specs.Sets.{empty_set, updated_all}
 use Rattle.px_actions.specs.declared.settings.Setting.{Setting}
 use Rattle.px_actions.specs.declared.updates.Update.{Update}
 use Rattle.px_patterns.specs.Patterns.{tag_matches, url_matches}
@@ -16,25 +16,13 @@ use Rattle.px_merge.specs.declared.sides.Side.TheVariants as side
 
 -- ---- updates
 
--- the set after updates, from left to right
-abbrev pub all_updated : List Setting → List Update → List Setting
-all_updated set [] = set
-all_updated set (update ∷ updates) = all_updated (updated set update.kind update.change) updates
-
 -- the updates of sections, one section after another
 abbrev pub updates_in : List Placed → List Update
 updates_in sections = flat_map (λ p. p.section.updates) sections
 
 -- the set after the updates of sections
 abbrev pub applied : List Setting → List Placed → List Setting
-applied set sections = all_updated set (updates_in sections)
-
--- the set has had a front of the updates
-pub record HadFront (old new : List Setting) (updates : List Update) : Type 0 where
-  pub front : List Update
-  pub behind : List Update
-  pub whole : front ++ behind ≡ updates
-  pub had : new ≡ all_updated old front
+applied set sections = updated_all set (updates_in sections)
 
 -- ---- which sections
 

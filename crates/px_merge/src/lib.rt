@@ -2,13 +2,22 @@
 #![tactic(auto)]
 
 mod building;
+mod hosts;
+mod indexes;
+mod keys;
+mod labels;
 mod lists;
+mod numbers;
 mod places;
 mod sections;
 mod selections;
 mod sides;
 mod tries;
+mod walks;
 
 pub use places::{Placed, SectionCounts, SectionRef};
 pub use sections::Sections;
 pub use sides::Side;
+
+#[cfg(test)]
+mod tests;

@@ -24,3 +24,10 @@ pub struct SectionCounts {
     pub sections: u32,
     pub patterns: u32,
 }
+
+/// Where a pattern stands: the number of its section among all, and its number in the section, each counted from 0.
+#[derive(Clone, Copy)]
+pub struct Place {
+    pub section: usize,
+    pub pattern: usize,
+}

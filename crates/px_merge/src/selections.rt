@@ -1,16 +1,15 @@
 // Sections that are picked by their numbers.
 ghost use Rattle.std.specs.Prelude.{◌≡◌, IfOk, OnErr, OnOk, map, option_copied, option_map, option_to_list, slice_get};
-ghost use Rattle.px_merge.specs.Merging.{HadFront, absent, all_updated, applied, is_for_absent, is_for_tag, is_for_url, ref_of, sections_with, tagged, updates_in};
-ghost use Rattle.px_merge.specs.Selections.{Selects, has_some, picked};
+ghost use Rattle.px_actions.specs.Sets.{IsUpdatedByFront};
+ghost use Rattle.px_merge.specs.Merging.{absent, applied, is_for_absent, is_for_tag, ref_of, tagged, updates_in};
+ghost use Rattle.px_merge.specs.Selections.{has_some, picked};
 
 use crate::places::{Placed, SectionRef};
 use crate::sides::Side;
-use crate::tries::{has_for_absent, has_for_tag, has_for_url};
-use px_actions::{ActionSet, Update};
-use px_base::{List, Mem, Steps, Text};
-use px_patterns::Url;
+use crate::tries::{has_for_absent, has_for_tag};
+use px_actions::ActionSet;
+use px_base::{List, Mem, Text};
 use std::alloc::Global;
-use std::sync::ledger::Ledger;
 
 /// The section with a number, if there is one.
 pub fn section_at(sections: &[Placed], number: usize) -> Option<&Placed>
@@ -23,27 +22,13 @@ pub fn section_at(sections: &[Placed], number: usize) -> Option<&Placed>
     }
 }
 
-/// Applies updates from left to right. After `Mem` the set has had a front of them.
-#[tactic(auto, using(crate::proofs::FrontLemmas::fronts))]
-fn apply_all(updates: &[Update], set: &mut ActionSet) -> Result<(), Mem>
-    ensures ok { OnOk result (set.new ≡ all_updated set.old updates.now) }
-    ensures err { OnErr result (HadFront set.old set.new updates.now) }
-{
-    let mut rest = updates;
-    'updates: while let Some((update, others)) = rest.split_first() {
-        set.apply(update)?;
-        rest = others;
-    }
-    Ok(())
-}
-
 /// Applies the updates of the section with a number, if there is one. After `Mem` the set has had a front of them.
 fn apply_one(sections: &[Placed], number: usize, set: &mut ActionSet) -> Result<(), Mem>
     ensures ok { OnOk result (set.new ≡ applied set.old (option_to_list (slice_get sections.now number))) }
-    ensures err { OnErr result (HadFront set.old set.new (updates_in (option_to_list (slice_get sections.now number)))) }
+    ensures err { OnErr result (IsUpdatedByFront set.old (updates_in (option_to_list (slice_get sections.now number))) set.new) }
 {
     match section_at(sections, number) {
-        Some(placed) => apply_all(placed.section.updates.as_slice(), set),
+        Some(placed) => set.apply_all(placed.section.updates.as_slice()),
         None => Ok(()),
     }
 }
@@ -52,7 +37,7 @@ fn apply_one(sections: &[Placed], number: usize, set: &mut ActionSet) -> Result<
 #[tactic(auto, using(crate::proofs::FrontLemmas::fronts))]
 pub fn apply_picked(sections: &[Placed], numbers: &[usize], set: &mut ActionSet) -> Result<(), Mem>
     ensures ok { OnOk result (set.new ≡ applied set.old (picked sections.now numbers.now)) }
-    ensures err { OnErr result (HadFront set.old set.new (updates_in (picked sections.now numbers.now))) }
+    ensures err { OnErr result (IsUpdatedByFront set.old (updates_in (picked sections.now numbers.now)) set.new) }
 {
     let mut rest = numbers;
     'numbers: while let Some((number, others)) = rest.split_first() {
@@ -92,42 +77,6 @@ pub fn refs_of(
         rest = others;
     }
     Ok(List::from_vec(refs))
-}
-
-/// Whether the section with a number, if there is one, applies to a URL and the tags of a client.
-fn applies_to_url<L: Ledger>(
-    alloc: Global,
-    sections: &[Placed],
-    number: usize,
-    url: &Url,
-    tags: &[Text],
-    steps: &mut Steps<L>,
-) -> Result<bool, Mem>
-    ensures { IfOk result (λ yes. yes ≡ has_some (is_for_url url.now tags.now) (slice_get sections.now number)) }
-{
-    match section_at(sections, number) {
-        Some(placed) => has_for_url(alloc, placed.section.patterns.as_slice(), url, tags, steps),
-        None => Ok(false),
-    }
-}
-
-/// The numbers of the sections that apply to a URL and the tags of a client.
-pub fn url_hits<L: Ledger>(
-    alloc: Global,
-    sections: &[Placed],
-    url: &Url,
-    tags: &[Text],
-    steps: &mut Steps<L>,
-) -> Result<Vec<usize>, Mem>
-    ensures { IfOk result (λ hits. Selects (is_for_url url.now tags.now) sections.now hits.items) }
-{
-    let mut hits = Vec::new(alloc);
-    for at in 0..sections.len() {
-        if applies_to_url(alloc, sections, at, url, tags, steps)? {
-            hits.push(at)?;
-        }
-    }
-    Ok(hits)
 }
 
 /// Whether the section with a number, if there is one, applies to a tag.

@@ -1,61 +1,21 @@
 // Patterns that are tried.
 ghost use Rattle.std.specs.Prelude.{◌≡◌, IfOk, false, not};
 ghost use Rattle.std.specs.List.{list_any};
-ghost use Rattle.px_merge.specs.Merging.{is_for_absent, is_for_tag, is_for_url, matches_some};
+ghost use Rattle.px_merge.specs.Merging.{is_for_absent, is_for_tag, matches_some};
 
 use crate::sides::Side;
 use px_action_files::Pattern;
-use px_base::{Mem, Steps, Text};
-use px_patterns::{TagPattern, Url};
+use px_base::{Mem, Text};
+use px_patterns::TagPattern;
 use std::alloc::Global;
-use std::sync::ledger::Ledger;
 
 /// Whether a tag pattern matches one of some tags.
-fn matches_some(alloc: Global, pattern: &TagPattern, tags: &[Text]) -> Result<bool, Mem>
+pub fn matches_some(alloc: Global, pattern: &TagPattern, tags: &[Text]) -> Result<bool, Mem>
     ensures { IfOk result (λ yes. yes ≡ matches_some pattern.now tags.now) }
 {
     let mut rest = tags;
     'tags: while let Some((tag, others)) = rest.split_first() {
         if pattern.matches(alloc, tag.as_bytes())? {
-            return Ok(true);
-        }
-        rest = others;
-    }
-    Ok(false)
-}
-
-/// Whether a pattern matches a URL or one of a client's tags.
-fn is_for_url<L: Ledger>(
-    alloc: Global,
-    pattern: &Pattern,
-    url: &Url,
-    tags: &[Text],
-    steps: &mut Steps<L>,
-) -> Result<bool, Mem>
-    ensures { IfOk result (λ yes. yes ≡ is_for_url url.now tags.now pattern.now) }
-{
-    match pattern {
-        Pattern::Url(pattern) => pattern.matches(alloc, url, steps),
-        Pattern::Tag(_) => Ok(false),
-        Pattern::NoRequestTag(_) => Ok(false),
-        Pattern::NoResponseTag(_) => Ok(false),
-        Pattern::ClientTag(pattern) => matches_some(alloc, pattern, tags),
-    }
-}
-
-/// Whether one of some patterns matches a URL or one of a client's tags.
-pub fn has_for_url<L: Ledger>(
-    alloc: Global,
-    patterns: &[Pattern],
-    url: &Url,
-    tags: &[Text],
-    steps: &mut Steps<L>,
-) -> Result<bool, Mem>
-    ensures { IfOk result (λ yes. yes ≡ list_any (is_for_url url.now tags.now) patterns.now) }
-{
-    let mut rest = patterns;
-    'patterns: while let Some((pattern, others)) = rest.split_first() {
-        if is_for_url(alloc, pattern, url, tags, steps)? {
             return Ok(true);
         }
         rest = others;

@@ -1,7 +1,8 @@
 use Rattle.std.proofs.Common.{◌≡◌, ap, ◌∙◌, subst}
 use Rattle.std.proofs.lemmas.Result.{on_err_weaker, on_ok_weaker}
+use Rattle.px_actions.specs.Sets.{IsUpdatedByFront}
 use Rattle.px_merge.specs.Merged.{Merged}
-use Rattle.px_merge.specs.Merging.{HadFront, absent, applied, updates_in}
+use Rattle.px_merge.specs.Merging.{absent, applied, updates_in}
 use Rattle.px_merge.specs.Selections.{picked}
 use Rattle.px_merge.specs.declared.places.Placed.{Placed}
 use Rattle.px_merge.proofs.MergedLemmas.{absent_of}
@@ -29,4 +30,4 @@ returns-clause-err c =
     ∙ c.in_ok-hits.ensures
     ∙ ap (λ s. absent (picked s numbers) tags c.args.side) (c.as_slice-sections.ensures.value ∙ ap (λ (m : Merged). m.sections) c.self.view_is)
     ∙ absent_of c.args.self.now.sections numbers tags c.args.side c.absence_numbers-numbers.ensures in
-    on_err_weaker c.apply_picked.result (λ had. subst (λ sections. HadFront c.args.set.now c.apply_picked.new.set (updates_in sections)) same had) c.apply_picked.ensures.err
+    on_err_weaker c.apply_picked.result (λ had. subst (λ sections. IsUpdatedByFront c.args.set.now (updates_in sections) c.apply_picked.new.set) same had) c.apply_picked.ensures.err

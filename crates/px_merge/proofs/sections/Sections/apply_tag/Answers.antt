@@ -1,7 +1,8 @@
 use Rattle.std.proofs.Common.{◌≡◌, ap, ◌∙◌, subst}
 use Rattle.std.proofs.lemmas.Result.{on_err_weaker, on_ok_weaker}
+use Rattle.px_actions.specs.Sets.{IsUpdatedByFront}
 use Rattle.px_merge.specs.Merged.{Merged}
-use Rattle.px_merge.specs.Merging.{HadFront, tagged, applied, updates_in}
+use Rattle.px_merge.specs.Merging.{tagged, applied, updates_in}
 use Rattle.px_merge.specs.Selections.{picked}
 use Rattle.px_merge.specs.declared.places.Placed.{Placed}
 use Rattle.px_merge.proofs.MergedLemmas.{tagged_of}
@@ -33,4 +34,4 @@ returns-clause-err c =
     ∙ ap (λ numbers. tagged (picked inside.sections.items numbers) tag) c.as_slice.ensures.value
     ∙ tagged_of inside.sections.items inside.tags.items tag c.self.invariant.tags_are
     ∙ ap (λ (m : Merged). tagged m.sections tag) c.self.view_is in
-    on_err_weaker c.apply_picked.result (λ had. subst (λ sections. HadFront c.args.set.now c.apply_picked.new.set (updates_in sections)) same had) c.apply_picked.ensures.err
+    on_err_weaker c.apply_picked.result (λ had. subst (λ sections. IsUpdatedByFront c.args.set.now (updates_in sections) c.apply_picked.new.set) same had) c.apply_picked.ensures.err

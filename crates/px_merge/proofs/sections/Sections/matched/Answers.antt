@@ -16,7 +16,7 @@ returns-clause-files g c =
     IfOk-weaker c.refs_of.result _ _ (λ refs e.
     subst (λ (m : Merged). All (λ (r : SectionRef). r.file < length m.names) refs) c.self.view_is
     (refs_within test (length c.self.inside.names.items) sections hits refs
-    (subst (λ s. Selects test s hits) c.as_slice.ensures.value c.in_ok-hits.ensures)
+    (subst (λ s. Selects test s hits) c.as_slice.ensures.value c.in_ok-hits.ensures.selects)
     c.self.invariant.within
     (e ∙ ap (λ s. map ref_of (picked s c.as_slice-3.result.now)) c.as_slice-2.ensures.value ∙ ap (λ h. map ref_of (picked sections h)) c.as_slice-3.ensures.value)))
     c.refs_of.ensures
