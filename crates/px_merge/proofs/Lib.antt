@@ -1,0 +1,11 @@
+pub mod FrontLemmas
+pub mod SelectionLemmas
+pub mod MergedLemmas
+pub mod ListLemmas
+pub mod KeyLemmas
+pub mod SlotLemmas
+pub mod IndexLemmas
+pub mod CandidateLemmas
+pub mod NumberLemmas
+pub mod WalkLemmas
+pub mod HostLemmas

@@ -1,0 +1,10 @@
+use Rattle.std.proofs.Common.{◌≡◌, length}
+use Rattle.px_merge.specs.Merging.{is_for_tag}
+use Rattle.std.specs.List.{list_any}
+use Rattle.px_merge.proofs.tries.has_for_tag.Given as goal
+
+abbrev pub invariant-patterns : goal.invariant-patterns
+invariant-patterns l = list_any (is_for_tag l.tag) l.rest ≡ list_any (is_for_tag l.tag) l.patterns
+
+abbrev pub decreases-patterns : goal.decreases-patterns
+decreases-patterns l = length l.rest

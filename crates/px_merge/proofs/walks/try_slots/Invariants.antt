@@ -1,0 +1,16 @@
+use Rattle.std.proofs.Common.{◌≡◌, ◌+◌, ◌≤◌, ◌++◌, length}
+use Rattle.std.specs.List.{flat_map}
+use Rattle.px_merge.specs.Indexes.{cost_at, hits_in, slot_at, weight}
+use Rattle.px_merge.specs.Merging.{is_for_url}
+use Rattle.px_merge.proofs.walks.try_slots.Given as goal
+
+abbrev pub invariant-numbers : goal.invariant-numbers
+invariant-numbers g l = record {
+  same : l.hits.items ++ hits_in l.sections (is_for_url l.url l.tags) (flat_map (slot_at l.index.slots.items) l.rest)
+      ≡ l.initial.hits.items ++ hits_in l.sections (is_for_url l.url l.tags) (flat_map (slot_at l.index.slots.items) l.numbers);
+  steps : l.steps + weight (cost_at l.sections l.url.host) (flat_map (slot_at l.index.slots.items) l.rest)
+      ≤ l.initial.steps + weight (cost_at l.sections l.url.host) (flat_map (slot_at l.index.slots.items) l.numbers);
+}
+
+abbrev pub decreases-numbers : goal.decreases-numbers
+decreases-numbers g l = length l.rest

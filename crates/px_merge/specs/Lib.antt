@@ -1,0 +1,6 @@
+pub mod Merged
+pub mod Merging
+pub mod Selections
+pub mod Keys
+pub mod Candidates
+pub mod Indexes

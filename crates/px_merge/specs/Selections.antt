@@ -1,0 +1,51 @@
+-- Sections that are picked by their numbers.
+use Rattle.std.specs.Prelude.{ℕ, ◌≡◌, ◌<◌, Bool, true, false, List, All, length, slice_get, option_to_list, Option, None, Some}
+use Rattle.std.specs.List.{flat_map, list_any}
+use Rattle.px_action_files.specs.declared.patterns.Pattern.{Pattern}
+use Rattle.px_action_files.specs.declared.patterns.Pattern.TheVariants as pattern
+use Rattle.px_merge.specs.declared.places.Placed.{Placed}
+use Rattle.px_merge.specs.declared.places.SectionCounts.{SectionCounts}
+use Rattle.px_merge.specs.declared.lists.Purpose.{Purpose}
+use Rattle.px_merge.specs.declared.lists.Purpose.TheVariants as purpose
+use Rattle.px_merge.specs.declared.indexes.Index.{Index}
+use Rattle.px_merge.specs.Indexes.{IsIndexed}
+use Rattle.px_merge.specs.Merged.{pattern_count}
+use Rattle.px_merge.specs.declared.sides.Side.TheVariants as side
+use Rattle.px_merge.specs.Merging.{sections_with}
+
+-- the sections with these numbers, counted from 0
+abbrev pub picked : List Placed → List ℕ → List Placed
+picked sections numbers = flat_map (λ n. option_to_list (slice_get sections n)) numbers
+
+-- the numbers are those of the sections of which a pattern passes, in file order
+abbrev pub Selects : (Pattern → Bool) → List Placed → List ℕ → Type 0
+Selects test sections numbers = picked sections numbers ≡ sections_with test sections
+
+-- whether a section, if there is one, has a pattern that passes
+abbrev pub has_some : (Pattern → Bool) → Option Placed → Bool
+has_some test None = false
+has_some test (Some p) = list_any test p.section.patterns
+
+-- what a list of sections is for: those with TAG patterns, or those with patterns on absent tags of a side
+abbrev pub is_of : Purpose → Pattern → Bool
+is_of purpose (pattern.Url p) = false
+is_of purpose.Tag (pattern.Tag p) = true
+is_of (purpose.Absent side) (pattern.Tag p) = false
+is_of purpose.Tag (pattern.NoRequestTag p) = false
+is_of (purpose.Absent side.Request) (pattern.NoRequestTag p) = true
+is_of (purpose.Absent side.Response) (pattern.NoRequestTag p) = false
+is_of purpose.Tag (pattern.NoResponseTag p) = false
+is_of (purpose.Absent side.Request) (pattern.NoResponseTag p) = false
+is_of (purpose.Absent side.Response) (pattern.NoResponseTag p) = true
+is_of purpose (pattern.ClientTag p) = false
+
+-- what is kept of sections beside them
+pub record AreKept (names : List (List ℕ)) (sections : List Placed) (counts : SectionCounts) (index : Index) (tags requests responses : List ℕ) : Type 0 where
+  pub files : counts.files ≡ length names
+  pub all : counts.sections ≡ length sections
+  pub patterns : counts.patterns ≡ pattern_count sections
+  pub within : All (λ p. p.file < length names) sections
+  pub indexed : IsIndexed index sections
+  pub tags_are : Selects (is_of purpose.Tag) sections tags
+  pub requests_are : Selects (is_of (purpose.Absent side.Request)) sections requests
+  pub responses_are : Selects (is_of (purpose.Absent side.Response)) sections responses

@@ -1,0 +1,86 @@
+// The label under which a URL pattern is kept.
+ghost use Rattle.std.specs.Prelude.{◌≡◌, ℕ, Bool, List, option_copied, true};
+ghost use Rattle.px_merge.specs.Indexes.{KeepsUnder, PassesPlain, PlainPass};
+
+use crate::keys::slot_number;
+use crate::places::Placed;
+use px_action_files::Pattern;
+use px_base::Mem;
+use px_patterns::{Bucket, LabelPattern, UrlPattern};
+use std::alloc::Global;
+
+/// Counts a label.
+fn count_label(counts: &mut Vec<usize>, label: &LabelPattern) {
+    if let Some(text) = label.plain() {
+        let at = slot_number(counts.len(), text);
+        if at < counts.len() {
+            counts[at] = counts[at].saturating_add(1);
+        }
+    }
+}
+
+/// Counts the labels of a URL pattern.
+fn count_labels(counts: &mut Vec<usize>, pattern: &Pattern) {
+    if let Pattern::Url(pattern) = pattern {
+        for label in pattern.host().labels() {
+            count_label(counts, label);
+        }
+    }
+}
+
+/// How many labels of URL patterns there are for each of some slots.
+pub fn label_counts(alloc: Global, sections: &[Placed], count: usize) -> Result<Vec<usize>, Mem> {
+    let mut counts = vec![in alloc; 0; count]?;
+    for placed in sections {
+        for pattern in placed.section.patterns.as_slice() {
+            count_labels(&mut counts, pattern);
+        }
+    }
+    Ok(counts)
+}
+
+/// How many labels have the slot of a text.
+fn count_of(counts: &[usize], text: &[u8]) -> usize {
+    let at = slot_number(counts.len(), text);
+    if at < counts.len() { counts[at] } else { 0 }
+}
+
+/// A text, or that of a label if fewer labels have its slot.
+fn rarer<'a>(counts: &[usize], best: &'a [u8], label: &'a LabelPattern) -> &'a [u8]
+    ensures { (test : List ℕ → Bool) → test best.now ≡ true → PassesPlain test label.now → test result.now ≡ true }
+{
+    let LabelPattern::Plain(text) = label else {
+        return best;
+    };
+    let text = text.as_bytes();
+    if count_of(counts, text) < count_of(counts, best) {
+        return text;
+    }
+    best
+}
+
+/// Of a text and the texts of labels one whose slot fewest labels have.
+fn rarest<'a>(counts: &[usize], first: &'a [u8], labels: &'a [LabelPattern]) -> &'a [u8]
+    ensures { (test : List ℕ → Bool) → test first.now ≡ true → PlainPass test labels.now → test result.now ≡ true }
+{
+    let mut best = first;
+    let mut rest = labels;
+    'labels: while let Some((label, others)) = rest.split_first() {
+        best = rarer(counts, best, label);
+        rest = others;
+    }
+    best
+}
+
+/// The text under which a URL pattern is kept, if there is one: the address of each host that it matches, or a label of each
+/// such host, one that few patterns have.
+pub fn key_of<'a>(counts: &[usize], pattern: &'a UrlPattern) -> Option<&'a [u8]>
+    ensures { KeepsUnder pattern.now (option_copied result) }
+{
+    let own = pattern.host();
+    match own.bucket() {
+        Bucket::Always => None,
+        Bucket::Label(text) => Some(rarest(counts, text, own.labels())),
+        Bucket::Address(text) => Some(text),
+    }
+}

@@ -1,0 +1,185 @@
+// Sections, and what they set.
+ghost use Rattle.std.specs.Prelude.{◌≡◌, ◌+◌, ◌<◌, ◌≤◌, All, IfOk, OnErr, OnOk, Some, length, map, slice_get};
+ghost use Rattle.px_actions.specs.Sets.{IsUpdatedByFront};
+ghost use Rattle.px_merge.specs.Candidates.{candidate_count};
+ghost use Rattle.px_merge.specs.Merged.{names_of, pattern_count, sections_of};
+ghost use Rattle.px_merge.specs.Merging.{absent, applied, matching, ref_of, tagged, updates_in, url_actions};
+ghost use Rattle.px_merge.specs.Selections.{Selects, is_of};
+ghost use Rattle.px_merge.specs.declared.lists.Purpose.TheVariants.{Absent};
+
+use crate::building::{add_files, counts_of};
+use crate::indexes::Index;
+use crate::lists::{Purpose, numbers_of};
+use crate::places::{Placed, SectionCounts, SectionRef};
+use crate::selections::{absent_hits, apply_picked, refs_of, tag_hits};
+use crate::sides::Side;
+use crate::walks::url_hits;
+use px_action_files::ActionFile;
+use px_actions::ActionSet;
+use px_base::{List, Mem, Steps, Text};
+use px_patterns::Url;
+use std::alloc::Global;
+use std::marker::Model;
+use std::sync::ledger::Ledger;
+
+/// The sections of actions files, seen as the names of the files and their sections in file order.
+#[derive(Drop)]
+pub struct Sections {
+    names: Vec<Text>,
+    sections: Vec<Placed>,
+    counts: SectionCounts,
+    /// The places of all patterns that apply to URLs.
+    index: Index,
+    /// The sections with TAG patterns.
+    tags: Vec<usize>,
+    /// The sections with NO-REQUEST-TAG patterns.
+    requests: Vec<usize>,
+    /// The sections with NO-RESPONSE-TAG patterns.
+    responses: Vec<usize>,
+}
+
+impl Model for Sections {
+    ghost use Rattle.px_merge.specs.Merged.{Merged};
+
+    ghost Value = { Merged };
+
+    ghost use Rattle.px_merge.specs.Selections.{AreKept};
+
+    ghost view = { λ s. record { names = s.names.items; sections = s.sections.items } };
+
+    ghost invariant = { λ s. AreKept s.names.items s.sections.items s.counts s.index s.tags.items s.requests.items s.responses.items };
+}
+
+impl Sections {
+    /// The sections of files, in the order of the files. Where there are 2^32 files, sections or patterns, or more, it is as if
+    /// memory were wanting.
+    pub fn new(alloc: Global, files: List<(Text, ActionFile)>) -> Result<Sections, Mem>
+        ensures names { IfOk result (λ s. s.names ≡ names_of files) }
+        ensures sections { IfOk result (λ s. s.sections ≡ sections_of files) }
+    {
+        let mut names = Vec::new(alloc);
+        let mut sections = Vec::new(alloc);
+        add_files(files, &mut names, &mut sections)?;
+        let counts = counts_of(names.as_slice(), sections.as_slice())?;
+        let index = Index::new(alloc, sections.as_slice(), counts.patterns as usize)?;
+        let tags = numbers_of(alloc, sections.as_slice(), Purpose::Tag)?;
+        let requests = numbers_of(alloc, sections.as_slice(), Purpose::Absent(Side::Request))?;
+        let responses = numbers_of(alloc, sections.as_slice(), Purpose::Absent(Side::Response))?;
+        Ok(Sections {
+            names,
+            sections,
+            counts,
+            index,
+            tags,
+            requests,
+            responses,
+        })
+    }
+
+    /// The name of a file, by its number counted from 0.
+    pub fn file_name(&self, file: u32) -> &[u8]
+        requires { file < length self.now.names }
+        ensures { slice_get self.now.names file ≡ Some result.now }
+    {
+        self.names[file as usize].as_bytes()
+    }
+
+    /// How many files, sections and patterns there are. It takes no memory.
+    pub fn counts(&self) -> SectionCounts
+        ensures files { result.files ≡ length self.now.names }
+        ensures sections { result.sections ≡ length self.now.sections }
+        ensures patterns { result.patterns ≡ pattern_count self.now.sections }
+    {
+        self.counts
+    }
+
+    /// What the sections set for a URL and the tags of a client: from the empty set, the updates of each section that has
+    /// a URL pattern that matches the URL or a CLIENT-TAG pattern that matches one of the tags, in file order.
+    /// Of URL patterns at most the candidates for the host take a step.
+    #[tactic(auto, unfolding(crate::specs::Merging::url_actions))]
+    pub fn url_actions<L: Ledger>(
+        &self,
+        alloc: Global,
+        url: &Url,
+        tags: &[Text],
+        steps: &mut Steps<L>,
+    ) -> Result<ActionSet, Mem>
+        ensures value { IfOk result (λ set. set ≡ url_actions self.now.sections url.now tags.now) }
+        ensures steps { steps.new ≤ steps.old + candidate_count self.now.sections url.now.host }
+    {
+        let hits = url_hits(
+            alloc,
+            &self.index,
+            self.sections.as_slice(),
+            url,
+            tags,
+            steps,
+        )?;
+        let mut set = ActionSet::empty(alloc);
+        apply_picked(self.sections.as_slice(), hits.as_slice(), &mut set)?;
+        Ok(set)
+    }
+
+    /// Where the sections stand that `url_actions` applies, in file order.
+    pub fn matched<L: Ledger>(
+        &self,
+        alloc: Global,
+        url: &Url,
+        tags: &[Text],
+        steps: &mut Steps<L>,
+    ) -> Result<List<SectionRef>, Mem>
+        ensures value { IfOk result (λ refs. refs ≡ map ref_of (matching self.now.sections url.now tags.now)) }
+        ensures files { IfOk result (λ refs. All (λ r. r.file < length self.now.names) refs) }
+        ensures steps { steps.new ≤ steps.old + candidate_count self.now.sections url.now.host }
+    {
+        let hits = url_hits(
+            alloc,
+            &self.index,
+            self.sections.as_slice(),
+            url,
+            tags,
+            steps,
+        )?;
+        refs_of(alloc, self.sections.as_slice(), hits.as_slice())
+    }
+
+    /// Applies to a set, in file order, the updates of each section that has a TAG pattern that matches the tag. After
+    /// `Mem` some first ones of these updates are applied.
+    pub fn apply_tag(&self, alloc: Global, set: &mut ActionSet, tag: &[u8]) -> Result<(), Mem>
+        ensures ok { OnOk result (set.new ≡ applied set.old (tagged self.now.sections tag.now)) }
+        ensures err { OnErr result (IsUpdatedByFront set.old (updates_in (tagged self.now.sections tag.now)) set.new) }
+    {
+        let sections = self.sections.as_slice();
+        let hits = tag_hits(alloc, sections, self.tags.as_slice(), tag)?;
+        apply_picked(sections, hits.as_slice(), set)
+    }
+
+    /// Applies to a set, in file order, the updates of each section that has a NO-REQUEST-TAG pattern, or for the
+    /// response a NO-RESPONSE-TAG pattern, that matches none of the tags. After `Mem` the set has had a front of these
+    /// updates.
+    pub fn apply_absent(
+        &self,
+        alloc: Global,
+        set: &mut ActionSet,
+        tags: &[Text],
+        side: Side,
+    ) -> Result<(), Mem>
+        ensures ok { OnOk result (set.new ≡ applied set.old (absent self.now.sections tags.now side)) }
+        ensures err { OnErr result (IsUpdatedByFront set.old (updates_in (absent self.now.sections tags.now side)) set.new) }
+    {
+        let sections = self.sections.as_slice();
+        let numbers = self.absence_numbers(side);
+        let hits = absent_hits(alloc, sections, numbers, tags, side)?;
+        apply_picked(sections, hits.as_slice(), set)
+    }
+
+    /// The sections with NO-REQUEST-TAG patterns, or for the response with NO-RESPONSE-TAG patterns.
+    fn absence_numbers(&self, side: Side) -> &[usize]
+        ensures { Selects (is_of (Absent side)) self.now.sections result.now }
+    {
+        match side {
+            Side::Request => self.requests.as_slice(),
+            Side::Response => self.responses.as_slice(),
+        }
+    }
+}

@@ -1,0 +1,260 @@
+// What sections set: for URLs, for tags, and where tags are absent.
+use crate::*;
+use px_action_files::{ActionFile, Pattern, Section};
+use px_actions::{ActionSet, Update};
+use px_base::{List, Steps, Text};
+use px_patterns::{TagPattern, Url, UrlPattern};
+use std::alloc::Global;
+use std::marker::Brand;
+use std::sync::ledger::{Blank, Ledger};
+use std::test::Fail;
+
+/// The line of a section, its words and its patterns.
+type Row = (u32, &'static [&'static str], &'static [&'static str]);
+
+/// The pattern of a line.
+fn pattern(alloc: Global, line: &str) -> Option<Pattern> {
+    if let Some(text) = line.strip_prefix("TAG:") {
+        return Some(Pattern::Tag(TagPattern::read(alloc, text).ok()?));
+    }
+    if let Some(text) = line.strip_prefix("NO-REQUEST-TAG:") {
+        return Some(Pattern::NoRequestTag(TagPattern::read(alloc, text).ok()?));
+    }
+    if let Some(text) = line.strip_prefix("NO-RESPONSE-TAG:") {
+        return Some(Pattern::NoResponseTag(TagPattern::read(alloc, text).ok()?));
+    }
+    if let Some(text) = line.strip_prefix("CLIENT-TAG:") {
+        return Some(Pattern::ClientTag(TagPattern::read(alloc, text).ok()?));
+    }
+    Some(Pattern::Url(UrlPattern::read(alloc, line).ok()?))
+}
+
+fn section(alloc: Global, line: u32, words: &[&str], patterns: &[&str]) -> Option<Section> {
+    let mut section = Section {
+        line,
+        updates: List::new(alloc),
+        patterns: List::new(alloc),
+    };
+    for word in words {
+        section.updates.add(Update::read(alloc, word).ok()?).ok()?;
+    }
+    for text in patterns {
+        section.patterns.add(pattern(alloc, text)?).ok()?;
+    }
+    Some(section)
+}
+
+/// The sections of files that are all named `u.action`.
+fn merged(alloc: Global, files: &[&[Row]]) -> Option<Sections> {
+    let mut read = List::new(alloc);
+    for rows in files {
+        let mut sections = List::new(alloc);
+        for (line, words, patterns) in *rows {
+            sections.add(section(alloc, *line, words, patterns)?).ok()?;
+        }
+        let name = Text::from_bytes(alloc, b"u.action").ok()?;
+        read.add((name, ActionFile { sections })).ok()?;
+    }
+    Sections::new(alloc, read).ok()
+}
+
+fn texts(alloc: Global, tags: &[&str]) -> Option<List<Text>> {
+    let mut texts = List::new(alloc);
+    for tag in tags {
+        texts
+            .add(Text::from_bytes(alloc, tag.as_bytes()).ok()?)
+            .ok()?;
+    }
+    Some(texts)
+}
+
+/// The lines of what sections set for a URL and the tags of a client, and where these sections stand.
+fn answers_counted<L: Ledger>(
+    alloc: Global,
+    sections: &Sections,
+    url: &str,
+    tags: &[&str],
+    blank: Blank,
+) -> Option<(Text, List<SectionRef>)>
+    requires name { blank.name ≡ L.name }
+    requires parts { blank.parts ≡ L.parts }
+    requires some { 0 < L.parts }
+{
+    let url = Url::read(alloc, url.as_bytes()).ok()?;
+    let tags = texts(alloc, tags)?;
+    let mut steps: Steps<L> = Steps::begin(blank);
+    let set = sections
+        .url_actions(alloc, &url, tags.as_slice(), &mut steps)
+        .ok()?;
+    let places = sections
+        .matched(alloc, &url, tags.as_slice(), &mut steps)
+        .ok()?;
+    Some((set.print().ok()?, places))
+}
+
+fn answers(
+    alloc: Global,
+    sections: &Sections,
+    url: &str,
+    tags: &[&str],
+) -> Option<(Text, List<SectionRef>)> {
+    answers_counted::<Brand>(alloc, sections, url, tags, Blank::new(1))
+}
+
+/// Files, a URL, the tags of a client, the lines of what is set, and the file and line of each section that applies.
+const URLS: &[(&[&[Row]], &str, &[&str], &str, &[(u32, u32)])] = &[
+    (
+        &[
+            &[(1, &["+filter{a}", "+filter{b}"], &["/"])],
+            &[(3, &["-filter{a}", "+filter{a}"], &["/"])],
+        ],
+        "http://a.test/",
+        &[],
+        "+filter{b}\n+filter{a}\n",
+        &[(0, 1), (1, 3)],
+    ),
+    (
+        &[&[(1, &["+block{x}"], &["CLIENT-TAG:^ads$"])]],
+        "http://a.test/",
+        &["ads"],
+        "+block{x}\n",
+        &[(0, 1)],
+    ),
+    (
+        &[&[(1, &["+block{x}"], &["CLIENT-TAG:^ads$"])]],
+        "http://a.test/",
+        &["cads"],
+        "",
+        &[],
+    ),
+    (
+        &[&[
+            (1, &["+block{a}"], &["/"]),
+            (4, &["+block{b}"], &[".EXAMPLE.com", "/", "www."]),
+            (9, &["+block{c}"], &["TAG:^x$", "example.org"]),
+        ]],
+        "http://www.example.COM/x",
+        &["x"],
+        "+block{b}\n",
+        &[(0, 1), (0, 4)],
+    ),
+    (
+        &[&[
+            (1, &["+block{a}"], &["ad*."]),
+            (3, &["+block{b}"], &["b.ad*.test/x"]),
+            (5, &["+block{c}"], &["<::1>"]),
+        ]],
+        "http://ads.test/",
+        &[],
+        "+block{a}\n",
+        &[(0, 1)],
+    ),
+    (
+        &[&[
+            (1, &["+block{a}"], &["ad*."]),
+            (5, &["+block{c}"], &["<::1>"]),
+        ]],
+        "http://[::1]/",
+        &[],
+        "+block{c}\n",
+        &[(0, 5)],
+    ),
+];
+
+#[test]
+fn sections_that_match_are_applied_in_file_order(rt: HostRuntime) {
+    let alloc = rt.alloc();
+    for (files, url, tags, wanted, at) in URLS {
+        let sections = merged(alloc, files).expect(&rt, "sections");
+        let (lines, places) = answers(alloc, &sections, url, tags).expect(&rt, "answers");
+        assert_eq!(rt; lines.as_bytes(), wanted.as_bytes(), "{url}");
+        assert_eq!(rt; places.len(), at.len(), "{url}");
+        for (place, (file, line)) in places.as_slice().iter().zip(*at) {
+            assert_eq!(rt; (place.file, place.line), (*file, *line), "{url}");
+        }
+    }
+}
+
+/// The lines of a set to which a tag was applied.
+fn tagged(alloc: Global, sections: &Sections, tag: &str) -> Option<Text> {
+    let mut set = ActionSet::empty(alloc);
+    sections.apply_tag(alloc, &mut set, tag.as_bytes()).ok()?;
+    set.print().ok()
+}
+
+/// The lines of a set to which the sections on absent tags were applied.
+fn without(alloc: Global, sections: &Sections, tags: &[&str], side: Side) -> Option<Text> {
+    let tags = texts(alloc, tags)?;
+    let mut set = ActionSet::empty(alloc);
+    sections
+        .apply_absent(alloc, &mut set, tags.as_slice(), side)
+        .ok()?;
+    set.print().ok()
+}
+
+const TAGGED: &[&[Row]] = &[&[
+    (1, &["+block{url}"], &["/"]),
+    (3, &["-block", "+client-header-tagger{u}"], &["TAG:^Xx$"]),
+    (5, &["+block{none}"], &["NO-REQUEST-TAG:^Xx$"]),
+]];
+
+#[test]
+fn tags_and_absent_tags_apply_their_sections(rt: HostRuntime) {
+    let alloc = rt.alloc();
+    let sections = merged(alloc, TAGGED).expect(&rt, "sections");
+    for (tag, wanted) in [("xX", "+client-header-tagger{u}\n"), ("Yy", "")] {
+        let lines = tagged(alloc, &sections, tag).expect(&rt, "tagged");
+        assert_eq!(rt; lines.as_bytes(), wanted.as_bytes(), "{tag}");
+    }
+    for (tags, side, wanted) in [
+        (["Xx", "Yy"].as_slice(), Side::Request, ""),
+        ([].as_slice(), Side::Request, "+block{none}\n"),
+        (["Yy"].as_slice(), Side::Request, "+block{none}\n"),
+        ([].as_slice(), Side::Response, ""),
+    ] {
+        let lines = without(alloc, &sections, tags, side).expect(&rt, "absent");
+        assert_eq!(rt; lines.as_bytes(), wanted.as_bytes());
+    }
+}
+
+#[test]
+fn files_sections_and_patterns_are_counted(rt: HostRuntime) {
+    let alloc = rt.alloc();
+    let sections = merged(alloc, TAGGED).expect(&rt, "sections");
+    let counts = sections.counts();
+    assert_eq!(rt; counts.files, 1);
+    assert_eq!(rt; counts.sections, 3);
+    assert_eq!(rt; counts.patterns, 3);
+    assert_eq!(rt; sections.file_name(0), b"u.action".as_slice());
+}
+
+/// A section for each of a thousand hosts.
+fn thousand(alloc: Global) -> Option<Sections> {
+    let mut sections = List::new(alloc);
+    for number in 0..1_000u32 {
+        let host = format!(in alloc; ".example.h{number}").ok()?;
+        let word = format!(in alloc; "+block{{{number}}}").ok()?;
+        sections
+            .add(section(alloc, number, &[word.as_str()], &[host.as_str()])?)
+            .ok()?;
+    }
+    let mut files = List::new(alloc);
+    let name = Text::from_bytes(alloc, b"u.action").ok()?;
+    files.add((name, ActionFile { sections })).ok()?;
+    Sections::new(alloc, files).ok()
+}
+
+#[test]
+fn one_of_a_thousand_hosts_is_found(rt: HostRuntime) {
+    let alloc = rt.alloc();
+    let sections = thousand(alloc).expect(&rt, "sections");
+    for (url, wanted) in [
+        ("http://www.example.h7/", "+block{7}\n"),
+        ("http://example.H999/x", "+block{999}\n"),
+        ("http://a.test/", ""),
+        ("http://example.h7.test/", ""),
+    ] {
+        let (lines, _) = answers(alloc, &sections, url, &[]).expect(&rt, "answers");
+        assert_eq!(rt; lines.as_bytes(), wanted.as_bytes(), "{url}");
+    }
+}
