@@ -1,5 +1,5 @@
 -- What a map from names has, once a name is added.
-use Rattle.std.proofs.Common.{◌≡◌, ℕ, Bool, true, false, cond, List, Option, Some, None, Vec, refl, sym, ap, subst, ◌∙◌, inl, inr, ⊎_elim, nat_cmp, bytes_eq}
+use Rattle.std.proofs.Common.{◌≡◌, ℕ, Bool, true, false, cond, List, Option, Vec, sym, subst, ◌∙◌, ⊎_elim, nat_cmp, bytes_eq}
 use Rattle.std.proofs.lemmas.Bool.{cases_Bool, cond-true, cond-false}
 use Rattle.std.proofs.lemmas.Map.Text.{is_eq-slice_cmp}
 use Rattle.std.specs.BTreeMap.{BTreeMap}

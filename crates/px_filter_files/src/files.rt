@@ -146,13 +146,7 @@ fn refusal<'l>(
 {
     match heading {
         Some(heading) => heading_refusal(heading, seen),
-        None => {
-            if begun {
-                None
-            } else {
-                Some(JOB_BEFORE_FILTER)
-            }
-        }
+        None => { if begun { None } else { Some(JOB_BEFORE_FILTER) } }
     }
 }
 
@@ -237,7 +231,14 @@ impl FilterFile {
             }
             add_key(&heading, &mut seen)?;
             let below = &lines[at + 1..];
-            add_filter(alloc, &heading, line.number, below, &mut filters, &mut skipped)?;
+            add_filter(
+                alloc,
+                &heading,
+                line.number,
+                below,
+                &mut filters,
+                &mut skipped,
+            )?;
             begun = true;
         }
         Ok(FilterFile { filters, skipped })

@@ -97,7 +97,10 @@ impl Keyword {
         ensures keyword { result ≡ keyword_at text.now }
         ensures within { IfSome result (λ keyword. length (word_of keyword) ≤ length text.now) }
     {
-        KEYWORDS.iter().copied().find(|keyword| text.starts_with(keyword.word()))
+        KEYWORDS
+            .iter()
+            .copied()
+            .find(|keyword| text.starts_with(keyword.word()))
     }
 
     /// The name behind the keyword, which may be empty.

@@ -47,7 +47,12 @@ fn gives_the_first_refusal(rt: HostRuntime) -> Result<(), Fail> {
         (&["s/a/b/"], 1, 25, "JobBeforeFilter"),
         (&["s/a/b/", "FILTER:"], 1, 25, "JobBeforeFilter"),
         (&["FILTER:"], 1, 26, "NameMissing"),
-        (&["FILTER: f a", "FILTER:", "FILTER: f a"], 2, 26, "NameMissing"),
+        (
+            &["FILTER: f a", "FILTER:", "FILTER: f a"],
+            2,
+            26,
+            "NameMissing",
+        ),
         (&["EXTERNAL-FILTER:  "], 1, 26, "NameMissing"),
         (&["FILTER: f a", "FILTER: f a"], 2, 27, "NameTwice"),
         (
@@ -135,15 +140,22 @@ const FIRST: [&str; 10] = [
 #[test]
 fn finds_the_first_filter_of_a_kind_and_name(rt: HostRuntime) -> Result<(), Fail> {
     let alloc = rt.alloc();
+    let first = file(alloc, &FIRST)?;
+    let second = file(alloc, &["FILTER: f", "s/a/2/", "FILTER: g"])?;
+    assert_eq!(rt; first.filters.len(), 5);
+    assert_eq!(rt; second.filters.len(), 2);
     let mut files = Vec::new(alloc);
-    for texts in [FIRST.as_slice(), ["FILTER: f", "s/a/2/", "FILTER: g"].as_slice()] {
-        let file = file(alloc, texts)?;
-        assert!(rt; file.filters.len() < 9);
-        files.push(file)?;
-    }
+    files.push(first)?;
+    files.push(second)?;
     let filters = Filters::new(alloc, List::from_vec(files))?;
     shared(&filters);
-    assert_eq!(rt; filters.counts(), FilterCounts { files: 2, filters: 7 });
+    assert_eq!(rt;
+        filters.counts(),
+        FilterCounts {
+            files: 2,
+            filters: 7
+        }
+    );
     let mut warm = filters.warm(alloc)?;
     let vars = no_vars(alloc);
     let rows = [
@@ -158,11 +170,19 @@ fn finds_the_first_filter_of_a_kind_and_name(rt: HostRuntime) -> Result<(), Fail
         let filter = filters.find(kind, b"f").ok_or("no filter")?;
         let outcome = filter.run(alloc, b"a", &vars)?;
         assert_eq!(rt; outcome.text.as_bytes(), text.as_bytes());
-        let outcome = warm.try_run(alloc, kind, b"f", b"a", &vars)?.ok_or("no hit")?;
+        let outcome = warm
+            .try_run(alloc, kind, b"f", b"a", &vars)?
+            .ok_or("no hit")?;
         assert_eq!(rt; outcome.text.as_bytes(), text.as_bytes());
     }
     assert!(rt; filters.find(FilterKind::ClientTagger, b"g").is_none());
-    assert!(rt; warm.try_run(alloc, FilterKind::ClientTagger, b"g", b"a", &vars)?.is_none());
-    assert!(rt; warm.try_run(alloc, FilterKind::Content, b"f", b"b", &vars)?.is_none());
+    assert!(rt;
+        warm.try_run(alloc, FilterKind::ClientTagger, b"g", b"a", &vars)?
+            .is_none()
+    );
+    assert!(rt;
+        warm.try_run(alloc, FilterKind::Content, b"f", b"b", &vars)?
+            .is_none()
+    );
     Ok(())
 }

@@ -34,10 +34,7 @@ impl<'f> Model for WarmFilters<'f> {
 }
 
 /// Room for what each filter keeps.
-fn none_kept<'f>(
-    alloc: Global,
-    filters: &[NamedFilter],
-) -> Result<Vec<Option<KeptFilter<'f>>>, Mem>
+fn none_kept<'f>(alloc: Global, filters: &[NamedFilter]) -> Result<Vec<Option<KeptFilter<'f>>>, Mem>
     ensures len { IfOk result (λ kept. length kept.items ≡ length filters.now) }
     ensures none { IfOk result (λ kept. AreKeptOf filters.now kept.items) }
 {
@@ -95,7 +92,13 @@ impl<'f> WarmFilters<'f> {
     {
         let filters = self.filters;
         match filters.place(kind, name) {
-            Some(at) => run_kept(alloc, &filters.as_slice()[at].filter, &mut self.kept[at], text, vars),
+            Some(at) => run_kept(
+                alloc,
+                &filters.as_slice()[at].filter,
+                &mut self.kept[at],
+                text,
+                vars,
+            ),
             None => Ok(None),
         }
     }

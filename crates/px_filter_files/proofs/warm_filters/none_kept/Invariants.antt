@@ -1,4 +1,4 @@
-use Rattle.std.proofs.Common.{◌≡◌, Option, None, map, take}
+use Rattle.std.proofs.Common.{◌≡◌, None, map, take}
 use Rattle.px_filter_files.proofs.warm_filters.none_kept.Given as goal
 
 abbrev pub invariant-filters : goal.invariant-filters
