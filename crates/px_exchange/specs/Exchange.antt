@@ -1,7 +1,7 @@
 -- One exchange, joined from its parts: judging, dialling, sending and answering.
 use Rattle.std.specs.Prelude.{◌≡◌, ℕ, ◌⊎◌, List, Option, None, Some}
 use Rattle.px_base.specs.Dials.{DialerState}
-use Rattle.px_exchange.specs.declared.snapshots.Config.{Config}
+use Rattle.px_exchange.specs.declared.configs.Config.{Config}
 use Rattle.px_exchange.specs.declared.judging.LocalReply.{LocalReply}
 use Rattle.px_exchange.specs.declared.judging.Judgement.{Judgement}
 use Rattle.px_exchange.specs.declared.judging.Judgement.TheVariants as judgement

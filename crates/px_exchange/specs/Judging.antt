@@ -8,7 +8,7 @@ use Rattle.px_head.specs.Names.{has_field, is_connection_word}
 use Rattle.px_head.specs.Prints.{request_line, printed_head}
 use Rattle.px_exchange.specs.declared.wire.TheConstants.{GET, HTTP_PORT, HOST, CONNECTION, CLOSE, TRANSFER_ENCODING, CONTENT_LENGTH, EXPECT, NOT_BUILT}
 use Rattle.px_exchange.specs.declared.targets.Target.{Target}
-use Rattle.px_exchange.specs.declared.snapshots.Config.{Config}
+use Rattle.px_exchange.specs.declared.configs.Config.{Config}
 use Rattle.px_exchange.specs.declared.pages.Page.TheVariants as page
 use Rattle.px_exchange.specs.declared.judging.Plan.{Plan}
 use Rattle.px_exchange.specs.declared.judging.Judgement.{Judgement}

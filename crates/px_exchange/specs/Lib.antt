@@ -9,4 +9,3 @@ pub mod Returning
 pub mod Hearing
 pub mod Dialling
 pub mod Exchange
-pub mod Configs

@@ -12,14 +12,15 @@ ghost use Rattle.px_exchange.specs.Judging.{Judged};
 ghost use Rattle.px_exchange.specs.Returning.{ReturnsSome, SaysDue, TalkCause, WriteCause, IsHeard};
 ghost use Rattle.px_exchange.specs.Exchange.{Answers};
 
+use crate::configs::Config;
 use crate::dialling::dial_and_send;
 use crate::dues::{Due, page_due};
 use crate::judging::{Handed, HeadSeen, Judgement, judge, read_request};
 use crate::notes::{After, Conclusion, ExchangeNote, Exchanged, broken};
 use crate::pages::Page;
-use crate::snapshots::{Config, Snapshot};
 use crate::talks::Talked;
 use px_base::{Dialer, Mem, Peer, Sink, SinkFault, Source, Text, write_all};
+use px_publish::Snapshot;
 use px_streams::Feed;
 use std::alloc::Global;
 

@@ -5,7 +5,7 @@ ghost use Rattle.px_exchange.specs.Judging.{is_built, keeps, sent_fields, sent_h
 use crate::fields::{keep_of_request, push_field};
 use crate::pages::Page;
 use crate::pumps::Asked;
-use crate::snapshots::Config;
+use crate::configs::Config;
 use crate::targets::{Target, read_target};
 use crate::wire::{
     CLOSE, CONNECTION, CONTENT_LENGTH, EXPECT, GET, HOST, HTTP_PORT, NOT_BUILT, TRANSFER_ENCODING,

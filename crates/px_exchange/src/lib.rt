@@ -3,6 +3,7 @@
 
 mod answering;
 mod bodies;
+mod configs;
 mod dialling;
 mod dues;
 mod exchanges;
@@ -13,18 +14,17 @@ mod judging;
 mod notes;
 mod pages;
 mod pumps;
-mod snapshots;
 mod talks;
 mod targets;
 pub mod wire;
 
+pub use configs::Config;
 pub use exchanges::{answer_request, exchange};
 pub use judging::{Handed, HeadSeen};
 pub use notes::{After, Conclusion, Ending, ExchangeNote, Exchanged};
 pub use pages::Page;
 pub use pumps::{Asked, Flow, Pump};
 pub use px_streams::Feed;
-pub use snapshots::{Config, Configs, FixedConfig, Snapshot};
 
 #[cfg(test)]
 mod pump_tests;

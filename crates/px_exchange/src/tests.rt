@@ -1,5 +1,5 @@
 //! Exchanges over objects in memory.
-use crate::{After, Config, Ending, Feed, HeadSeen, Page, Snapshot, exchange};
+use crate::{After, Config, Ending, Feed, HeadSeen, Page, exchange};
 use px_base::{Answer, List, MemDialer, Peer, TapeIn, TapeOut, Text};
 use std::alloc::Global;
 use std::process::Abort;

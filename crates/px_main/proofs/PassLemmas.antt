@@ -1,5 +1,5 @@
 -- What a command did, step by step.
-use Rattle.std.proofs.Common.{rules, ◌≡◌, ℕ, List, IsTrue, Option, Some, None, Result, Ok, Err, refl, sym, ap, ◌∙◌, ◌⊎◌, inl, inr, subst}
+use Rattle.std.proofs.Common.{rules, ◌≡◌, ℕ, List, [], ◌∷◌, IsTrue, Option, Some, None, Result, Ok, Err, refl, sym, ap, ◌∙◌, ◌⊎◌, inl, inr, subst}
 use Rattle.px_base.specs.Causes.{Rose}
 use Rattle.px_base.specs.Contents.{Contents, FilesState, FilesGoOn, FilesCause, Unchanged, OthersUnchanged, Puts}
 use Rattle.px_base.specs.Sources.{SourceState, SourceGoesOn}
@@ -8,6 +8,7 @@ use Rattle.px_base.specs.Moments.{ClockState, ClockGoesOn}
 use Rattle.px_base.specs.declared.dials.Answer.{Answer}
 use Rattle.px_base.specs.declared.faults.FilesFault.{FilesFault}
 use Rattle.px_base.specs.Dials.{DialerState, fresh_dialer, finished_links}
+use Rattle.px_exchange.specs.declared.configs.Config.{Config}
 use Rattle.px_exchange.specs.declared.notes.ExchangeNote.{ExchangeNote}
 use Rattle.px_serve.specs.declared.ends.SessionEnd.{SessionEnd}
 use Rattle.px_serve.specs.Ends.{ReadEndCause, WriteEndCause}
@@ -16,7 +17,7 @@ use Rattle.px_serve.specs.Sessions.{Caller, Serves}
 use Rattle.px_main.specs.Sents.{sent_text}
 use Rattle.px_main.specs.declared.statuses.Status.{Status}
 use Rattle.px_main.specs.Statuses.{status_after}
-use Rattle.px_main.specs.Passes.{Outside, Untouched, IsSame, GivesUp, HasAnswers, PutsSent, Withholds, PutsAfter, HasServed, IsServed, caller_of, FailsOnOrigin, RefusesOrigin, Passes, RunsLoaded}
+use Rattle.px_main.specs.Passes.{Outside, Untouched, IsSame, GivesUp, HasAnswers, PutsSent, Withholds, PutsAfter, HasServed, IsServed, caller_of, IsFixed, FailsOnOrigin, RefusesOrigin, Passes, RunsLoaded}
 
 -- files that were only read
 pub record OnlyRead (old new : FilesState) : Type 0 where
@@ -110,19 +111,24 @@ sink_same o = search rules
 pub clock_same : (t : ClockState) → ClockGoesOn t t
 clock_same t = search rules
 
+pub is_fixed : {looks : Looks} {config : Config} → IsTrue looks.tells → looks.view ≡ config ∷ []
+    → ((k : ℕ) → looks.coming k ≡ record { number = 0; config = config }) → IsFixed looks config
+is_fixed t v k = record { tells = t; view = v; coming = k }
+
 -- what a session gave, with the dialer that is just made and the one client
-pub has_served : {tags : List (List ℕ)} {answers : List Answer} {i i' : SourceState} {o o' : SinkState} {t t' : ClockState} {e : SessionEnd} {made : Option (List ℕ)} {looks looks' : Looks} {d d' : DialerState} {notes : List ExchangeNote} {caller : Caller}
+pub has_served : {tags : List (List ℕ)} {answers : List Answer} {i i' : SourceState} {o o' : SinkState} {t t' : ClockState} {e : SessionEnd} {made : Option (List ℕ)} {looks looks' : Looks} {config : Config} {d d' : DialerState} {notes : List ExchangeNote} {caller : Caller}
     → Serves caller looks looks' i i' (record { client_out = o; dialer = d; clock = t }) (record { client_out = o'; dialer = d'; clock = t' }) notes e
-    → caller ≡ caller_of tags → d ≡ fresh_dialer answers → looks.held.number ≡ 0
+    → caller ≡ caller_of tags → d ≡ fresh_dialer answers → IsFixed looks config
     → ReadEndCause i i' e → WriteEndCause o o' e
     → ((x : List ℕ) → made ≡ Some x → x ≡ sent_text (finished_links d'.dials))
     → HasServed tags answers i i' o o' t t' e made
-has_served {looks = looks} {looks' = looks'} {d' = d'} {notes = notes} serves client fresh one read write made_is = record {
+has_served {looks = looks} {looks' = looks'} {config = config} {d' = d'} {notes = notes} serves client fresh fixed read write made_is = record {
   text = sent_text (finished_links d'.dials);
   served = record {
     looks = looks;
     looks_after = looks';
-    one = one;
+    config = config;
+    fixed = fixed;
     dialer = d';
     notes = notes;
     serves = rw (client, fresh) at serves;

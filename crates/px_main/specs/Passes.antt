@@ -8,6 +8,7 @@ use Rattle.px_base.specs.Moments.{ClockState, ClockGoesOn}
 use Rattle.px_base.specs.Dials.{DialerState, fresh_dialer, finished_links}
 use Rattle.px_base.specs.declared.dials.Answer.{Answer}
 use Rattle.px_base.specs.declared.faults.FilesFault.{FilesFault}
+use Rattle.px_exchange.specs.declared.configs.Config.{Config}
 use Rattle.px_exchange.specs.declared.notes.ExchangeNote.{ExchangeNote}
 use Rattle.px_serve.specs.declared.ends.SessionEnd.{SessionEnd}
 use Rattle.px_serve.specs.Ends.{ReadEndCause, WriteEndCause}
@@ -103,11 +104,18 @@ PutsAfter old new sent text e s = PutsSent old new sent text e s ⊎ Withholds o
 abbrev pub caller_of : List (List ℕ) → Caller
 caller_of tags = record { tags = tags; peer = codes "127.0.0.1" }
 
+-- there is one configuration, with the number 0, and each look gives it
+pub record IsFixed (looks : Looks) (config : Config) : Type 0 where
+  pub tells : IsTrue looks.tells
+  pub view : looks.view ≡ config ∷ []
+  pub coming : (k : ℕ) → looks.coming k ≡ record { number = 0; config = config }
+
 -- a session over the input and the answers, with one configuration, and the text of SENT
 pub record IsServed (tags : List (List ℕ)) (answers : List Answer) (i i' : SourceState) (o o' : SinkState) (t t' : ClockState) (e : SessionEnd) (text : List ℕ) : Type 0 where
   pub looks : Looks
   pub looks_after : Looks
-  pub one : looks.held.number ≡ 0
+  pub config : Config
+  pub fixed : IsFixed looks config
   pub dialer : DialerState
   pub notes : List ExchangeNote
   pub serves : Serves (caller_of tags) looks looks_after i i'

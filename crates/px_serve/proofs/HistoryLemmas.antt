@@ -1,10 +1,12 @@
 -- One more exchange.
-use Rattle.std.proofs.Common.{◌≡◌, ℕ, ◌+◌, ◌≤◌, suc, IsTrue, List, [], ◌∷◌, ◌++◌, length, map, sym, ap, ◌∙◌, refl, arith, add-one, length-append}
-use Rattle.std.proofs.lemmas.List.{map-append, append-nil}
+use Rattle.std.specs.Prelude.{unwrap_or}
+use Rattle.std.proofs.Common.{◌≡◌, ℕ, rules, ◌+◌, ◌≤◌, suc, IsTrue, List, [], ◌∷◌, ◌++◌, length, map, slice_get, Some, All, sym, ap, ◌∙◌, refl, arith, add-one, length-append}
+use Rattle.std.proofs.lemmas.List.{map-append, append-nil, append_assoc}
+use Rattle.std.proofs.lemmas.List.Elements.{All-nil, All-push, All-weaker}
 use Rattle.px_base.specs.Moments.{ClockState}
-use Rattle.px_exchange.specs.declared.snapshots.Config.{Config}
-use Rattle.px_exchange.specs.Configs.{Entry}
-use Rattle.px_serve.specs.Histories.{Begun, Looks, firsts, Take, NoneOlder, Noted, TakesOne, entry_of, moment_of}
+use Rattle.px_exchange.specs.declared.configs.Config.{Config}
+use Rattle.px_publish.specs.Views.{Entry, EndsIn, GoesOn}
+use Rattle.px_serve.specs.Histories.{Begun, Looks, UsesOf, firsts, Take, NoneOlder, Noted, TakesOne, entry_of, held_number, moment_of}
 
 -- the length of a list with one more
 one_more : (xs : List Begun) (x : Begun) → length (xs ++ x ∷ []) ≡ suc (length xs)
@@ -36,22 +38,52 @@ none_older_more : (first last number : ℕ) (begun : List Begun) (b : Begun) →
 none_older_more first last number [] b h newer e = (omega arith, omega arith)
 none_older_more first last number (x ∷ xs) b h newer e = (h.0, none_older_more x.number last number xs b h.1 newer e)
 
-entry_is : (b : Begun) (e : Entry Config) → b.number ≡ e.number → b.config ≡ e.config → entry_of b ≡ e
-entry_is b e n c = rw (n, c) refl
+some_is : {A : Type 0} (x y : A) → Some x ≡ Some y → x ≡ y
+some_is x y e = ap (λ o. unwrap_or o x) e
+
+entry_is : (a e : Entry Config) → a.number ≡ e.number → a.config ≡ e.config → a ≡ e
+entry_is a e n c = rw (n, c) refl
+
+-- a view ends in one entry
+ends_in_one : (view : List Config) (a e : Entry Config) → EndsIn view a → EndsIn view e → a ≡ e
+ends_in_one view a e h k =
+    let number : a.number ≡ e.number = omega (arith, h.number, k.number) in
+    entry_is a e number (some_is a.config e.config (sym h.config ∙ ap (λ (n : ℕ). slice_get view n) number ∙ k.config))
+
+views_go_on : {a b c : List Config} → GoesOn a b → GoesOn b c → GoesOn a c
+views_go_on {a = a} {c = c} h k = record {
+  prefix = (
+      h.prefix.0 ++ k.prefix.0,
+      sym (append_assoc a h.prefix.0 k.prefix.0) ∙ ap (λ (xs : List Config). xs ++ k.prefix.0) h.prefix.1 ∙ k.prefix.1,
+    );
+  longer = omega (arith, h.longer, k.longer);
+  stands = λ number config e. k.stands number config (h.stands number config e);
+  same = λ e. k.same (omega (arith, h.longer, k.longer, e)) ∙ h.same (omega (arith, h.longer, k.longer, e));
+}
+
+view_same : (view : List Config) → GoesOn view view
+view_same view = search rules
+
+-- entries that were used stand in what goes on
+uses_on : (view view' : List Config) (begun : List Begun) → GoesOn view view' → All (UsesOf view) begun → All (UsesOf view') begun
+uses_on view view' begun on h = All-weaker (UsesOf view) (UsesOf view') (λ b used. on.stands b.number b.config used) begun h
 
 -- one more exchange behind those that were noted
 pub noted_more : (first looks looks' : Looks) (clock now next : ClockState) (begun : List Begun) (b : Begun) → TakesOne looks looks' now next b
     → Noted first looks clock now begun → Noted first looks' clock next (begun ++ b ∷ [])
 noted_more first looks looks' clock now next begun b one h = record {
   looks_tell = one.looks_tell ∙ h.looks_tell;
+  pair = one.pair ∙ h.pair;
   clock_tells = one.clock_tells ∙ h.clock_tells;
   entries = λ t.
       let told : IsTrue looks.tells = h.looks_tell ∙ t in
-      take_more entry_of first.coming looks.coming looks'.coming begun b (h.entries t) (entry_is b looks'.held one.number one.config ∙ one.look told) (one.looks_left told);
+      take_more entry_of first.coming looks.coming looks'.coming begun b (h.entries t) (ends_in_one looks'.view (entry_of b) (looks.coming 0) one.used (one.look told)) (one.looks_left told);
   moments = λ t.
       let told : IsTrue now.tells = h.clock_tells ∙ t in
       take_more moment_of clock.coming now.coming next.coming begun b (h.moments t) (one.moment told) (one.moments_left told);
-  none_older = none_older_more first.held.number looks.held.number looks'.held.number begun b h.none_older one.newer one.number;
+  goes_on = views_go_on h.goes_on one.goes_on;
+  used = All-push (UsesOf looks'.view) begun b (uses_on looks.view looks'.view begun one.goes_on h.used) one.used.config;
+  none_older = none_older_more (held_number first) (held_number looks) (held_number looks') begun b h.none_older (omega (arith, one.goes_on.longer)) (omega (arith, one.used.number));
 }
 
 -- no exchange more
@@ -62,8 +94,11 @@ noted_none first looks clock now begun h = rw append-nil h
 pub none_noted : (looks : Looks) (clock : ClockState) → Noted looks looks clock clock []
 none_noted looks clock = record {
   looks_tell = refl;
+  pair = refl;
   clock_tells = refl;
   entries = λ t. record { taken = refl; left = λ k. ap looks.coming (omega arith) };
   moments = λ t. record { taken = refl; left = λ k. ap clock.coming (omega arith) };
+  goes_on = view_same looks.view;
+  used = All-nil (UsesOf looks.view);
   none_older = omega arith;
 }

@@ -1,10 +1,10 @@
 -- The exchanges that a session began: the configuration and the moment of each.
-use Rattle.std.specs.Prelude.{◌≡◌, ℕ, ◌+◌, ◌≤◌, zero, suc, Bool, IsTrue, List, [], ◌∷◌, ◌++◌, length, map}
+use Rattle.std.specs.Prelude.{◌≡◌, ℕ, ◌+◌, ◌-◌, ◌≤◌, zero, suc, Bool, IsTrue, List, [], ◌∷◌, ◌++◌, length, map, slice_get, Option, Some, All}
 use Rattle.px_base.specs.Moments.{ClockState}
-use Rattle.px_exchange.specs.declared.snapshots.Config.{Config}
+use Rattle.px_exchange.specs.declared.configs.Config.{Config}
 use Rattle.px_exchange.specs.declared.notes.ExchangeNote.{ExchangeNote}
 use Rattle.px_exchange.specs.declared.notes.Conclusion.{Conclusion}
-use Rattle.px_exchange.specs.Configs.{Entry}
+use Rattle.px_publish.specs.Views.{Entry, EndsIn, GoesOn, Pair}
 
 -- an exchange that was begun: the configuration that it used with that one's number, its moment, and how it was concluded
 pub record Begun : Type 0 where
@@ -22,12 +22,21 @@ entry_of b = record { number = b.number; config = b.config }
 abbrev pub moment_of : Begun → ℕ
 moment_of b = b.moment
 
--- what contracts see of what gives configurations: whether it tells its looks to come, the entry that it holds, and the entry
--- that the look after so many others will give
+-- what contracts see of what gives configurations: whether it tells its looks to come, the entries that it has had, of which it
+-- holds the last, the publisher and readers that it is of, and the entry that the look after so many others will give
 pub record Looks : Type 0 where
   pub tells : Bool
-  pub held : Entry Config
+  pub view : List Config
+  pub pair : Option Pair
   pub coming : ℕ → Entry Config
+
+-- the number of the entry that is held
+abbrev pub held_number : Looks → ℕ
+held_number looks = length looks.view - 1
+
+-- the exchange used an entry of that view
+abbrev pub UsesOf : List Config → Begun → Type 0
+UsesOf view b = slice_get view b.number ≡ Some b.config
 
 -- the first n values
 abbrev pub firsts : {E : Type 0} → (ℕ → E) → ℕ → List E
@@ -47,19 +56,22 @@ NoneOlder first (b ∷ bs) last = (first ≤ b.number) × NoneOlder b.number bs 
 -- each exchange used the entry of one look, and took one moment
 pub record Noted (looks looks' : Looks) (clock clock' : ClockState) (begun : List Begun) : Type 0 where
   pub looks_tell : looks'.tells ≡ looks.tells
+  pub pair : looks'.pair ≡ looks.pair
   pub clock_tells : clock'.tells ≡ clock.tells
   pub entries : IsTrue looks.tells → Take entry_of looks.coming looks'.coming begun
   pub moments : IsTrue clock.tells → Take moment_of clock.coming clock'.coming begun
-  pub none_older : NoneOlder looks.held.number begun looks'.held.number
+  pub goes_on : GoesOn looks.view looks'.view
+  pub used : All (UsesOf looks'.view) begun
+  pub none_older : NoneOlder (held_number looks) begun (held_number looks')
 
 -- for one exchange one look was taken, whose entry it used, and one moment
 pub record TakesOne (looks looks' : Looks) (clock clock' : ClockState) (b : Begun) : Type 0 where
   pub looks_tell : looks'.tells ≡ looks.tells
+  pub pair : looks'.pair ≡ looks.pair
   pub clock_tells : clock'.tells ≡ clock.tells
-  pub number : b.number ≡ looks'.held.number
-  pub config : b.config ≡ looks'.held.config
-  pub newer : looks.held.number ≤ looks'.held.number
-  pub look : IsTrue looks.tells → looks'.held ≡ looks.coming 0
+  pub goes_on : GoesOn looks.view looks'.view
+  pub used : EndsIn looks'.view (entry_of b)
+  pub look : IsTrue looks.tells → EndsIn looks'.view (looks.coming 0)
   pub looks_left : IsTrue looks.tells → (k : ℕ) → looks'.coming k ≡ looks.coming (k + 1)
   pub moment : IsTrue clock.tells → b.moment ≡ clock.coming 0
   pub moments_left : IsTrue clock.tells → (k : ℕ) → clock'.coming k ≡ clock.coming (k + 1)

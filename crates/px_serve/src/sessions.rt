@@ -1,15 +1,16 @@
 // One session.
 ghost use Rattle.std.specs.Prelude.{◌≡◌, ◌≢◌, ◌<◌, ◌≤◌, ◌+◌, ◌++◌, ◌∷◌, [], List, ℕ, IsTrue, None, Some, length, vec_len, vec_capacity};
 ghost use Rattle.px_base.specs.Sources.{SourceGoesOn};
-ghost use Rattle.px_exchange.specs.Configs.{Entry};
+ghost use Rattle.px_publish.specs.Views.{Entry};
 ghost use Rattle.px_serve.specs.Ends.{end_of_bytes, ReadEndCause, WriteEndCause, ReadTurnCause, WriteTurnCause};
 ghost use Rattle.px_serve.specs.Histories.{Looks};
 ghost use Rattle.px_serve.specs.Sessions.{Caller, Objects, Lasts, Begins, Turned, Serves};
 
 use crate::ends::{REQUEST_LIMIT, SessionEnd, end_after, is_empty_lines};
 use px_base::{Clock, Dialer, List, Peer, Sink, Source, Text};
-use px_exchange::{Config, Configs, ExchangeNote, Handed, HeadSeen, answer_request};
+use px_exchange::{Config, ExchangeNote, Handed, HeadSeen, answer_request};
 use px_head::HEAD_LIMIT;
+use px_publish::Configs;
 use px_streams::{Ahead, Front, ReadFault, read_front};
 use std::alloc::Global;
 
@@ -59,8 +60,8 @@ where
     requires number { number < REQUEST_LIMIT }
     requires room { vec_len notes.old < vec_capacity notes.old }
     ensures begins { Begins (record { tags = client.now.tags.now; peer = client.now.peer.now.address }) number seen.now
-        (record { tells = K.tells; held = K.held configs.old; coming = K.coming configs.old })
-        (record { tells = K.tells; held = K.held configs.new; coming = K.coming configs.new })
+        (record { tells = K.tells; view = K.view configs.old; pair = K.pair configs.old; coming = K.coming configs.old })
+        (record { tells = K.tells; view = K.view configs.new; pair = K.pair configs.new; coming = K.coming configs.new })
         (record { client_out = O.state client_out.old; dialer = D.state dialer.old; clock = T.state clock.old })
         (record { client_out = O.state client_out.new; dialer = D.state dialer.new; clock = T.state clock.new })
         notes.old.items notes.new.items result }
@@ -130,8 +131,8 @@ where
     requires number { number < REQUEST_LIMIT }
     requires room { vec_len notes.old < vec_capacity notes.old }
     ensures turned { Turned (record { tags = client.now.tags.now; peer = client.now.peer.now.address }) number
-        (record { tells = K.tells; held = K.held configs.old; coming = K.coming configs.old })
-        (record { tells = K.tells; held = K.held configs.new; coming = K.coming configs.new })
+        (record { tells = K.tells; view = K.view configs.old; pair = K.pair configs.old; coming = K.coming configs.old })
+        (record { tells = K.tells; view = K.view configs.new; pair = K.pair configs.new; coming = K.coming configs.new })
         (S.state client_in.old) (S.state client_in.new) ahead.old ahead.new
         (record { client_out = O.state client_out.old; dialer = D.state dialer.old; clock = T.state clock.old })
         (record { client_out = O.state client_out.new; dialer = D.state dialer.new; clock = T.state clock.new })
@@ -196,8 +197,8 @@ where
     requires none { notes.old.items ≡ [] }
     requires room { REQUEST_LIMIT ≤ vec_capacity notes.old }
     ensures serves { Serves (record { tags = client.now.tags.now; peer = client.now.peer.now.address })
-        (record { tells = K.tells; held = K.held configs.old; coming = K.coming configs.old })
-        (record { tells = K.tells; held = K.held configs.new; coming = K.coming configs.new })
+        (record { tells = K.tells; view = K.view configs.old; pair = K.pair configs.old; coming = K.coming configs.old })
+        (record { tells = K.tells; view = K.view configs.new; pair = K.pair configs.new; coming = K.coming configs.new })
         (S.state client_in.old) (S.state client_in.new)
         (record { client_out = O.state client_out.old; dialer = D.state dialer.old; clock = T.state clock.old })
         (record { client_out = O.state client_out.new; dialer = D.state dialer.new; clock = T.state clock.new })
@@ -239,8 +240,8 @@ where
     D: Dialer,
     T: Clock,
     ensures serves { Serves (record { tags = client.now.tags.now; peer = client.now.peer.now.address })
-        (record { tells = K.tells; held = K.held configs.old; coming = K.coming configs.old })
-        (record { tells = K.tells; held = K.held configs.new; coming = K.coming configs.new })
+        (record { tells = K.tells; view = K.view configs.old; pair = K.pair configs.old; coming = K.coming configs.old })
+        (record { tells = K.tells; view = K.view configs.new; pair = K.pair configs.new; coming = K.coming configs.new })
         (S.state client_in.old) (S.state client_in.new)
         (record { client_out = O.state client_out.old; dialer = D.state dialer.old; clock = T.state clock.old })
         (record { client_out = O.state client_out.new; dialer = D.state dialer.new; clock = T.state clock.new })
@@ -289,8 +290,8 @@ where
     D: Dialer,
     T: Clock,
     ensures serves { Serves (record { tags = tags.now; peer = peer.now.address })
-        (record { tells = K.tells; held = K.held configs.old; coming = K.coming configs.old })
-        (record { tells = K.tells; held = K.held configs.new; coming = K.coming configs.new })
+        (record { tells = K.tells; view = K.view configs.old; pair = K.pair configs.old; coming = K.coming configs.old })
+        (record { tells = K.tells; view = K.view configs.new; pair = K.pair configs.new; coming = K.coming configs.new })
         (S.state client_in.old) (S.state client_in.new)
         (record { client_out = O.state client_out.old; dialer = D.state dialer.old; clock = T.state clock.old })
         (record { client_out = O.state client_out.new; dialer = D.state dialer.new; clock = T.state clock.new })

@@ -2,7 +2,8 @@
 use crate::ends::end_after;
 use crate::{SessionEnd, serve_connection};
 use px_base::{Answer, FixedClock, List, MemDialer, Peer, TapeIn, TapeOut, Text};
-use px_exchange::{After, Config, Ending, FixedConfig, Page};
+use px_exchange::{After, Config, Ending, Page};
+use px_publish::{Configs, FixedConfig, StepConfig};
 use std::alloc::Global;
 use std::process::Abort;
 use std::sync::Arc;
@@ -21,6 +22,7 @@ struct Row<'a> {
 struct Outcome {
     end: SessionEnd,
     endings: List<Ending>,
+    numbers: List<u64>,
     returned: Text,
     finished: bool,
     host: Text,
@@ -32,8 +34,24 @@ struct Outcome {
 /// The moments of the clock, in order.
 const MOMENTS: [u64; 2] = [1_000_000_000, 1_000_000_007];
 
-/// Serves a row, at one moment for each request.
+/// Serves a row with one configuration.
 fn serve(rt: &impl Abort, alloc: Global, row: Row<'_>) -> Outcome {
+    let config = Arc::new(alloc, Config {}).expect(rt, "memory");
+    let mut configs = FixedConfig::new(config);
+    let outcome = serve_with(rt, alloc, &mut configs, row);
+    for number in outcome.numbers.as_slice() {
+        assert_eq!(rt; *number, 0);
+    }
+    outcome
+}
+
+/// Serves a row with these configurations, at one moment for each request.
+fn serve_with<K: Configs<Held = Config>>(
+    rt: &impl Abort,
+    alloc: Global,
+    configs: &mut K,
+    row: Row<'_>,
+) -> Outcome {
     let Row {
         input,
         cuts,
@@ -49,8 +67,6 @@ fn serve(rt: &impl Abort, alloc: Global, row: Row<'_>) -> Outcome {
     for moment in MOMENTS {
         assert!(rt; moments.push(moment).is_ok());
     }
-    let config = Arc::new(alloc, Config {}).expect(rt, "memory");
-    let mut configs = FixedConfig::new(config);
     let mut client_in = TapeIn::new(alloc, input, cuts, read_fails).expect(rt, "memory");
     let mut client_out = TapeOut::new(alloc, cuts, write_fails).expect(rt, "memory");
     let mut dialer = MemDialer::new(alloc, answers).expect(rt, "memory");
@@ -60,7 +76,7 @@ fn serve(rt: &impl Abort, alloc: Global, row: Row<'_>) -> Outcome {
     };
     let session = serve_connection(
         alloc,
-        &mut configs,
+        configs,
         &mut client_in,
         &mut client_out,
         &mut dialer,
@@ -69,14 +85,16 @@ fn serve(rt: &impl Abort, alloc: Global, row: Row<'_>) -> Outcome {
         &[],
     );
     let mut endings = List::new(alloc);
+    let mut numbers = List::new(alloc);
     for (note, moment) in session.exchanges.as_slice().iter().zip(MOMENTS) {
-        assert_eq!(rt; note.config, 0);
         assert_eq!(rt; note.moment, moment);
         assert!(rt; endings.push(note.ending).is_ok());
+        assert!(rt; numbers.push(note.config).is_ok());
     }
     let mut outcome = Outcome {
         end: session.end,
         endings,
+        numbers,
         returned: Text::from_bytes(alloc, client_out.taken()).expect(rt, "memory"),
         finished: client_out.finished(),
         host: Text::new(alloc),
@@ -109,6 +127,9 @@ fn link(rt: &impl Abort, alloc: Global, bytes: &[u8]) -> Option<Answer> {
 }
 
 const ONE_GET: &[u8] = b"GET http://a.test/x HTTP/1.1\r\nHost: a.test\r\n\r\n";
+
+const TWO_GETS: &[u8] =
+    b"GET http://a.test/x HTTP/1.1\r\nHost: a.test\r\n\r\nGET http://a.test/x HTTP/1.1\r\nHost: a.test\r\n\r\nGET ";
 
 const ANSWER: &[u8] = b"HTTP/1.1 200 OK\r\nContent-Length: 2\r\n\r\nhi";
 
@@ -170,10 +191,8 @@ fn a_stream_that_ends_before_a_head_is_whole_is_answered_by_nothing(rt: HostRunt
 
 #[test]
 fn a_second_request_is_refused_and_the_connection_closes(rt: HostRuntime) {
-    let input =
-        b"GET http://a.test/x HTTP/1.1\r\nHost: a.test\r\n\r\nGET http://a.test/x HTTP/1.1\r\nHost: a.test\r\n\r\nGET ";
     let row = Row {
-        input,
+        input: TWO_GETS,
         cuts: &[],
         read_fails: &[],
         write_fails: &[],
@@ -189,6 +208,29 @@ fn a_second_request_is_refused_and_the_connection_closes(rt: HostRuntime) {
     assert_eq!(rt; first, RETURNED);
     assert_eq!(rt; second, REFUSED);
     assert_eq!(rt; outcome.links, 1);
+}
+
+#[test]
+fn each_request_is_noted_with_the_number_of_its_own_look(rt: HostRuntime) {
+    let alloc = rt.alloc();
+    let mut list = List::new(alloc);
+    for _ in 0..2 {
+        let config = Arc::new(alloc, Config {}).expect(&rt, "memory");
+        assert!(rt; list.push(config).is_ok());
+    }
+    if list.is_empty() {
+        panic!(rt; "nothing to take");
+    }
+    let mut configs = StepConfig::new(list);
+    let row = Row {
+        input: TWO_GETS,
+        cuts: &[],
+        read_fails: &[],
+        write_fails: &[],
+        answer: link(&rt, alloc, ANSWER),
+    };
+    let outcome = serve_with(&rt, alloc, &mut configs, row);
+    assert_eq!(rt; outcome.numbers.as_slice(), [0, 1].as_slice());
 }
 
 #[test]

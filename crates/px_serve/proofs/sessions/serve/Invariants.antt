@@ -11,8 +11,8 @@ invariant-requests g l =
     let T = g.T.Clock.state in
     record {
       serving : Serving (record { tags = l.client.tags.now; peer = l.client.peer.now.address }) l.number
-          (record { tells = g.K.Configs.tells; held = g.K.Configs.held l.fn.configs; coming = g.K.Configs.coming l.fn.configs })
-          (record { tells = g.K.Configs.tells; held = g.K.Configs.held l.configs; coming = g.K.Configs.coming l.configs })
+          (record { tells = g.K.Configs.tells; view = g.K.Configs.view l.fn.configs; pair = g.K.Configs.pair l.fn.configs; coming = g.K.Configs.coming l.fn.configs })
+          (record { tells = g.K.Configs.tells; view = g.K.Configs.view l.configs; pair = g.K.Configs.pair l.configs; coming = g.K.Configs.coming l.configs })
           (S l.fn.client_in) (S l.client_in) l.ahead
           (record { client_out = O l.fn.client_out; dialer = D l.fn.dialer; clock = T l.fn.clock })
           (record { client_out = O l.client_out; dialer = D l.dialer; clock = T l.clock })

@@ -9,9 +9,9 @@ returns-clause-begins g c =
       takes = record {
         looks_tell = refl;
         clock_tells = c.now-moment.ensures.goes_on.tells_same;
-        number = c.current-snapshot.ensures.number;
-        config = c.current-snapshot.ensures.config;
-        newer = c.look.ensures.newer;
+        pair = c.look.ensures.pair;
+        goes_on = c.look.ensures.goes_on;
+        used = record { number = c.current-snapshot.ensures.number; config = c.current-snapshot.ensures.config };
         look = c.look.ensures.given;
         looks_left = c.look.ensures.coming;
         moment = c.now-moment.ensures.given;
