@@ -14,8 +14,7 @@ pub use fronts::{Front, read_front};
 /// What the constant of this crate is.
 pub fn constants()
     ensures { PIECE ≡ 8192 }
-{
-}
+{}
 
 #[cfg(test)]
 mod tests;

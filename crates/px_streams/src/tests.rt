@@ -34,8 +34,16 @@ fn a_read_asks_for_at_most_a_piece(rt: HostRuntime) {
 
 /// A stream, its cuts, and the block at its front.
 const ROWS: [(&[u8], &[usize], &[u8]); 3] = [
-    (b"GET / HTTP/1.1\r\n\r\nmore", &[], b"GET / HTTP/1.1\r\n\r\n"),
-    (b"GET / HTTP/1.1\r\n\r\nmore", &[1, 15, 1, 1], b"GET / HTTP/1.1\r\n\r\n"),
+    (
+        b"GET / HTTP/1.1\r\n\r\nmore",
+        &[],
+        b"GET / HTTP/1.1\r\n\r\n",
+    ),
+    (
+        b"GET / HTTP/1.1\r\n\r\nmore",
+        &[1, 15, 1, 1],
+        b"GET / HTTP/1.1\r\n\r\n",
+    ),
     (b"\nGET / HTTP/1.1\n\n", &[17], b"\nGET / HTTP/1.1\n\n"),
 ];
 
