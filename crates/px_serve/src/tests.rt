@@ -264,7 +264,9 @@ fn a_failing_call_of_the_client_ends_the_session_with_its_own_fault(rt: HostRunt
 
 /// A GET whose head has so many bytes.
 fn long_get(rt: &impl Abort, alloc: Global, len: usize) -> Text {
-    let mut head = Text::from_bytes(alloc, b"GET http://a.test/x HTTP/1.1\r\nX: ").expect(rt, "memory");
+    let mut head = Text::from_bytes(alloc, b"GET http://a.test/x HTTP/1.1\r\nX: ").expect(
+        rt, "memory",
+    );
     for _ in head.len()..len.saturating_sub(4) {
         head.push(b'x').expect(rt, "memory");
     }
