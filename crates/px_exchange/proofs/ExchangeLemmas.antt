@@ -64,8 +64,8 @@ rest_over : (plan : Plan) (taken mid taken' : List ℕ) (t : Talked) (x : Conclu
     → Forwards plan (λ d. Returns d taken taken' x) o ⊎ ((x ≡ broken after.NoMemory) × WantsOver plan taken taken' o)
 rest_over plan taken mid taken' t x o returns ended (inl says) =
     elim (forwards_either plan (λ d. Returns d taken taken' x) (λ d. WantsReturning d taken taken' x) o (forwards_also plan (λ d. SaysDue d taken mid t) (λ d. ReturnsSome d taken taken' x) o returns says)) [
-    | inl whole ↦ inl whole
-    | inr wants ↦ inr (wanting o wants)
+      | inl whole ↦ inl whole
+      | inr wants ↦ inr (wanting o wants)
     ]
   where
     concluded : (o2 : DialOutcome) → Forwards plan (λ d. WantsReturning d taken taken' x) o2 → x ≡ broken after.NoMemory
@@ -93,8 +93,8 @@ pub forward_answers : (g : Given) (plan : Plan) (old new : DialerState) (taken m
     → Answers g old new taken taken' x
 forward_answers g plan old new taken mid taken' t x j returns ended (inl d) =
     elim (rest_over plan taken mid taken' t x d.dial.outcome (λ due. returns due taken) ended d.gives) [
-    | inl whole ↦ inl (record { judgement = judgement.Forward plan; judged = j; does = with d (λ o. Forwards plan (λ due. Returns due taken taken' x) o) whole })
-    | inr wants ↦ inr (record { judgement = Some (judgement.Forward plan); judged = j; wants = inr (with d (λ o. WantsOver plan taken taken' o) wants.1); concluded = wants.0 })
+      | inl whole ↦ inl (record { judgement = judgement.Forward plan; judged = j; does = with d (λ o. Forwards plan (λ due. Returns due taken taken' x) o) whole })
+      | inr wants ↦ inr (record { judgement = Some (judgement.Forward plan); judged = j; wants = inr (with d (λ o. WantsOver plan taken taken' o) wants.1); concluded = wants.0 })
     ]
   where
     with : (k : DialsOnce plan.route (λ o. TalksOver plan taken mid t o) old new) (Q : DialOutcome → Type 0) → Q k.dial.outcome → DialsOnce plan.route Q old new

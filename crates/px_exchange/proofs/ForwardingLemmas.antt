@@ -65,10 +65,13 @@ talks_over plan i i' o' taken taken' t failed fresh none calm sent on cause h = 
 
     by : TalkGives (Answered (ask_of plan.asked) h.answer failed) taken taken' t → TalksOverLink plan taken taken' t (link_seen i' o')
     by (inl due) = inl (whole (λ d. SaysDue d taken taken' t) due)
-    by (inr w) = inr (w.wanting, elim w.returned [
-      | inl same ↦ inr (record { prefix = sent_prefix; unreturned = same })
-      | inr some ↦ inl (whole (λ d. AddsPrefix taken taken' d.bytes) some)
-    ])
+    by (inr w) = inr (
+      w.wanting,
+      elim w.returned [
+        | inl same ↦ inr (record { prefix = sent_prefix; unreturned = same })
+        | inr some ↦ inl (whole (λ d. AddsPrefix taken taken' d.bytes) some)
+      ],
+    )
 
 -- a count that rose from 0 isn't 0
 risen : (n : ℕ) → Rose 0 n → not (n == 0) ≡ true
@@ -90,7 +93,10 @@ talk_cut plan i' o o' taken none nothing rose a =
 pub talk_wanting : (plan : Plan) (i' : SourceState) (o o' : SinkState) (taken : List ℕ) → o.taken ≡ [] → AddsFront o.taken o'.taken plan.head
     → TalksOverLink plan taken taken (talked.Ended (broken after.NoMemory)) (link_seen i' o')
 talk_wanting plan i' o o' taken nothing a =
-    inr (refl, inr (record {
-      prefix = record { count = a.0; within = omega (arith, a.1); is = rw nothing at a.2 };
-      unreturned = refl;
-    }))
+    inr (
+      refl,
+      inr (record {
+        prefix = record { count = a.0; within = omega (arith, a.1); is = rw nothing at a.2 };
+        unreturned = refl;
+      }),
+    )

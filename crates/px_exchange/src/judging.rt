@@ -2,10 +2,10 @@
 ghost use Rattle.std.specs.Prelude.{◌≡◌, IfOk};
 ghost use Rattle.px_exchange.specs.Judging.{is_built, keeps, sent_fields, sent_head, plan_to, refused, by_rule, by_place, judged, ReadsAs, BlockReads};
 
+use crate::configs::Config;
 use crate::fields::{keep_of_request, push_field};
 use crate::pages::Page;
 use crate::pumps::Asked;
-use crate::configs::Config;
 use crate::targets::{Target, read_target};
 use crate::wire::{
     CLOSE, CONNECTION, CONTENT_LENGTH, EXPECT, GET, HOST, HTTP_PORT, NOT_BUILT, TRANSFER_ENCODING,

@@ -60,5 +60,4 @@ pub fn constants()
     ensures page_front { PAGE_FRONT.now ≡ codes "<html><body>" }
     ensures page_end { PAGE_END.now ≡ codes "</body></html>\n" }
     ensures not_built { NOT_BUILT.now ≡ codes "NotBuilt" }
-{
-}
+{}

@@ -53,9 +53,9 @@ ends_in_one view a e h k =
 views_go_on : {a b c : List Config} → GoesOn a b → GoesOn b c → GoesOn a c
 views_go_on {a = a} {c = c} h k = record {
   prefix = (
-      h.prefix.0 ++ k.prefix.0,
-      sym (append_assoc a h.prefix.0 k.prefix.0) ∙ ap (λ (xs : List Config). xs ++ k.prefix.0) h.prefix.1 ∙ k.prefix.1,
-    );
+    h.prefix.0 ++ k.prefix.0,
+    sym (append_assoc a h.prefix.0 k.prefix.0) ∙ ap (λ (xs : List Config). xs ++ k.prefix.0) h.prefix.1 ∙ k.prefix.1,
+  );
   longer = omega (arith, h.longer, k.longer);
   stands = λ number config e. k.stands number config (h.stands number config e);
   same = λ e. k.same (omega (arith, h.longer, k.longer, e)) ∙ h.same (omega (arith, h.longer, k.longer, e));

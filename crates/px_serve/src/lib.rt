@@ -12,8 +12,7 @@ pub use sessions::{Session, serve_connection};
 /// What the constant of this crate is.
 pub fn constants()
     ensures { REQUEST_LIMIT ≡ 100 }
-{
-}
+{}
 
 #[cfg(test)]
 mod tests;

@@ -11,12 +11,12 @@ returns-in-Ok-Over-clause-turned g c = turned_one seen.Over (λ t. rw c.in-Ok-Ov
 
 pub returns-in-Ok-End-clause-turned : goal.returns-in-Ok-End-clause-turned
 returns-in-Ok-End-clause-turned g c = turned_none (λ t.
-  let s = rw c.in-Ok-End.field-0-is at (c.in-Ok-End.ensures.stands t.client_in) in
-  rw (c.end_of_bytes.ensures, c.as_bytes.ensures) (ends_at _ _ _ s.0 s.1 (c.in-Ok-End.ensures.end t.client_in c.in-Ok-End.field-0-is)))
+    let s = rw c.in-Ok-End.field-0-is at (c.in-Ok-End.ensures.stands t.client_in) in
+    rw (c.end_of_bytes.ensures, c.as_bytes.ensures) (ends_at _ _ _ s.0 s.1 (c.in-Ok-End.ensures.end t.client_in c.in-Ok-End.field-0-is)))
 
 pub returns-in-Err-Failed-clause-turned : goal.returns-in-Err-Failed-clause-turned
 returns-in-Err-Failed-clause-turned g c = turned_none (λ t.
-  (c.read_front.new.ahead, c.in-Err-Failed.ensures.bytes (rw c.in-Err-Failed.field-0-is refl) t.client_in, c.in-Err-Failed.ensures.failed (rw c.in-Err-Failed.field-0-is refl)))
+    (c.read_front.new.ahead, c.in-Err-Failed.ensures.bytes (rw c.in-Err-Failed.field-0-is refl) t.client_in, c.in-Err-Failed.ensures.failed (rw c.in-Err-Failed.field-0-is refl)))
 
 pub returns-in-Err-Mem-clause-turned : goal.returns-in-Err-Mem-clause-turned
 returns-in-Err-Mem-clause-turned g c = turned_none (λ t. tt)
