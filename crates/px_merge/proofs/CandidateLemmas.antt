@@ -1,5 +1,5 @@
 -- Patterns whose host matches, and candidates.
-use Rattle.std.proofs.Common.{◌≡◌, ℕ, ◌+◌, ◌≤◌, ◌&&◌, Bool, true, false, cond, List, sym, ap, ◌∙◌, arith}
+use Rattle.std.proofs.Common.{◌≡◌, ℕ, ◌+◌, ◌≤◌, ◌&&◌, true, false, cond, List, sym, ap, ◌∙◌, arith}
 use Rattle.std.proofs.lemmas.Bool.{and_parts}
 use Rattle.px_patterns.specs.Hosts.{host_matches, host_part_matches}
 use Rattle.px_patterns.specs.Patterns.{url_matches, ports_match, path_matches}

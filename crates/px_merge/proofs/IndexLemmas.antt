@@ -1,5 +1,5 @@
 -- What an index has of the first patterns and sections.
-use Rattle.std.proofs.Common.{◌≡◌, ℕ, zero, suc, ◌+◌, ◌<◌, Bool, true, List, [], ◌∷◌, length, get_or, drop, Some, sym, ◌∙◌, subst, arith, refl, ap, ap₂}
+use Rattle.std.proofs.Common.{◌≡◌, ℕ, suc, ◌+◌, ◌<◌, List, [], ◌∷◌, length, get_or, drop, Some, sym, ◌∙◌, subst, arith, refl, ap, ap₂}
 use Rattle.std.specs.Prelude.{slice_get}
 use mathlib.Core.Logic.{⊎_elim}
 use Rattle.std.proofs.lemmas.Bool.{cases_eq}

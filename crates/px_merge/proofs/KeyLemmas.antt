@@ -1,5 +1,5 @@
 -- Texts that are the same without case have the same slot.
-use Rattle.std.proofs.Common.{◌≡◌, ℕ, ◌%◌, List, true, ap, ◌∙◌}
+use Rattle.std.proofs.Common.{◌≡◌, ℕ, ◌%◌, List, true, ap}
 use Rattle.std.specs.Prelude.{◌==◌, if◌then◌else◌}
 use Rattle.std.specs.Str.{str_eq_ignore_ascii_case, str_to_ascii_lowercase}
 use Rattle.std.proofs.lemmas.Slice.Eq.{bytes_eq-Decides}

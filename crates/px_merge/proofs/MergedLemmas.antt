@@ -1,6 +1,5 @@
 -- Files of sections, and lists of sections that are for something.
-use Rattle.std.proofs.Common.{◌≡◌, ℕ, ◌+◌, ◌<◌, ◌≤◌, Bool, true, false, ◌||◌, cond, List, [], ◌∷◌, ◌++◌, map, length, refl, sym, ap, ◌∙◌, subst, arith}
-use Rattle.std.specs.Prelude.{filter, not}
+use Rattle.std.proofs.Common.{◌≡◌, ℕ, ◌+◌, ◌<◌, ◌≤◌, Bool, true, cond, List, [], ◌∷◌, ◌++◌, map, length, refl, sym, ap, ◌∙◌, subst, arith}
 use Rattle.std.specs.List.{All, list_any}
 use mathlib.Core.Logic.{⊎_elim}
 use Rattle.std.proofs.lemmas.Bool.{false≢true, cases_Bool, or_cases, or_left, or_right}
@@ -14,7 +13,7 @@ use Rattle.px_merge.specs.declared.places.SectionRef.{SectionRef}
 use Rattle.px_merge.specs.declared.lists.Purpose.TheVariants as purpose
 use Rattle.px_merge.specs.declared.sides.Side.{Side}
 use Rattle.px_merge.specs.declared.sides.Side.TheVariants as side
-use Rattle.px_merge.specs.Merged.{names_of, placed, sections_from, sections_of}
+use Rattle.px_merge.specs.Merged.{names_of, placed, sections_from}
 use Rattle.px_merge.specs.Merging.{absent, is_for_absent, is_for_tag, ref_of, sections_with, tagged}
 use Rattle.px_merge.specs.Selections.{Selects, is_of, picked}
 

@@ -10,7 +10,7 @@ use Rattle.std.proofs.lemmas.Option.{slice_get_within}
 use Rattle.px_patterns.specs.declared.urls.Url.{Url}
 use Rattle.px_action_files.specs.declared.patterns.Pattern.{Pattern}
 use Rattle.px_merge.specs.Candidates.{candidate_count}
-use Rattle.px_merge.specs.Indexes.{IsIndexed, cost_at, gathered, hit_of, hits_in, host_keys, index_weight, is_in, passes, pattern_at, pattern_in, place_of, places_or_none, slot_at, slot_of, weight}
+use Rattle.px_merge.specs.Indexes.{IsIndexed, cost_at, gathered, hit_of, hits_in, host_keys, is_in, passes, pattern_at, pattern_in, place_of, slot_at, slot_of, weight}
 use Rattle.px_merge.specs.Keys.{slot_number}
 use Rattle.px_merge.specs.Merging.{is_for_url}
 use Rattle.px_merge.specs.Selections.{Selects, has_some}

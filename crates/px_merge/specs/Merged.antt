@@ -1,6 +1,5 @@
 -- Sections of actions files, one file after another.
 use Rattle.std.specs.Prelude.{ℕ, ◌+◌, List, [], ◌∷◌, ◌++◌, length, map}
-use Rattle.std.specs.List.{sum_by}
 use Rattle.px_action_files.specs.declared.files.ActionFile.{ActionFile}
 use Rattle.px_action_files.specs.declared.sections.Section.{Section}
 use Rattle.px_merge.specs.declared.places.Placed.{Placed}

@@ -1,4 +1,6 @@
 // What sections set: for URLs, for tags, and where tags are absent.
+ghost use Rattle.std.specs.Prelude.{◌≡◌, ◌<◌};
+
 use crate::*;
 use px_action_files::{ActionFile, Pattern, Section};
 use px_actions::{ActionSet, Update};
@@ -68,41 +70,60 @@ fn texts(alloc: Global, tags: &[&str]) -> Option<List<Text>> {
     Some(texts)
 }
 
-/// The lines of what sections set for a URL and the tags of a client, and where these sections stand.
-fn answers_counted<L: Ledger>(
+/// What is set for a URL and the tags of a client: its lines, and the file and line of each section that applies.
+type Wanted = (&'static str, &'static [(u32, u32)]);
+
+/// Whether sections set just this.
+fn sets_counted<L: Ledger>(
     alloc: Global,
     sections: &Sections,
-    url: &str,
-    tags: &[&str],
+    url: &Url,
+    tags: &[Text],
+    wanted: &Wanted,
     blank: Blank,
-) -> Option<(Text, List<SectionRef>)>
+) -> Option<bool>
     requires name { blank.name ≡ L.name }
     requires parts { blank.parts ≡ L.parts }
     requires some { 0 < L.parts }
 {
-    let url = Url::read(alloc, url.as_bytes()).ok()?;
-    let tags = texts(alloc, tags)?;
     let mut steps: Steps<L> = Steps::begin(blank);
-    let set = sections
-        .url_actions(alloc, &url, tags.as_slice(), &mut steps)
-        .ok()?;
-    let places = sections
-        .matched(alloc, &url, tags.as_slice(), &mut steps)
-        .ok()?;
-    Some((set.print().ok()?, places))
+    let set = sections.url_actions(alloc, url, tags, &mut steps).ok()?;
+    let places = sections.matched(alloc, url, tags, &mut steps).ok()?;
+    let lines = set.print().ok()?;
+    Some(lines.as_bytes() == wanted.0.as_bytes() && are_at(places.as_slice(), wanted.1))
 }
 
-fn answers(
+fn are_at(places: &[SectionRef], wanted: &[(u32, u32)]) -> bool {
+    places.len() == wanted.len()
+        && places.iter().zip(wanted).all(|(place, (file, line))| place.file == *file
+            && place.line == *line)
+}
+
+fn sets_for(
+    alloc: Global,
+    sections: &Sections,
+    url: &Url,
+    tags: &[Text],
+    wanted: &Wanted,
+) -> Option<bool> {
+    sets_counted::<Brand>(alloc, sections, url, tags, wanted, Blank::new(1))
+}
+
+/// The same, where the URL and the tags are texts.
+fn sets(
     alloc: Global,
     sections: &Sections,
     url: &str,
     tags: &[&str],
-) -> Option<(Text, List<SectionRef>)> {
-    answers_counted::<Brand>(alloc, sections, url, tags, Blank::new(1))
+    wanted: &Wanted,
+) -> Option<bool> {
+    let url = Url::read(alloc, url.as_bytes()).ok()?;
+    let tags = texts(alloc, tags)?;
+    sets_for(alloc, sections, &url, tags.as_slice(), wanted)
 }
 
-/// Files, a URL, the tags of a client, the lines of what is set, and the file and line of each section that applies.
-const URLS: &[(&[&[Row]], &str, &[&str], &str, &[(u32, u32)])] = &[
+/// Files, a URL, the tags of a client, and what is set.
+const URLS: &[(&[&[Row]], &str, &[&str], Wanted)] = &[
     (
         &[
             &[(1, &["+filter{a}", "+filter{b}"], &["/"])],
@@ -110,22 +131,19 @@ const URLS: &[(&[&[Row]], &str, &[&str], &str, &[(u32, u32)])] = &[
         ],
         "http://a.test/",
         &[],
-        "+filter{b}\n+filter{a}\n",
-        &[(0, 1), (1, 3)],
+        ("+filter{b}\n+filter{a}\n", &[(0, 1), (1, 3)]),
     ),
     (
         &[&[(1, &["+block{x}"], &["CLIENT-TAG:^ads$"])]],
         "http://a.test/",
         &["ads"],
-        "+block{x}\n",
-        &[(0, 1)],
+        ("+block{x}\n", &[(0, 1)]),
     ),
     (
         &[&[(1, &["+block{x}"], &["CLIENT-TAG:^ads$"])]],
         "http://a.test/",
         &["cads"],
-        "",
-        &[],
+        ("", &[]),
     ),
     (
         &[&[
@@ -135,8 +153,7 @@ const URLS: &[(&[&[Row]], &str, &[&str], &str, &[(u32, u32)])] = &[
         ]],
         "http://www.example.COM/x",
         &["x"],
-        "+block{b}\n",
-        &[(0, 1), (0, 4)],
+        ("+block{b}\n", &[(0, 1), (0, 4)]),
     ),
     (
         &[&[
@@ -146,8 +163,7 @@ const URLS: &[(&[&[Row]], &str, &[&str], &str, &[(u32, u32)])] = &[
         ]],
         "http://ads.test/",
         &[],
-        "+block{a}\n",
-        &[(0, 1)],
+        ("+block{a}\n", &[(0, 1)]),
     ),
     (
         &[&[
@@ -156,22 +172,20 @@ const URLS: &[(&[&[Row]], &str, &[&str], &str, &[(u32, u32)])] = &[
         ]],
         "http://[::1]/",
         &[],
-        "+block{c}\n",
-        &[(0, 5)],
+        ("+block{c}\n", &[(0, 5)]),
     ),
 ];
 
 #[test]
 fn sections_that_match_are_applied_in_file_order(rt: HostRuntime) {
     let alloc = rt.alloc();
-    for (files, url, tags, wanted, at) in URLS {
+    for (files, url, tags, wanted) in URLS {
         let sections = merged(alloc, files).expect(&rt, "sections");
-        let (lines, places) = answers(alloc, &sections, url, tags).expect(&rt, "answers");
-        assert_eq!(rt; lines.as_bytes(), wanted.as_bytes(), "{url}");
-        assert_eq!(rt; places.len(), at.len(), "{url}");
-        for (place, (file, line)) in places.as_slice().iter().zip(*at) {
-            assert_eq!(rt; (place.file, place.line), (*file, *line), "{url}");
-        }
+        assert_eq!(rt;
+            sets(alloc, &sections, url, tags, wanted),
+            Some(true),
+            "{url}"
+        );
     }
 }
 
@@ -244,17 +258,23 @@ fn thousand(alloc: Global) -> Option<Sections> {
     Sections::new(alloc, files).ok()
 }
 
+/// URLs, and what a thousand sections set for them.
+const HOSTS: &[(&str, Wanted)] = &[
+    ("http://www.example.h7/", ("+block{7}\n", &[(0, 7)])),
+    ("http://example.H999/x", ("+block{999}\n", &[(0, 999)])),
+    ("http://a.test/", ("", &[])),
+    ("http://example.h7.test/", ("", &[])),
+];
+
 #[test]
 fn one_of_a_thousand_hosts_is_found(rt: HostRuntime) {
     let alloc = rt.alloc();
     let sections = thousand(alloc).expect(&rt, "sections");
-    for (url, wanted) in [
-        ("http://www.example.h7/", "+block{7}\n"),
-        ("http://example.H999/x", "+block{999}\n"),
-        ("http://a.test/", ""),
-        ("http://example.h7.test/", ""),
-    ] {
-        let (lines, _) = answers(alloc, &sections, url, &[]).expect(&rt, "answers");
-        assert_eq!(rt; lines.as_bytes(), wanted.as_bytes(), "{url}");
+    for (url, wanted) in HOSTS {
+        assert_eq!(rt;
+            sets(alloc, &sections, url, &[], wanted),
+            Some(true),
+            "{url}"
+        );
     }
 }

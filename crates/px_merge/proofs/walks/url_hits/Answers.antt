@@ -1,4 +1,4 @@
-use Rattle.std.proofs.Common.{◌≡◌, ℕ, ◌++◌, ◌+◌, ◌≤◌, Bool, true, map, length, ap, ◌∙◌, subst, arith}
+use Rattle.std.proofs.Common.{◌≡◌, ℕ, ◌++◌, Bool, true, map, length, ap, ◌∙◌, subst, arith}
 use Rattle.std.specs.List.{flat_map, list_any}
 use Rattle.px_merge.specs.Indexes.{cost_at, hits_in, host_keys, slot_at, weight}
 use Rattle.px_merge.specs.Keys.{slot_number}

@@ -1,6 +1,6 @@
 use Rattle.std.proofs.Common.{ap, arith}
 use Rattle.px_merge.specs.Indexes.{weight}
-use Rattle.px_merge.proofs.SlotLemmas.{always_added, always_kept, weight_push}
+use Rattle.px_merge.proofs.SlotLemmas.{weight_push}
 use Rattle.px_merge.proofs.indexes.Index.add_always.Goals as goal
 
 pub returns-in-Ok-clause-once : goal.returns-in-Ok-clause-once

@@ -1,4 +1,4 @@
-use Rattle.std.proofs.Common.{ap, arith, drop}
+use Rattle.std.proofs.Common.{ap, arith}
 use Rattle.std.proofs.lemmas.List.{drop_all}
 use Rattle.px_merge.specs.Indexes.{patterns_weight}
 use Rattle.px_merge.proofs.IndexLemmas.{grows_on, has_more, patterns_step}

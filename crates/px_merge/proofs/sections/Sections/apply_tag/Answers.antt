@@ -4,7 +4,6 @@ use Rattle.px_actions.specs.Sets.{IsUpdatedByFront}
 use Rattle.px_merge.specs.Merged.{Merged}
 use Rattle.px_merge.specs.Merging.{tagged, applied, updates_in}
 use Rattle.px_merge.specs.Selections.{picked}
-use Rattle.px_merge.specs.declared.places.Placed.{Placed}
 use Rattle.px_merge.proofs.MergedLemmas.{tagged_of}
 use Rattle.px_merge.proofs.sections.Sections.apply_tag.Goals as goal
 

@@ -1,4 +1,4 @@
-use Rattle.std.proofs.Common.{◌≡◌, length, ap, ◌∙◌, subst, sym}
+use Rattle.std.proofs.Common.{length, ap, ◌∙◌, subst}
 use Rattle.px_merge.specs.Indexes.{IsIndexed}
 use Rattle.px_merge.specs.Merged.{pattern_count}
 use Rattle.px_merge.specs.Selections.{Selects, is_of}
