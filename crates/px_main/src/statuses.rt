@@ -11,8 +11,7 @@ pub const USAGE: &[u8] = b"usage: pass CONFIG ORIGIN SENT [TAG]...\n";
 /// What the text of the usage is.
 pub fn constants()
     ensures { USAGE.now ≡ codes "usage: pass CONFIG ORIGIN SENT [TAG]...\n" }
-{
-}
+{}
 
 /// How a command ended.
 #[derive(Clone, Copy, Debug, PartialEq, Eq)]
