@@ -221,6 +221,7 @@ fn tags_and_absent_tags_apply_their_sections(rt: HostRuntime) {
         assert_eq!(rt; lines.as_bytes(), wanted.as_bytes(), "{tag}");
     }
     for (tags, side, wanted) in [
+        (["Xx"].as_slice(), Side::Request, ""),
         (["Xx", "Yy"].as_slice(), Side::Request, ""),
         ([].as_slice(), Side::Request, "+block{none}\n"),
         (["Yy"].as_slice(), Side::Request, "+block{none}\n"),
@@ -242,7 +243,7 @@ fn files_sections_and_patterns_are_counted(rt: HostRuntime) {
     assert_eq!(rt; sections.file_name(0), b"u.action".as_slice());
 }
 
-/// A section for each of a thousand hosts.
+/// A section for each of a thousand hosts, and one for all.
 fn thousand(alloc: Global) -> Option<Sections> {
     let mut sections = List::new(alloc);
     for number in 0..1_000u32 {
@@ -252,18 +253,30 @@ fn thousand(alloc: Global) -> Option<Sections> {
             .add(section(alloc, number, &[word.as_str()], &[host.as_str()])?)
             .ok()?;
     }
+    sections
+        .add(section(alloc, 1_000, &["+filter{every}"], &["/"])?)
+        .ok()?;
     let mut files = List::new(alloc);
     let name = Text::from_bytes(alloc, b"u.action").ok()?;
     files.add((name, ActionFile { sections })).ok()?;
     Sections::new(alloc, files).ok()
 }
 
-/// URLs, and what a thousand sections set for them.
+/// URLs, and what these sections set for them.
 const HOSTS: &[(&str, Wanted)] = &[
-    ("http://www.example.h7/", ("+block{7}\n", &[(0, 7)])),
-    ("http://example.H999/x", ("+block{999}\n", &[(0, 999)])),
-    ("http://a.test/", ("", &[])),
-    ("http://example.h7.test/", ("", &[])),
+    (
+        "http://www.example.h7/",
+        ("+block{7}\n+filter{every}\n", &[(0, 7), (0, 1_000)]),
+    ),
+    (
+        "http://example.H999/x",
+        ("+block{999}\n+filter{every}\n", &[(0, 999), (0, 1_000)]),
+    ),
+    ("http://a.test/", ("+filter{every}\n", &[(0, 1_000)])),
+    (
+        "http://example.h7.test/",
+        ("+filter{every}\n", &[(0, 1_000)]),
+    ),
 ];
 
 #[test]
