@@ -1,6 +1,7 @@
 //! Exchanges over objects in memory.
 use crate::{After, Config, Ending, Feed, HeadSeen, Page, exchange};
 use px_base::{Answer, List, MemDialer, Peer, TapeIn, TapeOut, Text};
+use px_publish::Snapshot;
 use std::alloc::Global;
 use std::process::Abort;
 
