@@ -127,6 +127,22 @@ fn a_reader_learns_receipts(rt: HostRuntime) {
 }
 
 #[test]
+fn a_reader_that_learns_each_receipt_sees_each_entry(rt: HostRuntime) {
+    let alloc = rt.alloc();
+    let (mut publisher, mut reader) = pair_of_one(&rt, alloc);
+    assert_eq!(rt; entry(&reader), (0, 70));
+    reader.learn(publish(&rt, alloc, &mut publisher, 80));
+    assert_eq!(rt; entry(&reader), (1, 80));
+    reader.look();
+    assert_eq!(rt; entry(&reader), (1, 80));
+    reader.learn(publish(&rt, alloc, &mut publisher, 90));
+    assert_eq!(rt; entry(&reader), (2, 90));
+    reader.look();
+    assert_eq!(rt; entry(&reader), (2, 90));
+    publisher.end(&rt);
+}
+
+#[test]
 fn sixty_four_readers_look(rt: HostRuntime) {
     let alloc = rt.alloc();
     let (mut publisher, mut readers) = pair(&rt, alloc, 64);

@@ -160,6 +160,36 @@ fn each_page_has_its_name_status_and_length(rt: HostRuntime) -> Result<(), Fail>
     Ok(())
 }
 
+/// Each page whole, head and body, with the built-in templates, the reason `no` and the error `TwoLengths`.
+const WHOLE_PAGES: [&[u8]; 11] = [
+    b"HTTP/1.1 403 Forbidden\r\nContent-Type: text/html\r\nContent-Length: 38\r\nCache-Control: no-cache\r\nConnection: close\r\n\r\n<html><body>blocked: no</body></html>\n",
+    b"HTTP/1.1 503 Service Unavailable\r\nContent-Type: text/html\r\nContent-Length: 41\r\nCache-Control: no-cache\r\nConnection: close\r\n\r\n<html><body>connect-failed</body></html>\n",
+    b"HTTP/1.1 404 Not Found\r\nContent-Type: text/html\r\nContent-Length: 41\r\nCache-Control: no-cache\r\nConnection: close\r\n\r\n<html><body>no-such-domain</body></html>\n",
+    b"HTTP/1.1 503 Service Unavailable\r\nContent-Type: text/html\r\nContent-Length: 44\r\nCache-Control: no-cache\r\nConnection: close\r\n\r\n<html><body>forwarding-failed</body></html>\n",
+    b"HTTP/1.1 502 Bad Gateway\r\nContent-Type: text/html\r\nContent-Length: 41\r\nCache-Control: no-cache\r\nConnection: close\r\n\r\n<html><body>no-server-data</body></html>\n",
+    b"HTTP/1.1 400 Bad Request\r\nContent-Type: text/html\r\nContent-Length: 54\r\nCache-Control: no-cache\r\nConnection: close\r\n\r\n<html><body>invalid-request: TwoLengths</body></html>\n",
+    b"HTTP/1.1 431 Request Header Fields Too Large\r\nContent-Type: text/html\r\nContent-Length: 40\r\nCache-Control: no-cache\r\nConnection: close\r\n\r\n<html><body>head-too-long</body></html>\n",
+    b"HTTP/1.1 502 Bad Gateway\r\nContent-Type: text/html\r\nContent-Length: 36\r\nCache-Control: no-cache\r\nConnection: close\r\n\r\n<html><body>bad-reply</body></html>\n",
+    b"HTTP/1.1 502 Bad Gateway\r\nContent-Type: text/html\r\nContent-Length: 38\r\nCache-Control: no-cache\r\nConnection: close\r\n\r\n<html><body>send-failed</body></html>\n",
+    b"HTTP/1.1 403 Forbidden\r\nContent-Type: text/html\r\nContent-Length: 41\r\nCache-Control: no-cache\r\nConnection: close\r\n\r\n<html><body>connect-denied</body></html>\n",
+    b"HTTP/1.1 500 Internal Server Error\r\nContent-Type: text/html\r\nContent-Length: 38\r\nCache-Control: no-cache\r\nConnection: close\r\n\r\n<html><body>bad-rewrite</body></html>\n",
+];
+
+#[test]
+fn each_page_is_replied_whole(rt: HostRuntime) -> Result<(), Fail> {
+    let alloc = rt.alloc();
+    let symbols = symbols(alloc, b"", b"no", b"TwoLengths")?;
+    for (page, wanted) in PAGES.iter().zip(WHOLE_PAGES.iter()) {
+        let Ok(template) = Template::read(alloc, built_in(*page), &[]) else {
+            panic!(rt; "{} isn't read", page.name());
+        };
+        let body = template.render(alloc, &symbols)?;
+        let reply = local_reply(alloc, &Local::Page(*page), body.as_bytes(), true, false)?;
+        assert_eq!(rt; reply.as_bytes(), *wanted, "{}", page.name());
+    }
+    Ok(())
+}
+
 /// Whether the connection closes, whether the reply has no body, what is given as body, and the reply.
 const REPLIES: [(bool, bool, &[u8], &[u8]); 6] = [
     (
