@@ -9,3 +9,4 @@ pub mod CandidateLemmas
 pub mod NumberLemmas
 pub mod WalkLemmas
 pub mod HostLemmas
+pub mod TagLemmas

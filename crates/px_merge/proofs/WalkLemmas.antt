@@ -73,7 +73,7 @@ any_from_get : (test : Pattern → Bool) (patterns : List Pattern) (at : ℕ) (q
 any_from_get test patterns at None is e = absurd (false≢true e)
 any_from_get test patterns at (Some pattern) is e = any_at test patterns at pattern (sym is) e
 
-some_in : (test : Pattern → Bool) (o : Option Placed) (at : ℕ) → passes test (pattern_in o at) ≡ true → has_some test o ≡ true
+pub some_in : (test : Pattern → Bool) (o : Option Placed) (at : ℕ) → passes test (pattern_in o at) ≡ true → has_some test o ≡ true
 some_in test None at e = absurd (false≢true e)
 some_in test (Some p) at e = any_from_get test p.section.patterns at (slice_get p.section.patterns at) refl e
 

@@ -4,3 +4,4 @@ pub mod Selections
 pub mod Keys
 pub mod Candidates
 pub mod Indexes
+pub mod Expressions

@@ -1,5 +1,5 @@
 -- Sections that are picked by their numbers.
-use Rattle.std.specs.Prelude.{ℕ, ◌≡◌, ◌<◌, Bool, true, false, List, All, length, slice_get, option_to_list, Option, None, Some}
+use Rattle.std.specs.Prelude.{ℕ, ◌≡◌, ◌<◌, Bool, true, false, List, [], All, length, slice_get, option_to_list, Option, None, Some}
 use Rattle.std.specs.List.{flat_map, list_any}
 use Rattle.px_action_files.specs.declared.patterns.Pattern.{Pattern}
 use Rattle.px_action_files.specs.declared.patterns.Pattern.TheVariants as pattern
@@ -11,7 +11,9 @@ use Rattle.px_merge.specs.declared.indexes.Index.{Index}
 use Rattle.px_merge.specs.Indexes.{IsIndexed}
 use Rattle.px_merge.specs.Merged.{pattern_count}
 use Rattle.px_merge.specs.declared.sides.Side.TheVariants as side
-use Rattle.px_merge.specs.Merging.{sections_with}
+use Rattle.px_merge.specs.declared.sides.TagTest.{TagTest}
+use Rattle.px_merge.specs.declared.sides.TagTest.TheVariants as tag_test
+use Rattle.px_merge.specs.Merging.{is_for_absent, is_for_tag, sections_with}
 
 -- the sections with these numbers, counted from 0
 abbrev pub picked : List Placed → List ℕ → List Placed
@@ -25,6 +27,16 @@ Selects test sections numbers = picked sections numbers ≡ sections_with test s
 abbrev pub has_some : (Pattern → Bool) → Option Placed → Bool
 has_some test None = false
 has_some test (Some p) = list_any test p.section.patterns
+
+-- the patterns of a section, if there is one
+abbrev pub patterns_in : Option Placed → List Pattern
+patterns_in None = []
+patterns_in (Some p) = p.section.patterns
+
+-- whether a pattern is a TAG pattern that matches a tag, or one on absent tags that matches none
+abbrev pub is_for_test : TagTest → Pattern → Bool
+is_for_test (tag_test.Present tag) pattern = is_for_tag tag.now pattern
+is_for_test (tag_test.Absent side tags) pattern = is_for_absent side tags.now pattern
 
 -- what a list of sections is for: those with TAG patterns, or those with patterns on absent tags of a side
 abbrev pub is_of : Purpose → Pattern → Bool

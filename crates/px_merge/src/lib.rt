@@ -2,22 +2,27 @@
 #![tactic(auto)]
 
 mod building;
+mod expressions;
 mod hosts;
 mod indexes;
 mod keys;
 mod labels;
 mod lists;
+mod matchers;
 mod numbers;
 mod places;
 mod sections;
 mod selections;
 mod sides;
+mod tag_walks;
 mod tries;
 mod walks;
+mod warm;
 
 pub use places::{Placed, SectionCounts, SectionRef};
 pub use sections::Sections;
 pub use sides::Side;
+pub use warm::Warm;
 
 #[cfg(test)]
 mod tests;

@@ -3,17 +3,18 @@ ghost use Rattle.std.specs.Prelude.{◌≡◌, ◌+◌, ◌<◌, ◌≤◌, All,
 ghost use Rattle.px_actions.specs.Sets.{IsUpdatedByFront};
 ghost use Rattle.px_merge.specs.Candidates.{candidate_count};
 ghost use Rattle.px_merge.specs.Merged.{names_of, pattern_count, sections_of};
+ghost use Rattle.px_merge.specs.Indexes.{IsIndexed};
 ghost use Rattle.px_merge.specs.Merging.{absent, applied, matching, ref_of, tagged, updates_in, url_actions};
 ghost use Rattle.px_merge.specs.Selections.{Selects, is_of};
-ghost use Rattle.px_merge.specs.declared.lists.Purpose.TheVariants.{Absent};
+ghost use Rattle.px_merge.specs.declared.lists.Purpose.TheVariants.{Absent, Tag};
 
 use crate::building::{add_files, counts_of};
+use crate::expressions::expression_places;
 use crate::indexes::Index;
 use crate::lists::{Purpose, numbers_of};
-use crate::places::{Placed, SectionCounts, SectionRef};
-use crate::selections::{absent_hits, apply_picked, refs_of, tag_hits};
+use crate::places::{Place, Placed, SectionCounts, SectionRef};
 use crate::sides::Side;
-use crate::walks::url_hits;
+use crate::warm::Warm;
 use px_action_files::ActionFile;
 use px_actions::ActionSet;
 use px_base::{List, Mem, Steps, Text};
@@ -30,6 +31,8 @@ pub struct Sections {
     counts: SectionCounts,
     /// The places of all patterns that apply to URLs.
     index: Index,
+    /// The places of all patterns with an expression, in ascending order.
+    expressions: Vec<Place>,
     /// The sections with TAG patterns.
     tags: Vec<usize>,
     /// The sections with NO-REQUEST-TAG patterns.
@@ -62,6 +65,7 @@ impl Sections {
         add_files(files, &mut names, &mut sections)?;
         let counts = counts_of(names.as_slice(), sections.as_slice())?;
         let index = Index::new(alloc, sections.as_slice(), counts.patterns as usize)?;
+        let expressions = expression_places(alloc, sections.as_slice())?;
         let tags = numbers_of(alloc, sections.as_slice(), Purpose::Tag)?;
         let requests = numbers_of(alloc, sections.as_slice(), Purpose::Absent(Side::Request))?;
         let responses = numbers_of(alloc, sections.as_slice(), Purpose::Absent(Side::Response))?;
@@ -70,6 +74,7 @@ impl Sections {
             sections,
             counts,
             index,
+            expressions,
             tags,
             requests,
             responses,
@@ -93,10 +98,16 @@ impl Sections {
         self.counts
     }
 
+    /// The sections with what their patterns keep from search to search. What searches is made at the first search.
+    pub fn warm(&self, alloc: Global) -> Result<Warm<'_>, Mem>
+        ensures { IfOk result (λ warm. warm ≡ self.now) }
+    {
+        Warm::new(alloc, self)
+    }
+
     /// What the sections set for a URL and the tags of a client: from the empty set, the updates of each section that has
     /// a URL pattern that matches the URL or a CLIENT-TAG pattern that matches one of the tags, in file order.
-    /// Of URL patterns at most the candidates for the host take a step.
-    #[tactic(auto, unfolding(crate::specs::Merging::url_actions))]
+    /// Of URL patterns at most the candidates for the host take a step. Nothing is kept from search to search.
     pub fn url_actions<L: Ledger>(
         &self,
         alloc: Global,
@@ -107,17 +118,8 @@ impl Sections {
         ensures value { IfOk result (λ set. set ≡ url_actions self.now.sections url.now tags.now) }
         ensures steps { steps.new ≤ steps.old + candidate_count self.now.sections url.now.host }
     {
-        let hits = url_hits(
-            alloc,
-            &self.index,
-            self.sections.as_slice(),
-            url,
-            tags,
-            steps,
-        )?;
-        let mut set = ActionSet::empty(alloc);
-        apply_picked(self.sections.as_slice(), hits.as_slice(), &mut set)?;
-        Ok(set)
+        let mut warm = self.warm(alloc)?;
+        warm.url_actions(alloc, url, tags, steps)
     }
 
     /// Where the sections stand that `url_actions` applies, in file order.
@@ -132,26 +134,18 @@ impl Sections {
         ensures files { IfOk result (λ refs. All (λ r. r.file < length self.now.names) refs) }
         ensures steps { steps.new ≤ steps.old + candidate_count self.now.sections url.now.host }
     {
-        let hits = url_hits(
-            alloc,
-            &self.index,
-            self.sections.as_slice(),
-            url,
-            tags,
-            steps,
-        )?;
-        refs_of(alloc, self.sections.as_slice(), hits.as_slice())
+        let mut warm = self.warm(alloc)?;
+        warm.matched(alloc, url, tags, steps)
     }
 
     /// Applies to a set, in file order, the updates of each section that has a TAG pattern that matches the tag. After
-    /// `Mem` some first ones of these updates are applied.
+    /// `Mem` the set has had a front of these updates.
     pub fn apply_tag(&self, alloc: Global, set: &mut ActionSet, tag: &[u8]) -> Result<(), Mem>
         ensures ok { OnOk result (set.new ≡ applied set.old (tagged self.now.sections tag.now)) }
         ensures err { OnErr result (IsUpdatedByFront set.old (updates_in (tagged self.now.sections tag.now)) set.new) }
     {
-        let sections = self.sections.as_slice();
-        let hits = tag_hits(alloc, sections, self.tags.as_slice(), tag)?;
-        apply_picked(sections, hits.as_slice(), set)
+        let mut warm = self.warm(alloc)?;
+        warm.apply_tag(alloc, set, tag)
     }
 
     /// Applies to a set, in file order, the updates of each section that has a NO-REQUEST-TAG pattern, or for the
@@ -167,14 +161,38 @@ impl Sections {
         ensures ok { OnOk result (set.new ≡ applied set.old (absent self.now.sections tags.now side)) }
         ensures err { OnErr result (IsUpdatedByFront set.old (updates_in (absent self.now.sections tags.now side)) set.new) }
     {
-        let sections = self.sections.as_slice();
-        let numbers = self.absence_numbers(side);
-        let hits = absent_hits(alloc, sections, numbers, tags, side)?;
-        apply_picked(sections, hits.as_slice(), set)
+        let mut warm = self.warm(alloc)?;
+        warm.apply_absent(alloc, set, tags, side)
+    }
+
+    /// The sections in file order, each with the number of its file.
+    pub(crate) fn placed(&self) -> &[Placed]
+        ensures sections { result.now ≡ self.now.sections }
+        ensures files { All (λ p. p.file < length self.now.names) result.now }
+    {
+        self.sections.as_slice()
+    }
+
+    pub(crate) fn index(&self) -> &Index
+        ensures { IsIndexed result.now self.now.sections }
+    {
+        &self.index
+    }
+
+    /// The places of all patterns with an expression, in ascending order.
+    pub(crate) fn expressions(&self) -> &[Place] {
+        self.expressions.as_slice()
+    }
+
+    /// The sections with TAG patterns.
+    pub(crate) fn tag_numbers(&self) -> &[usize]
+        ensures { Selects (is_of Tag) self.now.sections result.now }
+    {
+        self.tags.as_slice()
     }
 
     /// The sections with NO-REQUEST-TAG patterns, or for the response with NO-RESPONSE-TAG patterns.
-    fn absence_numbers(&self, side: Side) -> &[usize]
+    pub(crate) fn absence_numbers(&self, side: Side) -> &[usize]
         ensures { Selects (is_of (Absent side)) self.now.sections result.now }
     {
         match side {

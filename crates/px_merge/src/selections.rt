@@ -1,14 +1,12 @@
 // Sections that are picked by their numbers.
 ghost use Rattle.std.specs.Prelude.{◌≡◌, IfOk, OnErr, OnOk, map, option_copied, option_map, option_to_list, slice_get};
 ghost use Rattle.px_actions.specs.Sets.{IsUpdatedByFront};
-ghost use Rattle.px_merge.specs.Merging.{absent, applied, is_for_absent, is_for_tag, ref_of, tagged, updates_in};
-ghost use Rattle.px_merge.specs.Selections.{has_some, picked};
+ghost use Rattle.px_merge.specs.Merging.{applied, ref_of, updates_in};
+ghost use Rattle.px_merge.specs.Selections.{picked};
 
 use crate::places::{Placed, SectionRef};
-use crate::sides::Side;
-use crate::tries::{has_for_absent, has_for_tag};
 use px_actions::ActionSet;
-use px_base::{List, Mem, Text};
+use px_base::{List, Mem};
 use std::alloc::Global;
 
 /// The section with a number, if there is one.
@@ -77,76 +75,4 @@ pub fn refs_of(
         rest = others;
     }
     Ok(List::from_vec(refs))
-}
-
-/// Whether the section with a number, if there is one, applies to a tag.
-fn applies_to_tag(
-    alloc: Global,
-    sections: &[Placed],
-    number: usize,
-    tag: &[u8],
-) -> Result<bool, Mem>
-    ensures { IfOk result (λ yes. yes ≡ has_some (is_for_tag tag.now) (slice_get sections.now number)) }
-{
-    match section_at(sections, number) {
-        Some(placed) => has_for_tag(alloc, placed.section.patterns.as_slice(), tag),
-        None => Ok(false),
-    }
-}
-
-/// Of some sections the numbers of those that apply to a tag.
-pub fn tag_hits(
-    alloc: Global,
-    sections: &[Placed],
-    numbers: &[usize],
-    tag: &[u8],
-) -> Result<Vec<usize>, Mem>
-    ensures { IfOk result (λ hits. picked sections.now hits.items ≡ tagged (picked sections.now numbers.now) tag.now) }
-{
-    let mut hits = Vec::new(alloc);
-    let mut rest = numbers;
-    'numbers: while let Some((number, others)) = rest.split_first() {
-        if applies_to_tag(alloc, sections, *number, tag)? {
-            hits.push(*number)?;
-        }
-        rest = others;
-    }
-    Ok(hits)
-}
-
-/// Whether the section with a number, if there is one, applies where no tag matches.
-fn applies_to_absent(
-    alloc: Global,
-    sections: &[Placed],
-    number: usize,
-    tags: &[Text],
-    side: Side,
-) -> Result<bool, Mem>
-    ensures { IfOk result (λ yes. yes ≡ has_some (is_for_absent side tags.now) (slice_get sections.now number)) }
-{
-    match section_at(sections, number) {
-        Some(placed) => has_for_absent(alloc, placed.section.patterns.as_slice(), tags, side),
-        None => Ok(false),
-    }
-}
-
-/// Of some sections the numbers of those that apply where no tag matches.
-pub fn absent_hits(
-    alloc: Global,
-    sections: &[Placed],
-    numbers: &[usize],
-    tags: &[Text],
-    side: Side,
-) -> Result<Vec<usize>, Mem>
-    ensures { IfOk result (λ hits. picked sections.now hits.items ≡ absent (picked sections.now numbers.now) tags.now side) }
-{
-    let mut hits = Vec::new(alloc);
-    let mut rest = numbers;
-    'numbers: while let Some((number, others)) = rest.split_first() {
-        if applies_to_absent(alloc, sections, *number, tags, side)? {
-            hits.push(*number)?;
-        }
-        rest = others;
-    }
-    Ok(hits)
 }

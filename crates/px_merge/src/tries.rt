@@ -1,48 +1,50 @@
 // Patterns that are tried.
-ghost use Rattle.std.specs.Prelude.{◌≡◌, IfOk, false, not};
-ghost use Rattle.std.specs.List.{list_any};
-ghost use Rattle.px_merge.specs.Merging.{is_for_absent, is_for_tag, matches_some};
+ghost use Rattle.std.specs.Prelude.{◌≡◌, ◌+◌, ◌≤◌, IfOk, IsTrue, Some, false, if◌then◌else◌, not};
+ghost use Rattle.px_patterns.specs.Hosts.{host_part_matches};
+ghost use Rattle.px_patterns.specs.Patterns.{tag_matches, url_matches};
+ghost use Rattle.px_merge.specs.Candidates.{cost, part_is_candidate};
+ghost use Rattle.px_merge.specs.Expressions.{IsKeptOf, expression_in};
+ghost use Rattle.px_merge.specs.Merging.{is_for_url, matches_some};
+ghost use Rattle.px_merge.specs.Selections.{is_for_test};
 
-use crate::sides::Side;
+use crate::sides::{Side, TagTest};
 use px_action_files::Pattern;
-use px_base::{Mem, Text};
-use px_patterns::TagPattern;
+use px_base::{Mem, Steps, Text};
+use px_patterns::{Kept, TagPattern, Url, UrlPattern};
 use std::alloc::Global;
+use std::sync::ledger::Ledger;
+
+/// Whether a tag pattern matches a tag. What is kept of its expression, if anything is, searches.
+fn matches_tag(
+    alloc: Global,
+    pattern: &TagPattern,
+    kept: &mut Option<Kept<'_>>,
+    tag: &[u8],
+) -> Result<bool, Mem>
+    requires { IsKeptOf (Some pattern.now.expression) kept.old }
+    ensures value { IfOk result (λ yes. yes ≡ tag_matches pattern.now tag.now) }
+    ensures same { kept.new ≡ kept.old }
+{
+    match kept {
+        Some(kept) => pattern.matches_with(alloc, kept, tag),
+        None => pattern.matches(alloc, tag),
+    }
+}
 
 /// Whether a tag pattern matches one of some tags.
-pub fn matches_some(alloc: Global, pattern: &TagPattern, tags: &[Text]) -> Result<bool, Mem>
-    ensures { IfOk result (λ yes. yes ≡ matches_some pattern.now tags.now) }
+fn matches_some(
+    alloc: Global,
+    pattern: &TagPattern,
+    kept: &mut Option<Kept<'_>>,
+    tags: &[Text],
+) -> Result<bool, Mem>
+    requires { IsKeptOf (Some pattern.now.expression) kept.old }
+    ensures value { IfOk result (λ yes. yes ≡ matches_some pattern.now tags.now) }
+    ensures same { kept.new ≡ kept.old }
 {
     let mut rest = tags;
     'tags: while let Some((tag, others)) = rest.split_first() {
-        if pattern.matches(alloc, tag.as_bytes())? {
-            return Ok(true);
-        }
-        rest = others;
-    }
-    Ok(false)
-}
-
-/// Whether a pattern is a TAG pattern that matches a tag.
-fn is_for_tag(alloc: Global, pattern: &Pattern, tag: &[u8]) -> Result<bool, Mem>
-    ensures { IfOk result (λ yes. yes ≡ is_for_tag tag.now pattern.now) }
-{
-    match pattern {
-        Pattern::Url(_) => Ok(false),
-        Pattern::Tag(pattern) => pattern.matches(alloc, tag),
-        Pattern::NoRequestTag(_) => Ok(false),
-        Pattern::NoResponseTag(_) => Ok(false),
-        Pattern::ClientTag(_) => Ok(false),
-    }
-}
-
-/// Whether one of some patterns is a TAG pattern that matches a tag.
-pub fn has_for_tag(alloc: Global, patterns: &[Pattern], tag: &[u8]) -> Result<bool, Mem>
-    ensures { IfOk result (λ yes. yes ≡ list_any (is_for_tag tag.now) patterns.now) }
-{
-    let mut rest = patterns;
-    'patterns: while let Some((pattern, others)) = rest.split_first() {
-        if is_for_tag(alloc, pattern, tag)? {
+        if matches_tag(alloc, pattern, kept, tag.as_bytes())? {
             return Ok(true);
         }
         rest = others;
@@ -51,42 +53,98 @@ pub fn has_for_tag(alloc: Global, patterns: &[Pattern], tag: &[u8]) -> Result<bo
 }
 
 /// Whether a tag pattern matches none of some tags.
-fn matches_none(alloc: Global, pattern: &TagPattern, tags: &[Text]) -> Result<bool, Mem>
-    ensures { IfOk result (λ yes. yes ≡ not (matches_some pattern.now tags.now)) }
+fn matches_none(
+    alloc: Global,
+    pattern: &TagPattern,
+    kept: &mut Option<Kept<'_>>,
+    tags: &[Text],
+) -> Result<bool, Mem>
+    requires { IsKeptOf (Some pattern.now.expression) kept.old }
+    ensures value { IfOk result (λ yes. yes ≡ not (matches_some pattern.now tags.now)) }
+    ensures same { kept.new ≡ kept.old }
 {
-    Ok(!matches_some(alloc, pattern, tags)?)
+    Ok(!matches_some(alloc, pattern, kept, tags)?)
 }
 
-/// Whether a pattern of a side of an exchange matches none of some tags.
-fn is_for_absent(alloc: Global, pattern: &Pattern, tags: &[Text], side: Side) -> Result<bool, Mem>
-    ensures { IfOk result (λ yes. yes ≡ is_for_absent side tags.now pattern.now) }
+/// Whether a pattern passes a test of tags.
+pub fn try_tags(
+    alloc: Global,
+    pattern: &Pattern,
+    kept: &mut Option<Kept<'_>>,
+    test: TagTest<'_>,
+) -> Result<bool, Mem>
+    requires { IsKeptOf (expression_in pattern.now) kept.old }
+    ensures value { IfOk result (λ yes. yes ≡ is_for_test test.entry pattern.now) }
+    ensures same { kept.new ≡ kept.old }
 {
-    match (pattern, side) {
-        (Pattern::NoRequestTag(pattern), Side::Request) => matches_none(alloc, pattern, tags),
-        (Pattern::NoResponseTag(pattern), Side::Response) => matches_none(alloc, pattern, tags),
-        (Pattern::NoRequestTag(_), Side::Response) => Ok(false),
-        (Pattern::NoResponseTag(_), Side::Request) => Ok(false),
+    match (pattern, test) {
+        (Pattern::Tag(pattern), TagTest::Present(tag)) => matches_tag(alloc, pattern, kept, tag),
+        (Pattern::NoRequestTag(pattern), TagTest::Absent(Side::Request, tags)) => {
+            matches_none(alloc, pattern, kept, tags)
+        }
+        (Pattern::NoResponseTag(pattern), TagTest::Absent(Side::Response, tags)) => {
+            matches_none(alloc, pattern, kept, tags)
+        }
+        (Pattern::Tag(_), TagTest::Absent(_, _)) => Ok(false),
+        (Pattern::NoRequestTag(_), TagTest::Present(_)) => Ok(false),
+        (Pattern::NoRequestTag(_), TagTest::Absent(Side::Response, _)) => Ok(false),
+        (Pattern::NoResponseTag(_), TagTest::Present(_)) => Ok(false),
+        (Pattern::NoResponseTag(_), TagTest::Absent(Side::Request, _)) => Ok(false),
         (Pattern::Url(_), _) => Ok(false),
-        (Pattern::Tag(_), _) => Ok(false),
         (Pattern::ClientTag(_), _) => Ok(false),
     }
 }
 
-/// Whether one of some patterns, of a side of an exchange, matches none of some tags.
-pub fn has_for_absent(
-    alloc: Global,
-    patterns: &[Pattern],
-    tags: &[Text],
-    side: Side,
-) -> Result<bool, Mem>
-    ensures { IfOk result (λ yes. yes ≡ list_any (is_for_absent side tags.now) patterns.now) }
+/// Whether the host part of a URL pattern matches a host. Where it does the pattern is a candidate for the host.
+fn fits_host(pattern: &UrlPattern, host: &[u8]) -> bool
+    ensures value { result ≡ host_part_matches pattern.now.host host.now }
+    ensures candidate { IsTrue result → IsTrue (part_is_candidate pattern.now.host host.now) }
 {
-    let mut rest = patterns;
-    'patterns: while let Some((pattern, others)) = rest.split_first() {
-        if is_for_absent(alloc, pattern, tags, side)? {
-            return Ok(true);
-        }
-        rest = others;
+    pattern.host().matches(host)
+}
+
+/// Whether a URL pattern matches a URL. A step is taken only where the pattern is a candidate.
+#[tactic(auto, using(crate::proofs::CandidateLemmas::no_host, crate::proofs::CandidateLemmas::one_step))]
+fn matches_url<L: Ledger>(
+    alloc: Global,
+    pattern: &UrlPattern,
+    kept: &mut Option<Kept<'_>>,
+    url: &Url,
+    steps: &mut Steps<L>,
+) -> Result<bool, Mem>
+    requires { IsKeptOf pattern.now.path kept.old }
+    ensures value { IfOk result (λ yes. yes ≡ url_matches pattern.now url.now) }
+    ensures steps { steps.new ≤ steps.old + (if part_is_candidate pattern.now.host url.now.host then 1 else 0) }
+    ensures same { kept.new ≡ kept.old }
+{
+    if !fits_host(pattern, url.host.as_bytes()) {
+        return Ok(false);
     }
-    Ok(false)
+    match kept {
+        Some(kept) => pattern.matches_with(alloc, kept, url, steps),
+        None => pattern.matches(alloc, url, steps),
+    }
+}
+
+/// Whether a pattern matches a URL or one of a client's tags.
+pub fn try_url<L: Ledger>(
+    alloc: Global,
+    pattern: &Pattern,
+    kept: &mut Option<Kept<'_>>,
+    url: &Url,
+    tags: &[Text],
+    steps: &mut Steps<L>,
+) -> Result<bool, Mem>
+    requires { IsKeptOf (expression_in pattern.now) kept.old }
+    ensures value { IfOk result (λ yes. yes ≡ is_for_url url.now tags.now pattern.now) }
+    ensures steps { steps.new ≤ steps.old + cost url.now.host pattern.now }
+    ensures same { kept.new ≡ kept.old }
+{
+    match pattern {
+        Pattern::Url(pattern) => matches_url(alloc, pattern, kept, url, steps),
+        Pattern::ClientTag(pattern) => matches_some(alloc, pattern, kept, tags),
+        Pattern::Tag(_) => Ok(false),
+        Pattern::NoRequestTag(_) => Ok(false),
+        Pattern::NoResponseTag(_) => Ok(false),
+    }
 }

@@ -8,42 +8,44 @@ use Rattle.px_merge.proofs.walks.url_hits.Goals as goal
 
 pub returns-in_err-try_places-clause-steps : goal.returns-in_err-try_places-clause-steps
 returns-in_err-try_places-clause-steps g c =
-    let costs = cost_at c.args.sections.now c.args.url.now.host in
+    let costs = cost_at c.args.matchers.now c.args.url.now.host in
     omega (
       arith,
       c.in_err-try_places.ensures.steps,
       ap (weight costs) c.as_slice.ensures,
-      steps_within c.args.index.now c.args.sections.now c.args.url.now.host c.in_ok-numbers.numbers.items c.requires c.in_ok-numbers.ensures.rises,
+      steps_within c.args.index.now c.args.matchers.now c.args.url.now.host c.in_ok-numbers.numbers.items c.requires c.in_ok-numbers.ensures.rises,
     )
 
 pub returns-in_err-try_slots-clause-steps : goal.returns-in_err-try_slots-clause-steps
 returns-in_err-try_slots-clause-steps g c =
-    let costs = cost_at c.args.sections.now c.args.url.now.host in
+    let costs = cost_at c.args.matchers.now c.args.url.now.host in
     omega (
       arith,
       c.in_ok-try_places.ensures.steps,
       c.in_err-try_slots.ensures.steps,
+      ap (λ sections. weight (cost_at sections c.args.url.now.host) (flat_map (slot_at c.args.index.now.slots.items) c.as_slice-2.result.now)) c.in_ok-try_places.ensures.same,
       ap (weight costs) c.as_slice.ensures,
       ap (λ ns. weight costs (flat_map (slot_at c.args.index.now.slots.items) ns)) c.as_slice-2.ensures.value,
-      steps_within c.args.index.now c.args.sections.now c.args.url.now.host c.in_ok-numbers.numbers.items c.requires c.in_ok-numbers.ensures.rises,
+      steps_within c.args.index.now c.args.matchers.now c.args.url.now.host c.in_ok-numbers.numbers.items c.requires c.in_ok-numbers.ensures.rises,
     )
 
 pub returns-clause-steps : goal.returns-clause-steps
 returns-clause-steps g c =
-    let costs = cost_at c.args.sections.now c.args.url.now.host in
+    let costs = cost_at c.args.matchers.now c.args.url.now.host in
     omega (
       arith,
       c.in_ok-try_places.ensures.steps,
       c.in_ok-try_slots.ensures.steps,
+      ap (λ sections. weight (cost_at sections c.args.url.now.host) (flat_map (slot_at c.args.index.now.slots.items) c.as_slice-2.result.now)) c.in_ok-try_places.ensures.same,
       ap (weight costs) c.as_slice.ensures,
       ap (λ ns. weight costs (flat_map (slot_at c.args.index.now.slots.items) ns)) c.as_slice-2.ensures.value,
-      steps_within c.args.index.now c.args.sections.now c.args.url.now.host c.in_ok-numbers.numbers.items c.requires c.in_ok-numbers.ensures.rises,
+      steps_within c.args.index.now c.args.matchers.now c.args.url.now.host c.in_ok-numbers.numbers.items c.requires c.in_ok-numbers.ensures.rises,
     )
 
 pub returns-clause-selects : goal.returns-clause-selects
 returns-clause-selects g c =
     let index = c.args.index.now in
-    let sections = c.args.sections.now in
+    let sections = c.args.matchers.now in
     let url = c.args.url.now in
     let tags = c.args.tags.now in
     let hits = hits_in sections (is_for_url url tags) in
@@ -55,6 +57,7 @@ returns-clause-selects g c =
     (subst (λ n. list_any test (map (slot_number n) (host_keys c.as_bytes.result.now)) ≡ true → list_any test numbers ≡ true) count (c.in_ok-numbers.ensures.keeps test)) in
     let raw : c.try_slots.new.hits.items ≡ hits index.always ++ hits (flat_map (slot_at slots) numbers) =
     c.in_ok-try_slots.ensures.hits
+    ∙ ap (λ sections. c.try_places.new.hits.items ++ hits_in sections (is_for_url url tags) (flat_map (slot_at slots) c.as_slice-2.result.now)) c.in_ok-try_places.ensures.same
     ∙ ap (λ front. front ++ hits (flat_map (slot_at slots) c.as_slice-2.result.now))
     (c.in_ok-try_places.ensures.hits ∙ ap (λ front. front ++ hits c.as_slice.result.now) c.new-hits.ensures.items ∙ ap hits c.as_slice.ensures)
     ∙ ap (λ ns. hits index.always ++ hits (flat_map (slot_at slots) ns)) c.as_slice-2.ensures.value in

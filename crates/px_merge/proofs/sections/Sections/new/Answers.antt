@@ -17,7 +17,7 @@ invariant_of-result c =
       within = kept_within c.args.files c.new-names.result.items c.add_files.new.names.items c.new-sections.result.items sections
           c.new-names.ensures.items c.new-sections.ensures.items c.in_ok-add_files.ensures.names c.in_ok-add_files.ensures.sections;
       indexed = subst (λ s. IsIndexed c.in_ok-index.index s) c.as_slice-3.ensures.value c.in_ok-index.ensures;
-      tags_are = subst (λ s. Selects (is_of purpose.Tag) s c.in_ok-tags.tags.items) c.as_slice-4.ensures.value c.in_ok-tags.ensures;
-      requests_are = subst (λ s. Selects (is_of (purpose.Absent side.Request)) s c.in_ok-requests.requests.items) c.as_slice-5.ensures.value c.in_ok-requests.ensures;
-      responses_are = subst (λ s. Selects (is_of (purpose.Absent side.Response)) s c.in_ok-responses.responses.items) c.as_slice-6.ensures.value c.in_ok-responses.ensures;
+      tags_are = subst (λ s. Selects (is_of purpose.Tag) s c.in_ok-tags.tags.items) c.as_slice-5.ensures.value c.in_ok-tags.ensures;
+      requests_are = subst (λ s. Selects (is_of (purpose.Absent side.Request)) s c.in_ok-requests.requests.items) c.as_slice-6.ensures.value c.in_ok-requests.ensures;
+      responses_are = subst (λ s. Selects (is_of (purpose.Absent side.Response)) s c.in_ok-responses.responses.items) c.as_slice-7.ensures.value c.in_ok-responses.ensures;
     }

@@ -1,0 +1,108 @@
+// Expressions that patterns search for.
+ghost use Rattle.std.specs.Prelude.{◌≡◌, IfSome, IsTrue, Some, option_copied, slice_get};
+ghost use Rattle.px_merge.specs.Expressions.{expression_at, expression_in};
+ghost use Rattle.px_merge.specs.Indexes.{pattern_at};
+
+use crate::places::{Place, Placed};
+use crate::selections::section_at;
+use px_action_files::Pattern;
+use px_base::Mem;
+use px_patterns::Expression;
+use std::alloc::Global;
+
+/// The pattern at a place, if there is one.
+pub fn pattern_at(sections: &[Placed], place: Place) -> Option<&Pattern>
+    ensures { option_copied result ≡ pattern_at sections.now place }
+{
+    match section_at(sections, place.section) {
+        Some(placed) => nth(placed.section.patterns.as_slice(), place.pattern),
+        None => None,
+    }
+}
+
+/// The pattern with a number, if there is one.
+fn nth(patterns: &[Pattern], number: usize) -> Option<&Pattern>
+    ensures { option_copied result ≡ slice_get patterns.now number }
+{
+    if number < patterns.len() {
+        Some(&patterns[number])
+    } else {
+        None
+    }
+}
+
+/// The expression of a pattern, if it has one.
+fn expression_in(pattern: &Pattern) -> Option<&Expression>
+    ensures { option_copied result ≡ expression_in pattern.now }
+{
+    match pattern {
+        Pattern::Url(pattern) => pattern.path.as_ref(),
+        Pattern::Tag(pattern) => Some(&pattern.expression),
+        Pattern::NoRequestTag(pattern) => Some(&pattern.expression),
+        Pattern::NoResponseTag(pattern) => Some(&pattern.expression),
+        Pattern::ClientTag(pattern) => Some(&pattern.expression),
+    }
+}
+
+/// The expression of the pattern at a place, if there is one.
+pub fn expression_at(sections: &[Placed], place: Place) -> Option<&Expression>
+    ensures { option_copied result ≡ expression_at sections.now place }
+{
+    match pattern_at(sections, place) {
+        Some(pattern) => expression_in(pattern),
+        None => None,
+    }
+}
+
+/// The places of all patterns with an expression, in ascending order.
+pub fn expression_places(alloc: Global, sections: &[Placed]) -> Result<Vec<Place>, Mem> {
+    let mut places = Vec::new(alloc);
+    for (number, placed) in sections.iter().enumerate() {
+        for (at, pattern) in placed.section.patterns.as_slice().iter().enumerate() {
+            if expression_in(pattern).is_some() {
+                places.push(Place {
+                    section: number,
+                    pattern: at,
+                })?;
+            }
+        }
+    }
+    Ok(places)
+}
+
+/// The number of a place among places in ascending order, if it is there.
+pub fn number_of(places: &[Place], place: Place) -> Option<usize>
+    ensures { IfSome result (λ number. slice_get places.now number ≡ Some place) }
+{
+    let number = first_from(places, place);
+    if number < places.len() && is_same(places[number], place) {
+        return Some(number);
+    }
+    None
+}
+
+fn is_same(place: Place, other: Place) -> bool
+    ensures { IsTrue result → place ≡ other }
+{
+    place.section == other.section && place.pattern == other.pattern
+}
+
+fn is_before(place: Place, other: Place) -> bool {
+    place.section < other.section
+        || (place.section == other.section && place.pattern < other.pattern)
+}
+
+/// How many of some places in ascending order stand before a place.
+fn first_from(places: &[Place], place: Place) -> usize {
+    let mut from = 0;
+    let mut to = places.len();
+    'places: while from < to {
+        let middle = from + (to - from) / 2;
+        if is_before(places[middle], place) {
+            from = middle + 1;
+        } else {
+            to = middle;
+        }
+    }
+    from
+}

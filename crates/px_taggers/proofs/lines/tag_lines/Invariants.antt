@@ -1,0 +1,18 @@
+use Rattle.std.proofs.Common.{◌≡◌, length}
+use Rattle.px_taggers.specs.Fronts.{IsWithinLine}
+use Rattle.px_taggers.specs.Tagging.{after_line, in_force, rules, state}
+use Rattle.px_taggers.proofs.FrontLemmas.{RunsOn}
+use Rattle.px_taggers.proofs.lines.tag_lines.Given as goal
+
+abbrev pub invariant-lines : goal.invariant-lines
+invariant-lines l =
+    let all = rules l.initial.sections.sections l.initial.filters l.side l.vars in
+    record {
+      sections : l.sections ≡ l.initial.sections;
+      filters : l.filters ≡ l.initial.filters;
+      names : l.names.items ≡ in_force l.side l.set;
+      runs : RunsOn (IsWithinLine all) (after_line all) (state l.initial.set l.initial.tags) l.lines (state l.set l.tags) l.rest;
+    }
+
+abbrev pub decreases-lines : goal.decreases-lines
+decreases-lines l = length l.rest

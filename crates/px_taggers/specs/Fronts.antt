@@ -1,0 +1,42 @@
+-- Set and tags where tagging stopped for want of memory: those of a front of the work.
+use Rattle.std.specs.Prelude.{◌≡◌, ◌⊎◌, ℕ, Bool, true, false, List, [], ◌∷◌, ◌++◌, Option, None, Some}
+use Rattle.px_actions.specs.Sets.{IsUpdatedByFront, is_among}
+use Rattle.px_merge.specs.Merging.{absent, tagged, updates_in}
+use Rattle.px_taggers.specs.Tagging.{Rules, Tagged, after_line, after_lines, after_tagger, in_force, tag_of}
+
+-- within the work of some item, or before all of it, or behind the last; the items before it are done
+abbrev pub IsFront : {X : Type 0} → (Tagged → X → Tagged → Type 0) → (Tagged → X → Tagged) → Tagged → List X → Tagged → Type 0
+IsFront part step s [] now = now ≡ s
+IsFront part step s (x ∷ rest) now = part s x now ⊎ IsFront part step (step s x) rest now
+
+-- a tag that is new stands last, and some first ones of the updates of its sections are made
+pub record IsPartlyPut (rules : Rules) (s : Tagged) (tag : List ℕ) (now : Tagged) : Type 0 where
+  pub is_new : is_among tag s.tags ≡ false
+  pub tags : now.tags ≡ s.tags ++ tag ∷ []
+  pub updates : IsUpdatedByFront s.set (updates_in (tagged rules.sections tag)) now.set
+
+-- within the work of a tagger: nothing is done, or its tag is partly put
+abbrev pub IsWithinTag : Rules → Tagged → Option (List ℕ) → Tagged → Type 0
+IsWithinTag rules s None now = now ≡ s
+IsWithinTag rules s (Some tag) now = (now ≡ s) ⊎ IsPartlyPut rules s tag now
+
+abbrev pub IsWithinTagger : Rules → List ℕ → Tagged → List ℕ → Tagged → Type 0
+IsWithinTagger rules line s name now = IsWithinTag rules s (tag_of rules line name) now
+
+abbrev pub IsWithinTaggers : Rules → List ℕ → Tagged → List (List ℕ) → Tagged → Type 0
+IsWithinTaggers rules line s names now = IsFront (IsWithinTagger rules line) (after_tagger rules line) s names now
+
+-- within the work of a line
+abbrev pub IsWithinLine : Rules → Tagged → List ℕ → Tagged → Type 0
+IsWithinLine rules s line now = IsWithinTaggers rules line s (in_force rules.side s.set) now
+
+abbrev pub IsWithinLines : Rules → Tagged → List (List ℕ) → Tagged → Type 0
+IsWithinLines rules s lines now = IsFront (IsWithinLine rules) (after_line rules) s lines now
+
+-- behind the last line: some first ones of the updates of the sections on absent tags are made
+pub record IsWithinAbsent (rules : Rules) (s now : Tagged) : Type 0 where
+  pub tags : now.tags ≡ s.tags
+  pub updates : IsUpdatedByFront s.set (updates_in (absent rules.sections s.tags rules.side)) now.set
+
+abbrev pub IsWithinTagging : Rules → Tagged → List (List ℕ) → Tagged → Type 0
+IsWithinTagging rules s lines now = IsWithinLines rules s lines now ⊎ IsWithinAbsent rules (after_lines rules s lines) now

@@ -1,0 +1,12 @@
+//! Tags that are made of header lines, and what the sections of actions files set for them.
+#![tactic(auto)]
+
+mod lines;
+mod taggers;
+mod tags;
+mod turns;
+
+pub use lines::{tag_headers, tag_headers_with};
+
+#[cfg(test)]
+mod tests;

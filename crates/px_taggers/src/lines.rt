@@ -1,0 +1,121 @@
+// Header lines of which tags are made.
+ghost use Rattle.std.specs.Prelude.{◌≡◌, IfOk, OnErr, OnOk, false};
+ghost use Rattle.px_taggers.specs.Fronts.{IsWithinLines, IsWithinTagging};
+ghost use Rattle.px_taggers.specs.Tagging.{after_lines, in_force, rules, state, tag_headers};
+
+use crate::taggers::{action_of, run_taggers};
+use crate::turns::Turn;
+use px_actions::ActionSet;
+use px_base::{List, Mem, Text};
+use px_filter_files::{Filters, WarmFilters};
+use px_merge::{Sections, Side, Warm};
+use px_subst::Vars;
+use std::alloc::Global;
+
+/// The names of the taggers in force.
+fn names_in_force(alloc: Global, set: &ActionSet, side: Side) -> Result<Vec<Text>, Mem>
+    ensures { IfOk result (λ names. names.items ≡ in_force side set.now) }
+{
+    let mut names = Vec::new(alloc);
+    'names: for name in set.values(action_of(side)) {
+        names.push(Text::from_bytes(alloc, name.as_bytes())?)?;
+    }
+    Ok(names)
+}
+
+/// The names of the taggers in force, by those before a turn in which a tag was new or none was.
+fn names_behind(
+    alloc: Global,
+    names: Vec<Text>,
+    is_new: bool,
+    set: &ActionSet,
+    side: Side,
+) -> Result<Vec<Text>, Mem>
+    requires { is_new ≡ false → names.items ≡ in_force side set.now }
+    ensures { IfOk result (λ names. names.items ≡ in_force side set.now) }
+{
+    if is_new {
+        names_in_force(alloc, set, side)
+    } else {
+        Ok(names)
+    }
+}
+
+/// Runs on each line the taggers in force when its turn begins.
+#[tactic(auto, unfolding(crate::specs::Tagging::after_line))]
+fn tag_lines(
+    alloc: Global,
+    sections: &mut Warm<'_>,
+    filters: &mut WarmFilters<'_>,
+    set: &mut ActionSet,
+    tags: &mut List<Text>,
+    lines: &[Text],
+    side: Side,
+    vars: &Vars,
+) -> Result<(), Mem>
+    ensures done { OnOk result (state set.new tags.new ≡ after_lines (rules sections.old.sections filters.old side vars.now) (state set.old tags.old) lines.now) }
+    ensures err { OnErr result (IsWithinLines (rules sections.old.sections filters.old side vars.now) (state set.old tags.old) lines.now (state set.new tags.new)) }
+    ensures sections { sections.new ≡ sections.old }
+    ensures filters { filters.new ≡ filters.old }
+{
+    let mut names = names_in_force(alloc, set, side)?;
+    let mut rest = lines;
+    'lines: while let Some((line, others)) = rest.split_first() {
+        let turn = Turn {
+            line: line.as_bytes(),
+            side,
+            vars,
+        };
+        let is_new = run_taggers(alloc, sections, filters, set, tags, names.as_slice(), &turn)?;
+        names = names_behind(alloc, names, is_new, set, side)?;
+        rest = others;
+    }
+    Ok(())
+}
+
+/// Makes tags of header lines and applies what the sections set for them. The lines are the first line and the lines of the
+/// fields, all as received. On each line the taggers run that are in force when its turn begins, in the order of the list. A
+/// tagger makes a tag where it hits and its text isn't empty; a tag that isn't among `tags` goes last, and the sections that
+/// apply to it are applied at once. Behind the last line those on absent tags of the side are applied. A name that no filter
+/// has does nothing. After `Mem` set and tags are those of a front of this work (Privoxy's manual, "Actions Files",
+/// `client-header-tagger`, `server-header-tagger` and "The Tag Pattern").
+#[tactic(auto, unfolding(crate::specs::Tagging::tag_headers))]
+pub fn tag_headers_with(
+    alloc: Global,
+    sections: &mut Warm<'_>,
+    filters: &mut WarmFilters<'_>,
+    set: &mut ActionSet,
+    tags: &mut List<Text>,
+    lines: &[Text],
+    side: Side,
+    vars: &Vars,
+) -> Result<(), Mem>
+    ensures set { OnOk result (set.new ≡ (tag_headers sections.old.sections filters.old set.old tags.old lines.now side vars.now).set) }
+    ensures tags { OnOk result (tags.new ≡ (tag_headers sections.old.sections filters.old set.old tags.old lines.now side vars.now).tags) }
+    ensures err { OnErr result (IsWithinTagging (rules sections.old.sections filters.old side vars.now) (state set.old tags.old) lines.now (state set.new tags.new)) }
+    ensures sections { sections.new ≡ sections.old }
+    ensures filters { filters.new ≡ filters.old }
+{
+    tag_lines(alloc, sections, filters, set, tags, lines, side, vars)?;
+    sections.apply_absent(alloc, set, tags.as_slice(), side)
+}
+
+/// The same, where nothing is kept from search to search.
+pub fn tag_headers(
+    alloc: Global,
+    sections: &Sections,
+    filters: &Filters,
+    set: &mut ActionSet,
+    tags: &mut List<Text>,
+    lines: &[Text],
+    side: Side,
+    vars: &Vars,
+) -> Result<(), Mem>
+    ensures set { OnOk result (set.new ≡ (tag_headers sections.now.sections filters.now set.old tags.old lines.now side vars.now).set) }
+    ensures tags { OnOk result (tags.new ≡ (tag_headers sections.now.sections filters.now set.old tags.old lines.now side vars.now).tags) }
+    ensures err { OnErr result (IsWithinTagging (rules sections.now.sections filters.now side vars.now) (state set.old tags.old) lines.now (state set.new tags.new)) }
+{
+    let mut warm = sections.warm(alloc)?;
+    let mut kept = filters.warm(alloc)?;
+    tag_headers_with(alloc, &mut warm, &mut kept, set, tags, lines, side, vars)
+}

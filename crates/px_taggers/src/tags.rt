@@ -1,0 +1,36 @@
+// Tags that stand in a list.
+ghost use Rattle.std.specs.Prelude.{◌≡◌, ◌⊎◌, ◌++◌, ◌∷◌, [], OnErr, OnOk};
+ghost use Rattle.px_actions.specs.Sets.{IsUpdatedByFront, is_among};
+ghost use Rattle.px_merge.specs.Merging.{applied, tagged, updates_in};
+
+use px_actions::ActionSet;
+use px_base::{List, Mem, Text};
+use px_merge::Warm;
+use std::alloc::Global;
+
+/// Whether a tag stands among others.
+pub fn is_among(tag: &[u8], tags: &[Text]) -> bool
+    ensures { result ≡ is_among tag.now tags.now }
+{
+    tags.iter().any(|other| other.as_bytes() == tag)
+}
+
+/// Adds a tag at the end and applies the sections that apply to it. After `Mem` nothing has changed, or the tag stands and
+/// a front of the updates is made.
+pub fn put(
+    alloc: Global,
+    sections: &mut Warm<'_>,
+    set: &mut ActionSet,
+    tags: &mut List<Text>,
+    tag: Text,
+) -> Result<(), Mem>
+    ensures set { OnOk result (set.new ≡ applied set.old (tagged sections.old.sections tag)) }
+    ensures tags { OnOk result (tags.new ≡ tags.old ++ tag ∷ []) }
+    ensures err { OnErr result (((set.new ≡ set.old) × (tags.new ≡ tags.old))
+        ⊎ ((tags.new ≡ tags.old ++ tag ∷ []) × IsUpdatedByFront set.old (updates_in (tagged sections.old.sections tag)) set.new)) }
+    ensures same { sections.new ≡ sections.old }
+{
+    let at = tags.len();
+    tags.add(tag)?;
+    sections.apply_tag(alloc, set, tags.as_slice()[at].as_bytes())
+}
