@@ -1,0 +1,5 @@
+pub mod Faults
+pub mod HeldBack
+pub mod Kinds
+pub mod Referrers
+pub mod Rows
