@@ -18,7 +18,7 @@ pub(crate) enum Message {
 /// The names that are held back of a message: the fixed ones, and those that its Connection fields name.
 #[derive(Drop)]
 pub(crate) struct HeldBack {
-    message: Message,
+    pub(crate) message: Message,
     /// The values of its Connection fields.
     connections: List<Text>,
 }
