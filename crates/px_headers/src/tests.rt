@@ -25,6 +25,9 @@ fn apply(alloc: Global, set: &mut ActionSet, word: &str) -> Option<()> {
 
 /// The filters of a file.
 fn filters_of(alloc: Global, text: &[u8]) -> Option<Filters> {
+    if text.len() > 1000 {
+        return None;
+    }
     let lines = logical_lines(alloc, text).ok()?;
     let file = FilterFile::read(alloc, lines.as_slice()).ok()?;
     if file.filters.len() > 100 {
