@@ -58,7 +58,9 @@ fn shown(alloc: Global, first_line: &[u8], fields: &[Field]) -> Option<Text> {
 fn sent(alloc: Global, words: &[&str], file: &[u8], block: &[u8]) -> Option<Text> {
     let set = set_of(alloc, words)?;
     let filters = filters_of(alloc, file)?;
-    let mut warm = filters.warm(alloc).ok()?;
+    let Ok(mut warm) = filters.warm(alloc) else {
+        return None;
+    };
     let mut head = RequestHead::read(alloc, block).ok()?;
     let url = Url::read(alloc, head.target.as_bytes()).ok()?;
     let peer = Peer {
