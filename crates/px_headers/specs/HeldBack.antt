@@ -1,0 +1,35 @@
+-- The fields that a proxy doesn't pass on (RFC 9110, section 7.6.1).
+use Rattle.std.specs.Prelude.{◌≡◌, ℕ, Bool, ◌||◌, List, filter, map, codes}
+use Rattle.std.specs.List.{list_any}
+use Rattle.px_head.specs.declared.fields.Field.{Field}
+use Rattle.px_head.specs.Names.{has_name, is_connection_word, is_held_back_of_request, is_held_back_of_response, lists_word}
+use Rattle.px_headers.specs.declared.held_back.Message.{Message}
+use Rattle.px_headers.specs.declared.held_back.Message.TheVariants.{Request, Response}
+use Rattle.px_headers.specs.declared.held_back.HeldBack.{HeldBack}
+use Rattle.px_headers.specs.Rows.{without_those}
+
+-- the names that are held back of every such message
+abbrev pub is_fixed : Message → List ℕ → Bool
+is_fixed Request name = is_held_back_of_request name
+is_fixed Response name = is_held_back_of_response name
+
+-- a name is held back of a message with these fields: it is a fixed one, or one of its Connection fields names it
+unfoldable pub is_held_back : Message → List Field → List ℕ → Bool
+is_held_back message fields name = is_fixed message name || is_connection_word name fields
+
+-- the fields that may be passed on
+unfoldable pub passed_on : Message → List Field → List Field
+passed_on message fields = without_those (λ f. is_held_back message fields f.name) fields
+
+-- the values of the Connection fields
+abbrev pub connection_values : List Field → List (List ℕ)
+connection_values fields = map (λ (f : Field). f.value) (filter (has_name (codes "Connection")) fields)
+
+-- a name is a fixed one, or one of these values lists it
+abbrev pub is_held : HeldBack → List ℕ → Bool
+is_held held name = is_fixed held.message name || list_any (λ value. lists_word name value) held.connections
+
+-- what is kept of a message with these fields
+pub record IsHeldBackOf (message : Message) (fields : List Field) (held : HeldBack) : Type 0 where
+  pub message_is : held.message ≡ message
+  pub connections_are : held.connections ≡ connection_values fields

@@ -1,0 +1,11 @@
+pub mod ClientRows
+pub mod Cookies
+pub mod Dates
+pub mod Faults
+pub mod Filtering
+pub mod HeldBack
+pub mod Kinds
+pub mod Referrers
+pub mod Rewrites
+pub mod Rows
+pub mod ServerRows

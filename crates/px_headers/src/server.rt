@@ -1,0 +1,99 @@
+// What becomes of the head of an answer.
+ghost use Rattle.std.specs.Prelude.{◌≡◌, IfOk};
+ghost use Rattle.px_headers.specs.Rewrites.{answer_line};
+ghost use Rattle.px_headers.specs.ServerRows.{server_fields, server_out};
+
+use crate::filtering::{filter_lines, filtered_line, has_filters};
+use crate::held_back::{HeldBack, Message, pass_on};
+use crate::rewrites::kept_status_line;
+use crate::server_rows::{new_content_type, server_rows};
+use px_actions::ActionSet;
+use px_base::{List, Mem, Text};
+use px_filter_files::{Filters, WarmFilters};
+use px_head::{Field, ResponseHead};
+use px_subst::Vars;
+use std::alloc::Global;
+use std::mem;
+
+/// The status line and the fields of an answer that is returned.
+#[derive(Drop)]
+pub struct ServerOut {
+    /// Without its end.
+    pub first_line: Text,
+    pub fields: List<Field>,
+}
+
+/// The fields of an answer that is returned.
+#[tactic(auto, unfolding(crate::specs::ServerRows::server_fields))]
+fn server_fields(
+    alloc: Global,
+    received: List<Field>,
+    set: &ActionSet,
+    filters: &Filters,
+    warm: &mut WarmFilters<'_>,
+    vars: &Vars,
+    moment: u64,
+) -> Result<List<Field>, Mem>
+    requires { warm.old ≡ filters.now }
+    ensures value { IfOk result (λ fields. fields ≡ server_fields set.now filters.now vars.now moment received) }
+    ensures same { warm.new ≡ warm.old }
+{
+    let held = HeldBack::of(alloc, Message::Response, received.as_slice())?;
+    let content_type = new_content_type(set, received.as_slice());
+    let fields = pass_on(received, &held);
+    let fields = server_rows(alloc, fields, set, moment, content_type)?;
+    filter_lines(alloc, fields, &held, set, filters, warm, vars)
+}
+
+/// The status line behind the header filters.
+#[tactic(auto, unfolding(crate::specs::Rewrites::answer_line, crate::specs::Filtering::filter_line))]
+fn answer_line(
+    alloc: Global,
+    head: &ResponseHead,
+    set: &ActionSet,
+    filters: &Filters,
+    warm: &mut WarmFilters<'_>,
+    vars: &Vars,
+) -> Result<Text, Mem>
+    requires { warm.old ≡ filters.now }
+    ensures value { IfOk result (λ line. line ≡ answer_line set.now filters.now vars.now head.now) }
+    ensures same { warm.new ≡ warm.old }
+{
+    let line = head.first_line(alloc)?;
+    if !has_filters(Message::Response, set, filters) {
+        return Ok(line);
+    }
+    let new = filtered_line(alloc, Message::Response, set, warm, vars, line.as_bytes())?;
+    Ok(kept_status_line(head.status, line, new))
+}
+
+/// The status line and the fields of an answer that is returned, by the actions of its request (Privoxy's manual, "Actions").
+/// `moment` is in seconds since 1970; `vars` are the values of a job's words; `warm` is the store of the filters. The fields
+/// are taken out of the head, and those that nothing changes are moved.
+///
+/// The fields that speak of one connection, Content-Length and the fields that a Connection field names are taken out first.
+/// Then come crunch-incoming-cookies, session-cookies-only or else limit-cookie-lifetime, content-type-overwrite,
+/// overwrite-last-modified, hide-content-disposition, crunch-server-header and server-header-filter, each of all fields. A
+/// changed status line counts where it is a status line of the same status.
+#[tactic(auto, unfolding(crate::specs::ServerRows::server_out))]
+pub fn server_headers(
+    alloc: Global,
+    head: &mut ResponseHead,
+    set: &ActionSet,
+    filters: &Filters,
+    warm: &mut WarmFilters<'_>,
+    vars: &Vars,
+    moment: u64,
+) -> Result<ServerOut, Mem>
+    requires { warm.old ≡ filters.now }
+    ensures out { IfOk result (λ out. out ≡ server_out set.now filters.now vars.now moment head.old) }
+    ensures minor { head.new.minor ≡ head.old.minor }
+    ensures status { head.new.status ≡ head.old.status }
+    ensures reason { head.new.reason ≡ head.old.reason }
+    ensures same { warm.new ≡ warm.old }
+{
+    let first_line = answer_line(alloc, head, set, filters, warm, vars)?;
+    let received = mem::replace(&mut head.fields, List::new(alloc));
+    let fields = server_fields(alloc, received, set, filters, warm, vars, moment)?;
+    Ok(ServerOut { first_line, fields })
+}
