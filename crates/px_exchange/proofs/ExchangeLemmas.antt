@@ -1,5 +1,5 @@
 -- One exchange, joined from its parts.
-use Rattle.std.proofs.Common.{◌≡◌, ℕ, Bool, true, false, List, [], ◌++◌, take, length, cond, Option, None, Some, refl, sym, ap, ◌∙◌, ◌⊎◌, inl, inr, arith}
+use Rattle.std.proofs.Common.{◌≡◌, ℕ, Bool, true, false, List, [], ◌++◌, take, length, cond, Option, None, Some, Result, Ok, Err, refl, sym, ap, ◌∙◌, ◌⊎◌, inl, inr, arith}
 use Rattle.px_base.specs.Dials.{DialerState}
 use Rattle.px_base.specs.declared.dials.LinkSeen.{LinkSeen}
 use Rattle.px_base.specs.declared.dials.DialOutcome.{DialOutcome}
@@ -14,11 +14,12 @@ use Rattle.px_exchange.specs.declared.talks.Talked.{Talked}
 use Rattle.px_exchange.specs.declared.talks.Talked.TheVariants as talked
 use Rattle.px_head.specs.declared.requests.RequestHead.{RequestHead}
 use Rattle.px_exchange.specs.declared.pages.Page.TheVariants as page
-use Rattle.px_exchange.specs.declared.targets.Target.{Target}
+use Rattle.px_patterns.specs.declared.urls.Url.{Url}
+use Rattle.px_patterns.specs.declared.faults.UrlFault.{UrlFault}
 use Rattle.px_exchange.specs.declared.judging.Reading.{Reading}
 use Rattle.px_exchange.specs.declared.judging.Reading.TheVariants.{Overlong, Malformed, TooManyFields, Head}
-use Rattle.px_exchange.specs.Targets.{target_of}
-use Rattle.px_exchange.specs.Judging.{Given, Judged, is_built, plan_to, refused, by_rule, by_url, by_place, judged}
+use Rattle.px_patterns.specs.Urls.{url_of}
+use Rattle.px_exchange.specs.Judging.{Given, Judged, is_built, plan_to, refused, not_built, by_rule, by_url, by_place, judged}
 use Rattle.px_exchange.specs.Returning.{Returns, ReturnsSome, WantsReturning, AddsPrefix, SaysDue, broken}
 use Rattle.px_exchange.specs.Forwarding.{Follows, Forwards, WantsOver, TalksOver}
 use Rattle.px_exchange.specs.Dialling.{DialsOnce}
@@ -110,34 +111,34 @@ local_answers g reply d taken taken' x j (inl whole) = inl (record { judgement =
 local_answers g reply d taken taken' x j (inr wants) = inr (record { judgement = Some (judgement.Local reply); judged = j; wants = (refl, wants.0); concluded = wants.1 })
 
 -- a request that isn't sent on gets the page of a refused request
-refused_page : (reply : LocalReply) → judgement.Local reply ≡ refused → reply.page ≡ page.InvalidRequest
+refused_page : (name : List ℕ) (reply : LocalReply) → judgement.Local reply ≡ refused name → reply.page ≡ page.InvalidRequest
 unfolding refused
-refused_page reply e = cc
+refused_page name reply e = cc
 
-form_page : (g : Given) (head : RequestHead) (target : Target) (reply : LocalReply) → judgement.Local reply ≡ by_rule g head target → reply.page ≡ page.InvalidRequest
+form_page : (g : Given) (head : RequestHead) (url : Url) (reply : LocalReply) → judgement.Local reply ≡ by_rule g head url → reply.page ≡ page.InvalidRequest
 unfolding by_rule
-form_page g head target reply e = by (is_built head) e
+form_page g head url reply e = by (is_built head) e
   where
-    by : (b : Bool) → judgement.Local reply ≡ cond b (judgement.Forward (plan_to g.last head.fields target)) refused → reply.page ≡ page.InvalidRequest
+    by : (b : Bool) → judgement.Local reply ≡ cond b (judgement.Forward (plan_to g.last head.fields url)) not_built → reply.page ≡ page.InvalidRequest
     by true k = absurd (cc)
-    by false k = refused_page reply k
+    by false k = refused_page _ reply k
 
-url_page : (g : Given) (head : RequestHead) (t : Option Target) (reply : LocalReply) → judgement.Local reply ≡ by_url g head t → reply.page ≡ page.InvalidRequest
-url_page g head None reply e = refused_page reply e
-url_page g head (Some target) reply e = form_page g head target reply e
+url_page : (g : Given) (head : RequestHead) (t : Result Url UrlFault) (reply : LocalReply) → judgement.Local reply ≡ by_url g head t → reply.page ≡ page.InvalidRequest
+url_page g head (Err fault) reply e = refused_page _ reply e
+url_page g head (Ok url) reply e = form_page g head url reply e
 
 place_page : (g : Given) (head : RequestHead) (reply : LocalReply) → judgement.Local reply ≡ by_place g head → reply.page ≡ page.InvalidRequest
 unfolding by_place
 place_page g head reply e = by g.first e
   where
-    by : (b : Bool) → judgement.Local reply ≡ cond b (by_url g head (target_of head.target)) refused → reply.page ≡ page.InvalidRequest
-    by true k = url_page g head (target_of head.target) reply k
-    by false k = refused_page reply k
+    by : (b : Bool) → judgement.Local reply ≡ cond b (by_url g head (url_of head.target)) not_built → reply.page ≡ page.InvalidRequest
+    by true k = url_page g head (url_of head.target) reply k
+    by false k = refused_page _ reply k
 
 judged_page : (g : Given) (r : Reading) (reply : LocalReply) → judgement.Local reply ≡ judged g r → reply.page ≡ page.InvalidRequest
-judged_page g Overlong reply e = refused_page reply e
-judged_page g Malformed reply e = refused_page reply e
-judged_page g TooManyFields reply e = refused_page reply e
+judged_page g Overlong reply e = refused_page _ reply e
+judged_page g Malformed reply e = refused_page _ reply e
+judged_page g TooManyFields reply e = refused_page _ reply e
 judged_page g (Head head) reply e = place_page g head reply e
 
 pub local_page : (g : Given) (reply : LocalReply) → Judged g (judgement.Local reply) → reply.page ≡ page.InvalidRequest

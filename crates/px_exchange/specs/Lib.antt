@@ -1,5 +1,4 @@
 pub mod Fields
-pub mod Targets
 pub mod Pages
 pub mod Judging
 pub mod Answering

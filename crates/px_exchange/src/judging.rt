@@ -1,17 +1,18 @@
 // Judging: what is done for a request, before any dial.
 ghost use Rattle.std.specs.Prelude.{◌≡◌, IfOk};
 ghost use Rattle.px_exchange.specs.Judging.{is_built, keeps, sent_fields, sent_head, plan_to, refused, by_rule, by_place, judged, ReadsAs, BlockReads};
+ghost use Rattle.px_patterns.specs.Urls.{url_of};
 
 use crate::configs::Config;
 use crate::fields::{keep_of_request, push_field};
 use crate::pages::Page;
 use crate::pumps::Asked;
-use crate::targets::{Target, read_target};
 use crate::wire::{
-    CLOSE, CONNECTION, CONTENT_LENGTH, EXPECT, GET, HOST, HTTP_PORT, NOT_BUILT, TRANSFER_ENCODING,
+    CLOSE, CONNECTION, CONTENT_LENGTH, EXPECT, GET, HOST, NOT_BUILT, TRANSFER_ENCODING,
 };
 use px_base::{List, Mem, Peer, Text};
 use px_head::{Field, HeadFault, RequestHead, has_field, is_connection_word, print_head};
+use px_patterns::{Url, UrlFault};
 use std::alloc::Global;
 use std::marker::Model;
 
@@ -142,18 +143,16 @@ fn sent_head(alloc: Global, host: &[u8], path: Text, fields: &[Field]) -> Result
     Ok(text)
 }
 
-/// The plan of a request to a target.
+/// The plan of a request to a URL.
 #[tactic(auto, unfolding(crate::specs::Judging::plan_to))]
-fn plan_to(alloc: Global, last: bool, fields: &[Field], target: Target) -> Result<Plan, Mem>
-    ensures { IfOk result (λ plan. plan ≡ plan_to last fields.now target) }
+fn plan_to(alloc: Global, last: bool, fields: &[Field], url: Url) -> Result<Plan, Mem>
+    ensures { IfOk result (λ plan. plan ≡ plan_to last fields.now url) }
 {
-    let Target { host, path } = target;
-    let head = sent_head(alloc, host.as_bytes(), path, fields)?;
+    let authority = url.host_port(alloc)?;
+    let Url { host, port, path } = url;
+    let head = sent_head(alloc, authority.as_bytes(), path, fields)?;
     Ok(Plan {
-        route: Route {
-            host,
-            port: HTTP_PORT,
-        },
+        route: Route { host, port },
         head,
         asked: Asked {
             keep: keeps(last, fields),
@@ -161,14 +160,14 @@ fn plan_to(alloc: Global, last: bool, fields: &[Field], target: Target) -> Resul
     })
 }
 
-/// The refusal of a request.
+/// The refusal of a request, by its name.
 #[tactic(auto, unfolding(crate::specs::Judging::refused))]
-fn refused(alloc: Global) -> Result<Judgement, Mem>
-    ensures { IfOk result (λ judgement. judgement ≡ refused) }
+fn refused(alloc: Global, name: &[u8]) -> Result<Judgement, Mem>
+    ensures { IfOk result (λ judgement. judgement ≡ refused name.now) }
 {
     Ok(Judgement::Local(LocalReply {
         page: Page::InvalidRequest,
-        error: Text::from_bytes(alloc, NOT_BUILT)?,
+        error: Text::from_bytes(alloc, name)?,
     }))
 }
 
@@ -178,15 +177,30 @@ fn judge_form(
     alloc: Global,
     handed: &Handed<'_>,
     head: &RequestHead,
-    target: Target,
+    url: Url,
 ) -> Result<Judgement, Mem>
-    ensures { IfOk result (λ judgement. judgement ≡ by_rule handed.now head.now target) }
+    ensures { IfOk result (λ judgement. judgement ≡ by_rule handed.now head.now url) }
 {
     if !is_built(head) {
-        return refused(alloc);
+        return refused(alloc, NOT_BUILT);
     }
-    let plan = plan_to(alloc, handed.last, head.fields.as_slice(), target)?;
+    let plan = plan_to(alloc, handed.last, head.fields.as_slice(), url)?;
     Ok(Judgement::Forward(plan))
+}
+
+/// The URL that a target stands for, or why it stands for none (RFC 9112, section 3.2.2).
+fn read_url(alloc: Global, target: &[u8]) -> Result<Result<Url, UrlFault>, Mem>
+    ensures { IfOk result (λ read. url_of target.now ≡ read) }
+{
+    match Url::read(alloc, target) {
+        Ok(url) => Ok(Ok(url)),
+        Err(UrlFault::Mem) => Err(Mem),
+        Err(UrlFault::BadByte) => Ok(Err(UrlFault::BadByte)),
+        Err(UrlFault::NotHttp) => Ok(Err(UrlFault::NotHttp)),
+        Err(UrlFault::HasUser) => Ok(Err(UrlFault::HasUser)),
+        Err(UrlFault::NoHost) => Ok(Err(UrlFault::NoHost)),
+        Err(UrlFault::BadPort) => Ok(Err(UrlFault::BadPort)),
+    }
 }
 
 /// Judges a head by its place, its target and its form.
@@ -195,11 +209,11 @@ fn judge_head(alloc: Global, handed: &Handed<'_>, head: &RequestHead) -> Result<
     ensures { IfOk result (λ judgement. judgement ≡ by_place handed.now head.now) }
 {
     if !handed.first {
-        return refused(alloc);
+        return refused(alloc, NOT_BUILT);
     }
-    match read_target(alloc, head.target.as_bytes())? {
-        None => refused(alloc),
-        Some(target) => judge_form(alloc, handed, head, target),
+    match read_url(alloc, head.target.as_bytes())? {
+        Err(fault) => refused(alloc, fault.name().as_bytes()),
+        Ok(url) => judge_form(alloc, handed, head, url),
     }
 }
 
@@ -208,9 +222,9 @@ pub fn judge(alloc: Global, handed: &Handed<'_>, reading: &Reading) -> Result<Ju
     ensures { IfOk result (λ judgement. judgement ≡ judged handed.now reading.now) }
 {
     match reading {
-        Reading::Overlong => refused(alloc),
-        Reading::Malformed => refused(alloc),
-        Reading::TooManyFields => refused(alloc),
+        Reading::Overlong => refused(alloc, NOT_BUILT),
+        Reading::Malformed => refused(alloc, NOT_BUILT),
+        Reading::TooManyFields => refused(alloc, NOT_BUILT),
         Reading::Head(head) => judge_head(alloc, handed, head),
     }
 }

@@ -15,7 +15,6 @@ mod notes;
 mod pages;
 mod pumps;
 mod talks;
-mod targets;
 pub mod wire;
 
 pub use configs::Config;

@@ -12,6 +12,9 @@ struct Outcome {
     after: After,
     returned: Text,
     links: usize,
+    /// Of the one link, and empty or 0 where there is none.
+    host: Text,
+    port: u16,
     sent: Text,
 }
 
@@ -76,9 +79,16 @@ fn answer(rt: &impl Abort, alloc: Global, head: HeadSeen, answer: Answer) -> Out
         after: exchanged.after,
         returned: Text::from_bytes(alloc, client_out.taken()).expect(rt, "memory"),
         links: dialer.links().len(),
+        host: Text::new(alloc),
+        port: 0,
         sent: Text::new(alloc),
     };
     for link in dialer.links() {
+        outcome
+            .host
+            .push_all(link.host.as_bytes())
+            .expect(rt, "memory");
+        outcome.port = link.port;
         outcome
             .sent
             .push_all(link.sent.as_bytes())
@@ -94,9 +104,6 @@ fn block(rt: &impl Abort, alloc: Global, bytes: &[u8]) -> HeadSeen {
 const GET: &[u8] = b"GET http://a.test/x HTTP/1.1\r\nHost: a.test\r\n\r\n";
 
 const ANSWER: &[u8] = b"HTTP/1.1 200 OK\r\nContent-Length: 2\r\n\r\nhi";
-
-const REFUSED: &[u8] =
-    b"HTTP/1.1 400 Bad Request\r\nContent-Type: text/html\r\nContent-Length: 52\r\nCache-Control: no-cache\r\nConnection: close\r\n\r\n<html><body>invalid-request: NotBuilt</body></html>\n";
 
 const NO_DATA: &[u8] =
     b"HTTP/1.1 502 Bad Gateway\r\nContent-Type: text/html\r\nContent-Length: 41\r\nCache-Control: no-cache\r\nConnection: close\r\n\r\n<html><body>no-server-data</body></html>\n";
@@ -128,19 +135,37 @@ fn held_back_fields_are_taken_out_both_ways(rt: HostRuntime) {
     assert_eq!(rt; outcome.after, After::Close);
 }
 
+/// The page of a refused request, by the length of its body and the refusal's name.
+fn refusal(rt: &impl Abort, alloc: Global, len: &[u8], name: &[u8]) -> Text {
+    let mut page = Text::new(alloc);
+    for part in [
+        b"HTTP/1.1 400 Bad Request\r\nContent-Type: text/html\r\nContent-Length: " as &[u8],
+        len,
+        b"\r\nCache-Control: no-cache\r\nConnection: close\r\n\r\n<html><body>invalid-request: ",
+        name,
+        b"</body></html>\n",
+    ] {
+        page.push_all(part).expect(rt, "memory");
+    }
+    page
+}
+
+/// Answers a request that is refused.
+fn refuse(rt: &impl Abort, alloc: Global, head: HeadSeen, len: &[u8], name: &[u8]) {
+    let outcome = answer(rt, alloc, head, link(rt, alloc, ANSWER));
+    let page = refusal(rt, alloc, len, name);
+    assert_eq!(rt; outcome.returned.as_bytes(), page.as_bytes());
+    assert_eq!(rt; outcome.ending, Ending::Page(Page::InvalidRequest));
+    assert_eq!(rt; outcome.after, After::Close);
+    assert_eq!(rt; outcome.links, 0);
+}
+
 #[test]
 fn a_request_of_another_form_is_refused_and_nothing_is_dialled(rt: HostRuntime) {
-    let rows: [&'static [u8]; 15] = [
+    let rows: [&'static [u8]; 8] = [
         b"POST http://a.test/ HTTP/1.1\r\n\r\n",
         b"GETS http://a.test/ HTTP/1.1\r\n\r\n",
         b"GET http://a.test/ HTTP/1.0\r\n\r\n",
-        b"GET https://a.test/ HTTP/1.1\r\n\r\n",
-        b"GET /x HTTP/1.1\r\n\r\n",
-        b"GET http://a.test HTTP/1.1\r\n\r\n",
-        b"GET http:///x HTTP/1.1\r\n\r\n",
-        b"GET http://a.test:80/ HTTP/1.1\r\n\r\n",
-        b"GET http://a_b/ HTTP/1.1\r\n\r\n",
-        b"GET http://a.test/\xc3 HTTP/1.1\r\n\r\n",
         b"GET http://a.test/ HTTP/1.1\r\nContent-length: 0\r\n\r\n",
         b"GET http://a.test/ HTTP/1.1\r\nTransfer-Encoding: chunked\r\n\r\n",
         b"GET http://a.test/ HTTP/1.1\r\nexpect: 100-continue\r\n\r\n",
@@ -148,25 +173,61 @@ fn a_request_of_another_form_is_refused_and_nothing_is_dialled(rt: HostRuntime) 
         b"GET http://a.test/\r\n\r\n",
     ];
     for head in rows {
-        let outcome = answer(
-            &rt,
-            rt.alloc(),
-            block(&rt, rt.alloc(), head),
-            link(&rt, rt.alloc(), ANSWER),
-        );
-        assert_eq!(rt; outcome.returned.as_bytes(), REFUSED);
-        assert_eq!(rt; outcome.ending, Ending::Page(Page::InvalidRequest));
-        assert_eq!(rt; outcome.after, After::Close);
-        assert_eq!(rt; outcome.links, 0);
+        let head = block(&rt, rt.alloc(), head);
+        refuse(&rt, rt.alloc(), head, b"52", b"NotBuilt");
     }
-    let outcome = answer(
-        &rt,
-        rt.alloc(),
-        HeadSeen::Over,
-        link(&rt, rt.alloc(), ANSWER),
-    );
-    assert_eq!(rt; outcome.returned.as_bytes(), REFUSED);
-    assert_eq!(rt; outcome.links, 0);
+    refuse(&rt, rt.alloc(), HeadSeen::Over, b"52", b"NotBuilt");
+}
+
+/// A request with a target that is refused, the length of the page and the refusal's name.
+const TARGETS: [(&[u8], &[u8], &[u8]); 5] = [
+    (b"GET /x HTTP/1.1\r\n\r\n", b"51", b"NotHttp"),
+    (b"GET https://a.test/ HTTP/1.1\r\n\r\n", b"51", b"NotHttp"),
+    (b"GET http:///x HTTP/1.1\r\n\r\n", b"50", b"NoHost"),
+    (b"GET http://u@a.test/ HTTP/1.1\r\n\r\n", b"51", b"HasUser"),
+    (b"GET http://a.test:0/ HTTP/1.1\r\n\r\n", b"51", b"BadPort"),
+];
+
+#[test]
+fn a_target_that_is_no_url_is_refused_by_its_name(rt: HostRuntime) {
+    for (head, len, name) in TARGETS {
+        let head = block(&rt, rt.alloc(), head);
+        refuse(&rt, rt.alloc(), head, len, name);
+    }
+}
+
+/// A request, the host and the port that are dialled, and the head that is sent on.
+const DIALS: [(&[u8], &[u8], u16, &[u8]); 3] = [
+    (
+        b"GET HTTP://a_b HTTP/1.1\r\n\r\n",
+        b"a_b",
+        80,
+        b"GET / HTTP/1.1\r\nHost: a_b\r\nConnection: close\r\n\r\n",
+    ),
+    (
+        b"GET http://a.test:8081/x HTTP/1.1\r\n\r\n",
+        b"a.test",
+        8081,
+        b"GET /x HTTP/1.1\r\nHost: a.test:8081\r\nConnection: close\r\n\r\n",
+    ),
+    (
+        b"GET http://[::1]:81/ HTTP/1.1\r\n\r\n",
+        b"::1",
+        81,
+        b"GET / HTTP/1.1\r\nHost: [::1]:81\r\nConnection: close\r\n\r\n",
+    ),
+];
+
+#[test]
+fn the_host_and_the_port_of_the_url_are_dialled(rt: HostRuntime) {
+    for (head, host, port, sent) in DIALS {
+        let head = block(&rt, rt.alloc(), head);
+        let outcome = answer(&rt, rt.alloc(), head, link(&rt, rt.alloc(), ANSWER));
+        assert_eq!(rt; outcome.host.as_bytes(), host);
+        assert_eq!(rt; outcome.port, port);
+        assert_eq!(rt; outcome.sent.as_bytes(), sent);
+        assert_eq!(rt; outcome.ending, Ending::Passed);
+    }
 }
 
 #[test]

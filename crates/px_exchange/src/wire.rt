@@ -3,13 +3,6 @@ ghost use Rattle.std.specs.Prelude.{◌≡◌, codes};
 
 pub const GET: &[u8] = b"GET";
 
-pub const SCHEME: &[u8] = b"http://";
-
-/// The port of `http` where a target names none (RFC 9110, section 4.2.1).
-pub const HTTP_PORT: u16 = 80;
-
-pub const SLASH: &[u8] = b"/";
-
 pub const HOST: &[u8] = b"Host";
 
 pub const CONNECTION: &[u8] = b"Connection";
@@ -43,9 +36,6 @@ pub const NOT_BUILT: &[u8] = b"NotBuilt";
 /// What the constants of this crate are.
 pub fn constants()
     ensures get { GET.now ≡ codes "GET" }
-    ensures scheme { SCHEME.now ≡ codes "http://" }
-    ensures http_port { HTTP_PORT ≡ 80 }
-    ensures slash { SLASH.now ≡ codes "/" }
     ensures host { HOST.now ≡ codes "Host" }
     ensures connection { CONNECTION.now ≡ codes "Connection" }
     ensures content_length { CONTENT_LENGTH.now ≡ codes "Content-Length" }

@@ -131,6 +131,18 @@ const SESSIONS: &[(&str, &str, &str, &str)] = &[
         "HTTP/1.1 200 OK\r\nContent-Length: 20\r\nConnection: keep-alive\r\n\r\n012345678",
         SENT,
     ),
+    (
+        ANSWER,
+        "GET /x HTTP/1.1\r\n\r\n",
+        "HTTP/1.1 400 Bad Request\r\nContent-Type: text/html\r\nContent-Length: 51\r\nCache-Control: no-cache\r\nConnection: close\r\n\r\n<html><body>invalid-request: NotHttp</body></html>\n",
+        "",
+    ),
+    (
+        ANSWER,
+        "GET http://[::1]:81/ HTTP/1.1\r\n\r\n",
+        REPLY,
+        "::1:81 53\nGET / HTTP/1.1\r\nHost: [::1]:81\r\nConnection: close\r\n\r\n",
+    ),
 ];
 
 /// Runs `pass` over an empty CONFIG.

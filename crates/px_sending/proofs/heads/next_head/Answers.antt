@@ -1,0 +1,8 @@
+use Rattle.std.proofs.Common.{sym}
+use Rattle.px_sending.proofs.HeadLemmas.{head_is}
+use Rattle.px_sending.proofs.heads.next_head.Goals as goal
+
+pub returns : goal.returns
+returns c =
+    rw (c.in_ok-push_all.ensures.ok, c.in_ok-push_plain-2.ensures, c.in_ok-push_framing.ensures, c.in_ok-push_fields.ensures, c.in_ok-push_plain.ensures, c.in_ok-push_next_line.ensures, c.in_ok-head.ensures, sym c.next.view_is)
+    (head_is _)

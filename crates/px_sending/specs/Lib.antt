@@ -1,0 +1,4 @@
+pub mod Heads
+pub mod Prefixes
+pub mod Sends
+pub mod Pieces
