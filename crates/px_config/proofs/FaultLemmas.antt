@@ -1,5 +1,5 @@
 -- Refusals of lines, and faults of files.
-use Rattle.std.proofs.Common.{◌≡◌, ℕ, List, Option, None, Some, Result, Ok, Err, refl, sym, ap, ◌∙◌}
+use Rattle.std.proofs.Common.{◌≡◌, ◌≢◌, ℕ, List, Option, None, Some, Result, Ok, Err, refl, sym, ap, ◌∙◌}
 use Rattle.std.specs.Prelude.{option_map}
 use Rattle.px_text.specs.declared.lines.Line.{Line}
 use Rattle.px_text.specs.declared.faults.TextFault.{TextFault}
@@ -62,8 +62,13 @@ within_some (Some line) sections number is = let same : line.number ≡ number =
 
 pub ruleset within_rules = (within_none, within_some)
 
-pub filter_refused : (meaning : Result FilterFile FilterFault) (f : FilterFault) → (Err {T = FilterFile} f ≢ Err filtering.Mem → Err f ≡ meaning) → IsReported (filters_or meaning) (seen_filter_fault f)
-filter_refused meaning (filtering.At line number) is = ?
-filter_refused meaning filtering.Mem is = tt
+pub filter_refused : (meaning read : Result FilterFile FilterFault) (f : FilterFault) → read ≡ Err f → (read ≢ Err filtering.Mem → read ≡ meaning) → IsReported (filters_or meaning) (seen_filter_fault f)
+filter_refused meaning read (filtering.At line number) was is =
+    let other : read ≢ Err filtering.Mem = λ e. (cc) in
+    ap filters_or (sym (is other) ∙ was)
+filter_refused meaning read filtering.Mem was is = tt
 
-pub ruleset filter_rules = filter_refused
+pub filter_sound : (meaning read : Result FilterFile FilterFault) (file : FilterFile) → read ≡ Ok file → (read ≢ Err filtering.Mem → read ≡ meaning) → filters_or meaning ≡ Ok file
+filter_sound meaning read file was is =
+    let other : read ≢ Err filtering.Mem = λ e. (cc) in
+    ap filters_or (sym (is other) ∙ was)

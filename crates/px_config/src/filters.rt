@@ -1,5 +1,5 @@
 // The filter files of a configuration.
-ghost use Rattle.std.specs.Prelude.{◌≡◌, ◌≢◌, ◌++◌, All, Ok, IfErr, IfOk, OnOk, map, option_copied};
+ghost use Rattle.std.specs.Prelude.{◌≡◌, ◌++◌, [], All, Ok, IfErr, IfOk, OnOk, map, option_copied};
 ghost use Rattle.px_action_files.specs.Faults.{IsReported, and_then};
 ghost use Rattle.px_filter_files.specs.FilterFiles.{file_of};
 ghost use Rattle.px_config.specs.Faults.{IsFault};
@@ -34,7 +34,6 @@ fn filter_fault(fault: FilterFault) -> FileFault
 }
 
 /// The filters of lines.
-#[tactic(auto, using(crate::proofs::FaultLemmas::filter_rules))]
 fn read_lines(alloc: Global, lines: &[Line]) -> Result<FilterFile, FileFault>
     ensures filters { IfOk result (λ file. filters_or (file_of lines.now) ≡ Ok file) }
     ensures refused { IfErr result (IsReported (filters_or (file_of lines.now))) }
