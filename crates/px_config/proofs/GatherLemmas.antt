@@ -48,6 +48,6 @@ gathers_more {old} {mid} {new} {folder} {before} {items} {after} {names} {rest} 
   items_are = λ t.
       h.items_are t ∙ ap (with_files old.contents folder items) first
       ∙ ap (λ i. with_files old.contents folder i others)
-          (sym (added (h.reads.tells_same ∙ t) ∙ item_same old.contents mid.contents items full (h.reads.unchanged t) ∙ ap (with_item old.contents items) whole));
+      (sym (added (h.reads.tells_same ∙ t) ∙ item_same old.contents mid.contents items full (h.reads.unchanged t) ∙ ap (with_item old.contents items) whole));
   fits = λ f. fits (h.fits f);
 }

@@ -1,5 +1,5 @@
 -- Forward lines that are added.
-use Rattle.std.proofs.Common.{◌≡◌, ℕ, List, ◌++◌, [], ◌∷◌, Result, Ok, Err, refl, sym, ap, absurd}
+use Rattle.std.proofs.Common.{◌≡◌, ℕ, List, ◌++◌, [], ◌∷◌, Result, Ok, Err, refl, sym, ap}
 use Rattle.px_action_files.specs.Faults.{IsReported, refused}
 use Rattle.px_decide.specs.Forwards.{AddsLine, IsForwardRefusal, Line as ForwardLine}
 use Rattle.px_decide.specs.declared.faults.ForwardFault.{ForwardFault}

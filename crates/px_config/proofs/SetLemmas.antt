@@ -9,8 +9,8 @@ use Rattle.px_config.specs.Sets.{FitsItem, Item, content_in}
 
 pub fits_in : (items : List Item) (name : List ℕ) → All FitsItem items → FitsLimit FILE_LIMIT (content_in items name)
 fits_in [] name all = tt
-fits_in (item ∷ items) name all = by (bytes_eq item.0 name)
+fits_in (item ∷ items) name all = by (bytes_eq item.0 name) (fits_in items name (All-tail FitsItem item items all))
   where
-    by : (b : Bool) → FitsLimit FILE_LIMIT (cond b item.1 (content_in items name))
-    by true = All-head FitsItem item items all
-    by false = fits_in items name (All-tail FitsItem item items all)
+    by : (b : Bool) → FitsLimit FILE_LIMIT (content_in items name) → FitsLimit FILE_LIMIT (cond b item.1 (content_in items name))
+    by true rest = All-head FitsItem item items all
+    by false rest = rest

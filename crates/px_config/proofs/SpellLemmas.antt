@@ -1,6 +1,6 @@
 -- Sections as they are kept, as plain data.
 use Rattle.std.proofs.Common.{◌≡◌, ℕ, ◌+◌, List, [], ◌∷◌, ◌++◌, map, refl, sym, ap, ◌∙◌}
-use Rattle.std.proofs.lemmas.List.{map-append, map-map}
+use Rattle.std.proofs.lemmas.List.{map-append}
 use Rattle.px_action_files.specs.Meanings.{SectionSeen, seen_section}
 use Rattle.px_action_files.specs.declared.files.ActionFile.{ActionFile}
 use Rattle.px_action_files.specs.declared.sections.Section.{Section}

@@ -1,7 +1,6 @@
 // The lines of the main file.
 ghost use Rattle.std.specs.Prelude.{◌≡◌, ◌<◌, length, IfOk, IfSome, option_copied};
 ghost use Rattle.std.specs.List.{position};
-
 ghost use Rattle.px_base.specs.Blanks.{is_blank};
 ghost use Rattle.px_config.specs.Mains.{directive_of, is_other, is_socks, switch_or_tag};
 ghost use Rattle.px_config.specs.Directives.{last_value, name_in, nonempty, value_for, value_in, values_of};

@@ -29,13 +29,7 @@ impl LoadFault {
     }
 }
 
-fn print_line(
-    alloc: Global,
-    file: &[u8],
-    line: u32,
-    number: u8,
-    name: &str,
-) -> Result<Text, Mem>
+fn print_line(alloc: Global, file: &[u8], line: u32, number: u8, name: &str) -> Result<Text, Mem>
     ensures { IfOk result (λ text. text ≡ fault_line file.now line number name.now) }
 {
     let mut text = Text::from_bytes(alloc, file)?;

@@ -62,12 +62,7 @@ fn read_file(
 }
 
 /// Adds a note for each job that was left out.
-fn add_notes(
-    alloc: Global,
-    name: &[u8],
-    skipped: &[u32],
-    notes: &mut List<Note>,
-) -> Result<(), Mem>
+fn add_notes(alloc: Global, name: &[u8], skipped: &[u32], notes: &mut List<Note>) -> Result<(), Mem>
     ensures { OnOk result (notes.new ≡ notes.old ++ map (skip_note name.now) skipped.now) }
 {
     let mut rest = skipped;

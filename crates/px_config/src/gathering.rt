@@ -7,7 +7,9 @@ ghost use Rattle.px_config.specs.Sets.{FitsItem};
 ghost use Rattle.px_base.specs.Causes.{Rose};
 
 use crate::faults::LoadFault;
-use crate::names::{action_names, confdir, filter_names, full_name, page_names, template_names, templdir};
+use crate::names::{
+    action_names, confdir, filter_names, full_name, page_names, template_names, templdir,
+};
 use crate::sets::{FILE_LIMIT, FileSet, all_included, is_in, readable_lines};
 use px_base::{Content, Files, FilesFault, List, Mem, Text, as_text};
 use px_text::Line;

@@ -17,6 +17,8 @@ mod sets;
 mod settings;
 mod spelling;
 mod templates;
+#[cfg(test)]
+mod tests;
 
 pub use actions::PATTERN_LIMIT;
 pub use configs::Config;

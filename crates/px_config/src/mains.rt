@@ -308,15 +308,18 @@ impl Main {
     ) -> Result<(), Mem>
         ensures { OnOk result (with_address file.now line self.old self.old.listen (Ok (record { host = host.now; port_number = port })) ≡ Ok self.new) }
     {
-        if self.listen.is_some() {
-            let text = Text::from_bytes(alloc, b"listen-address ignored")?;
-            self.note(alloc, file, line, text)
-        } else {
-            self.listen = Some(Address {
-                host: Text::from_bytes(alloc, host)?,
-                port,
-            });
-            Ok(())
+        match &self.listen {
+            Some(_) => {
+                let text = Text::from_bytes(alloc, b"listen-address ignored")?;
+                self.note(alloc, file, line, text)
+            }
+            None => {
+                self.listen = Some(Address {
+                    host: Text::from_bytes(alloc, host)?,
+                    port,
+                });
+                Ok(())
+            }
         }
     }
 

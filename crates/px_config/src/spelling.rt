@@ -15,7 +15,10 @@ use crate::faults::LoadFault;
 use crate::filters::FilterFiles;
 use crate::gathering::gather;
 use crate::mains::Main;
-use crate::names::{IMAGE_BLANK, IMAGE_PATTERN, action_names, confdir, filter_names, page_names, template_names, templdir};
+use crate::names::{
+    IMAGE_BLANK, IMAGE_PATTERN, action_names, confdir, filter_names, page_names, template_names,
+    templdir,
+};
 use crate::sets::{FileSet, all_included};
 use crate::settings::{MainParts, Settings};
 use crate::templates::{check_sizes, image_in, read_pages};

@@ -16,7 +16,12 @@ use px_templates::{PAGES, Page, Template, TemplateFault, built_in, included_name
 use std::alloc::Global;
 
 /// Whether a set has a file over the limit by this name.
-fn is_over(alloc: Global, items: &[(Text, Content)], folder: &[u8], name: &[u8]) -> Result<bool, Mem>
+fn is_over(
+    alloc: Global,
+    items: &[(Text, Content)],
+    folder: &[u8],
+    name: &[u8],
+) -> Result<bool, Mem>
     ensures { IfOk result (λ over. over ≡ is_over (content_in items.now (full_name (Some folder.now) name.now))) }
 {
     let full = full_name(alloc, Some(folder), name)?;
