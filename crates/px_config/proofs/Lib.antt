@@ -5,3 +5,4 @@ pub mod MainLemmas
 pub mod NameLemmas
 pub mod SetLemmas
 pub mod SpellLemmas
+pub mod AddressLemmas

@@ -101,6 +101,7 @@ fn is_local_name(host: &[u8]) -> bool
 }
 
 /// Whether a host is 127 and three numbers to 255, with dots between them.
+#[tactic(auto, using(crate::proofs::AddressLemmas::five_parts))]
 fn are_numbers(host: &[u8]) -> bool
     ensures { result ≡ are_numbers (slice_split is_dot host.now) }
 {

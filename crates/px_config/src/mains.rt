@@ -1,5 +1,5 @@
 // What the lines of the main file set.
-ghost use Rattle.std.specs.Prelude.{◌≡◌, Ok, IfErr, IfOk, OnOk, Option};
+ghost use Rattle.std.specs.Prelude.{◌≡◌, Ok, IfErr, IfOk, OnOk, Option, codes};
 ghost use Rattle.px_action_files.specs.Faults.{IsReported};
 ghost use Rattle.std.specs.List.{list_any};
 ghost use Rattle.std.specs.Str.{bytes_eq};
@@ -298,6 +298,14 @@ impl Main {
         }
     }
 
+    /// Notes a `listen-address` behind the first.
+    fn note_ignored(&mut self, alloc: Global, file: &[u8], line: u32) -> Result<(), Mem>
+        ensures { OnOk result (self.new ≡ with_note file.now line (codes "listen-address ignored") self.old) }
+    {
+        let text = Text::from_bytes(alloc, b"listen-address ignored")?;
+        self.note(alloc, file, line, text)
+    }
+
     fn put_address(
         &mut self,
         alloc: Global,
@@ -309,10 +317,7 @@ impl Main {
         ensures { OnOk result (with_address file.now line self.old self.old.listen (Ok (record { host = host.now; port_number = port })) ≡ Ok self.new) }
     {
         match &self.listen {
-            Some(_) => {
-                let text = Text::from_bytes(alloc, b"listen-address ignored")?;
-                self.note(alloc, file, line, text)
-            }
+            Some(_first) => self.note_ignored(alloc, file, line),
             None => {
                 self.listen = Some(Address {
                     host: Text::from_bytes(alloc, host)?,
