@@ -1,0 +1,61 @@
+-- What the action files of a set give: their sections, or the first fault.
+use Rattle.std.specs.Prelude.{ℕ, ◌+◌, ◌-◌, List, [], ◌∷◌, ◌++◌, length, map, sum_by, Option, Some, None, Result, Ok}
+use Rattle.std.specs.List.{slice_get}
+use Rattle.px_text.specs.declared.lines.Line.{Line}
+use Rattle.px_action_files.specs.Faults.{Refused, and_then, refused, result_map}
+use Rattle.px_action_files.specs.Files.{file_sections}
+use Rattle.px_action_files.specs.Meanings.{SectionSeen, seen_section}
+use Rattle.px_action_files.specs.PatternLines.{pattern_lines}
+use Rattle.px_action_files.specs.declared.files.ActionFile.{ActionFile}
+use Rattle.px_config.specs.declared.actions.ActionFiles.{ActionFiles}
+use Rattle.px_config.specs.declared.actions.TheConstants.{PATTERN_LIMIT}
+use Rattle.px_config.specs.Faults.{Fault, at_file}
+use Rattle.px_config.specs.Parts.{file_lines}
+use Rattle.px_config.specs.Sets.{Item}
+
+-- the pattern that passes the limit is refused at its line
+abbrev pub within : {X : Type 0} → Option Line → X → Result X Refused
+within None sections = Ok sections
+within (Some line) sections = refused line.number 31
+
+-- the sections of lines, where files before them have so many patterns
+unfoldable pub sections_of : ℕ → List Line → Result (List SectionSeen) Refused
+sections_of so_far lines = and_then (file_sections lines) (within (slice_get (pattern_lines lines) (PATTERN_LIMIT - so_far)))
+
+-- an actions file by its name, and its sections
+abbrev pub ActionsSeen : Type 0
+ActionsSeen = List ℕ × List SectionSeen
+
+-- action files, and how many patterns they have
+pub record ActionsGiven : Type 0 where
+  pub files : List ActionsSeen
+  pub patterns : ℕ
+
+-- no action file was read
+abbrev pub no_actions : ActionsGiven
+no_actions = record { files = []; patterns = 0 }
+
+abbrev pub patterns_in : List SectionSeen → ℕ
+patterns_in sections = sum_by (λ s. length s.patterns) sections
+
+abbrev pub with_sections : ActionsGiven → List ℕ → List SectionSeen → ActionsGiven
+with_sections given name sections = record { files = given.files ++ (name, sections) ∷ []; patterns = given.patterns + patterns_in sections }
+
+-- the sections of an actions file, where files before it have so many patterns
+abbrev pub file_actions : List Item → Option (List ℕ) → ℕ → List ℕ → Result (List SectionSeen) Refused
+file_actions items folder so_far name = and_then (file_lines items folder name) (sections_of so_far)
+
+unfoldable pub with_actions : List Item → Option (List ℕ) → ActionsGiven → List ℕ → Result ActionsGiven Fault
+with_actions items folder given name = result_map (with_sections given name) (at_file name (file_actions items folder given.patterns name))
+
+-- the action files of these names, or the first fault
+unfoldable pub action_files : List Item → Option (List ℕ) → ActionsGiven → List (List ℕ) → Result ActionsGiven Fault
+action_files items folder given [] = Ok given
+action_files items folder given (name ∷ names) = and_then (with_actions items folder given name) (λ after. action_files items folder after names)
+
+-- action files of the program as plain data
+abbrev pub seen_file : List ℕ × ActionFile → ActionsSeen
+seen_file file = (file.0, map seen_section file.1.sections)
+
+abbrev pub seen_actions : ActionFiles → ActionsGiven
+seen_actions a = record { files = map seen_file a.files; patterns = a.patterns }

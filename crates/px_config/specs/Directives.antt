@@ -1,0 +1,39 @@
+-- The lines of the main file: a directive's name, white space, and a value (Privoxy's manual, "The Main Configuration File").
+use Rattle.std.specs.Prelude.{ℕ, Bool, List, [], ◌∷◌, filter_map, Option, Some, None, codes, if◌then◌else◌}
+use Rattle.std.specs.List.{before_first, after_first}
+use Rattle.std.specs.Str.{str_eq_ignore_ascii_case}
+use Rattle.px_base.specs.Blanks.{is_blank, trimmed}
+use Rattle.px_text.specs.declared.lines.Line.{Line}
+
+-- the name of a line's directive goes to the first white space
+abbrev pub name_in : List ℕ → List ℕ
+name_in text = before_first is_blank text
+
+-- the value is what stands behind it
+abbrev pub value_in : List ℕ → List ℕ
+value_in text = trimmed (after_first is_blank text)
+
+-- names are compared without case
+abbrev pub is_named : List ℕ → List ℕ → Bool
+is_named name word = str_eq_ignore_ascii_case name word
+
+abbrev pub nonempty : List ℕ → Option (List ℕ)
+nonempty [] = None
+nonempty (b ∷ bs) = Some (b ∷ bs)
+
+-- the value of a line of this directive, if it has one
+abbrev pub value_for : List ℕ → Line → Option (List ℕ)
+value_for word line = if is_named (name_in line.text) word then nonempty (value_in line.text) else None
+
+-- the values of a directive, in the order of its lines
+unfoldable pub values_of : List ℕ → List Line → List (List ℕ)
+values_of word lines = filter_map (value_for word) lines
+
+-- the last of some values, or the one before them
+abbrev pub last_of : Option (List ℕ) → List (List ℕ) → Option (List ℕ)
+last_of before [] = before
+last_of before (value ∷ values) = last_of (Some value) values
+
+-- the last value of a directive, if a line has one
+abbrev pub last_value : List ℕ → List Line → Option (List ℕ)
+last_value word lines = last_of None (values_of word lines)

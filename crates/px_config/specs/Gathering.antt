@@ -1,0 +1,71 @@
+-- Which files are read, and what of them is kept.
+use Rattle.std.specs.Prelude.{◌≡◌, ℕ, ◌||◌, not, Bool, List, [], ◌∷◌, ◌++◌, Option, Some, None, Result, MatchResult, IsTrue, if◌then◌else◌}
+use Rattle.std.specs.Str.{is_utf8}
+use Rattle.px_base.specs.Causes.{Rose}
+use Rattle.px_base.specs.Contents.{Contents, FilesState, Unchanged, content_of}
+use Rattle.px_base.specs.declared.files.Content.{Content}
+use Rattle.px_text.specs.declared.lines.Line.{Line}
+use Rattle.px_config.specs.declared.faults.LoadFault.{LoadFault}
+use Rattle.px_config.specs.declared.faults.LoadFault.TheVariants as fault
+use Rattle.px_config.specs.declared.sets.FileSet.{FileSet}
+use Rattle.px_config.specs.declared.sets.TheConstants.{FILE_LIMIT}
+use Rattle.px_config.specs.Names.{action_names, confdir, filter_names, full_name, template_names, templdir}
+use Rattle.px_config.specs.Sets.{Item, all_included, is_in, readable_lines}
+
+-- a file with what it holds
+abbrev pub item_of : Contents → List ℕ → Item
+item_of contents name = (name, content_of FILE_LIMIT (contents name))
+
+-- a name isn't read again, and one that isn't UTF-8 names no file
+abbrev pub with_item : Contents → List Item → List ℕ → List Item
+with_item contents items name = if is_in items name || not (is_utf8 name) then items else items ++ item_of contents name ∷ []
+
+-- with the files of these names in a folder, each read once
+unfoldable pub with_files : Contents → Option (List ℕ) → List Item → List (List ℕ) → List Item
+with_files contents folder items [] = items
+with_files contents folder items (name ∷ names) = with_files contents folder (with_item contents items (full_name folder name)) names
+
+-- the main file, and the files that its lines name: action files, filter files, and then templates and images
+unfoldable pub named_items : Contents → List ℕ → List Line → List Item
+named_items contents main lines =
+    let files = with_files contents (confdir main lines) (item_of contents main ∷ []) (action_names lines ++ filter_names lines) in
+    with_files contents (Some (templdir main lines)) files template_names
+
+-- and the texts that the templates include
+unfoldable pub all_items : Contents → List ℕ → List Line → List Item
+all_items contents main lines =
+    let items = named_items contents main lines in
+    with_files contents (Some (templdir main lines)) items (all_included items (templdir main lines))
+
+-- a main file whose lines can't be read names no other file
+abbrev pub items_by : Contents → List ℕ → Option (List Line) → List Item
+items_by contents main None = item_of contents main ∷ []
+items_by contents main (Some lines) = all_items contents main lines
+
+-- the files of a configuration, and what each holds: each file once, in the order in which it is named first
+unfoldable pub gathered : Contents → List ℕ → FileSet
+gathered contents main = record { main = main; items = items_by contents main (readable_lines (content_of FILE_LIMIT (contents main))) }
+
+-- files that were only read
+pub record OnlyReads (old new : FilesState) : Type 0 where
+  pub tells_same : new.tells ≡ old.tells
+  pub tells_later_same : new.tells_later ≡ old.tells_later
+  pub unchanged : IsTrue old.tells → Unchanged old.contents new.contents
+  pub later_same : IsTrue old.tells_later → new.later ≡ old.later
+  pub put_faults_same : new.put_faults ≡ old.put_faults
+
+-- why files weren't gathered: the count of faults rose in a read, or memory was wanting
+abbrev pub GatherCause : ℕ → ℕ → LoadFault → Type 0
+GatherCause before now (fault.Spelled file line number) = ⊥
+GatherCause before now (fault.Read file) = Rose before now
+GatherCause before now fault.Mem = Unit {0}
+
+-- the count is as before where the files were read
+abbrev pub GatherCauses : {T : Type 0} → FilesState → FilesState → Result T LoadFault → Type 0
+GatherCauses old new result = MatchResult result (λ _. new.read_faults ≡ old.read_faults) (λ f. GatherCause old.read_faults new.read_faults f)
+
+-- the fault names the file that couldn't be read as it is written; want of memory has no cause
+abbrev pub IsReadFault : List ℕ → LoadFault → Type 0
+IsReadFault written (fault.Spelled file line number) = ⊥
+IsReadFault written (fault.Read file) = file ≡ written
+IsReadFault written fault.Mem = Unit {0}

@@ -1,0 +1,15 @@
+pub mod Directives
+pub mod Names
+pub mod Sets
+pub mod Gathering
+pub mod Faults
+pub mod Parts
+pub mod Actions
+pub mod Pages
+pub mod Addresses
+pub mod Seen
+pub mod Mains
+pub mod Filters
+pub mod Spelling
+pub mod Loading
+pub mod FaultLines

@@ -1,0 +1,29 @@
+//! Configurations: which files they are made of, what the files stand for, and the first fault where they stand for nothing.
+#![tactic(auto)]
+
+mod actions;
+mod addresses;
+mod configs;
+mod contents;
+mod directives;
+mod fault_lines;
+mod faults;
+mod filters;
+mod gathering;
+mod mains;
+mod names;
+mod pages;
+mod sets;
+mod settings;
+mod spelling;
+mod templates;
+#[cfg(test)]
+mod tests;
+
+pub use actions::PATTERN_LIMIT;
+pub use configs::Config;
+pub use faults::LoadFault;
+pub use gathering::gather;
+pub use sets::{FILE_LIMIT, FileSet};
+pub use settings::{Note, Settings};
+pub use spelling::{load, spell};

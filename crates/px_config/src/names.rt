@@ -1,0 +1,152 @@
+// Where the files of a configuration stand.
+ghost use Rattle.std.specs.Prelude.{◌≡◌, ◌++◌, ◌∷◌, IfOk, map, option_copied};
+ghost use Rattle.px_templates.specs.Pages.{page_name};
+ghost use Rattle.px_config.specs.Names.{action_names, confdir, filter_names, folder_of, full_name, image_names, is_rooted, joined, page_names, template_names, templdir};
+
+use crate::directives::{last_value, values};
+use px_base::{List, Mem, Text};
+use px_templates::{PAGES, Page};
+use px_text::Line;
+use std::alloc::Global;
+
+/// The byte between folders and names.
+pub(crate) const SLASH: u8 = b'/';
+
+/// The most action files, and the most filter files.
+pub(crate) const FILES_OF_A_KIND: usize = 16;
+
+/// The name of the image of one transparent dot, in the templates' folder.
+pub(crate) const IMAGE_BLANK: &[u8] = b"image-blank";
+
+/// The name of the image of a pattern, in the templates' folder.
+pub(crate) const IMAGE_PATTERN: &[u8] = b"image-pattern";
+
+/// The folder in which a file stands: the text before the last slash of its name, if there is one.
+#[tactic(auto, unfolding(crate::specs::Names::folder_of), using(crate::proofs::NameLemmas::folder_rules))]
+pub(crate) fn folder_of(name: &[u8]) -> Option<&[u8]>
+    ensures { option_copied result ≡ folder_of name.now }
+{
+    let mut rest = name;
+    'bytes: while let Some((last, front)) = rest.split_last() {
+        if *last == SLASH {
+            return Some(front);
+        }
+        rest = front;
+    }
+    None
+}
+
+fn is_rooted(name: &[u8]) -> bool
+    ensures { result ≡ is_rooted name.now }
+{
+    match name.split_first() {
+        Some((first, _)) => *first == SLASH,
+        None => false,
+    }
+}
+
+/// The name of a file in a folder. One that begins with a slash is used as written.
+pub(crate) fn full_name(alloc: Global, folder: Option<&[u8]>, name: &[u8]) -> Result<Text, Mem>
+    ensures { IfOk result (λ full. full ≡ full_name (option_copied folder.entry) name.now) }
+{
+    if is_rooted(name) {
+        return Text::from_bytes(alloc, name);
+    }
+    joined(alloc, folder, name)
+}
+
+/// A folder and a name, joined by a slash.
+fn joined(alloc: Global, folder: Option<&[u8]>, name: &[u8]) -> Result<Text, Mem>
+    ensures { IfOk result (λ full. full ≡ joined (option_copied folder.entry) name.now) }
+{
+    let Some(folder) = folder else {
+        return Text::from_bytes(alloc, name);
+    };
+    let mut full = Text::from_bytes(alloc, folder)?;
+    full.push(SLASH)?;
+    full.push_all(name)?;
+    Ok(full)
+}
+
+/// The folder of action files and filter files: the last `confdir`, or the main file's folder.
+#[tactic(auto, unfolding(crate::specs::Names::confdir))]
+pub(crate) fn confdir<'l>(main: &'l [u8], lines: &'l [Line]) -> Option<&'l [u8]>
+    ensures { option_copied result ≡ confdir main.now lines.now }
+{
+    match last_value(lines, b"confdir") {
+        Some(folder) => Some(folder),
+        None => folder_of(main),
+    }
+}
+
+/// The folder of templates and images: the last `templdir`, or `templates` in confdir.
+#[tactic(auto, unfolding(crate::specs::Names::templdir))]
+pub(crate) fn templdir(alloc: Global, main: &[u8], lines: &[Line]) -> Result<Text, Mem>
+    ensures { IfOk result (λ folder. folder ≡ templdir main.now lines.now) }
+{
+    match last_value(lines, b"templdir") {
+        Some(folder) => Text::from_bytes(alloc, folder),
+        None => joined(alloc, confdir(main, lines), b"templates"),
+    }
+}
+
+/// The names of the action files. More than sixteen are refused, and left out here.
+#[tactic(auto, unfolding(crate::specs::Names::action_names))]
+pub(crate) fn action_names(alloc: Global, lines: &[Line]) -> Result<List<Text>, Mem>
+    ensures { IfOk result (λ names. names ≡ action_names lines.now) }
+{
+    let mut names = values(alloc, lines, b"actionsfile")?;
+    names.truncate(FILES_OF_A_KIND);
+    Ok(List::from_vec(names))
+}
+
+/// The names of the filter files. More than sixteen are refused, and left out here.
+#[tactic(auto, unfolding(crate::specs::Names::filter_names))]
+pub(crate) fn filter_names(alloc: Global, lines: &[Line]) -> Result<List<Text>, Mem>
+    ensures { IfOk result (λ names. names ≡ filter_names lines.now) }
+{
+    let mut names = values(alloc, lines, b"filterfile")?;
+    names.truncate(FILES_OF_A_KIND);
+    Ok(List::from_vec(names))
+}
+
+/// The names of the templates, in the order of the pages.
+#[tactic(auto, unfolding(crate::specs::Names::page_names))]
+pub(crate) fn page_names(alloc: Global) -> Result<Vec<Text>, Mem>
+    ensures { IfOk result (λ names. names.items ≡ page_names) }
+{
+    names_of(alloc, &PAGES)
+}
+
+/// The names of some pages' templates.
+fn names_of(alloc: Global, pages: &[Page]) -> Result<Vec<Text>, Mem>
+    ensures { IfOk result (λ names. names.items ≡ map page_name pages.now) }
+{
+    let mut names = Vec::new(alloc);
+    let mut rest = pages;
+    'pages: while let Some((page, others)) = rest.split_first() {
+        names.push(Text::from_bytes(alloc, page.name().as_bytes())?)?;
+        rest = others;
+    }
+    Ok(names)
+}
+
+/// The names of the two images.
+fn image_names(alloc: Global) -> Result<Vec<Text>, Mem>
+    ensures { IfOk result (λ names. names.items ≡ image_names) }
+{
+    let mut names = Vec::new(alloc);
+    names.push(Text::from_bytes(alloc, IMAGE_BLANK)?)?;
+    names.push(Text::from_bytes(alloc, IMAGE_PATTERN)?)?;
+    Ok(names)
+}
+
+/// The names of the templates and of the two images.
+pub(crate) fn template_names(alloc: Global) -> Result<List<Text>, Mem>
+    ensures { IfOk result (λ names. names ≡ template_names) }
+{
+    let mut names = page_names(alloc)?;
+    let mut images = image_names(alloc)?;
+    names.append(&mut images)?;
+    Ok(List::from_vec(names))
+}

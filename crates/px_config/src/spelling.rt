@@ -1,0 +1,251 @@
+// What the files of a configuration stand for.
+ghost use Rattle.std.specs.Prelude.{◌≡◌, All, IsTrue, Ok, None, IfErr, IfOk, OnOk, length, sum_by};
+ghost use Rattle.px_base.specs.Contents.{FilesGoOn};
+ghost use Rattle.px_config.specs.Actions.{seen_actions};
+ghost use Rattle.px_config.specs.Faults.{IsFault};
+ghost use Rattle.px_config.specs.Gathering.{GatherCauses, OnlyReads, gathered};
+ghost use Rattle.px_config.specs.Sets.{FitsItem};
+ghost use Rattle.px_config.specs.Spelling.{behind_filters, behind_lines, behind_main, behind_actions, behind_sizes, config_of, filters_seen, seen_config, sizes, spelled};
+ghost use Rattle.px_config.specs.Loading.{IsLoadFault, LoadCauses};
+
+use crate::actions::ActionFiles;
+use crate::configs::Config;
+use crate::contents::{fault_in, file_lines};
+use crate::faults::LoadFault;
+use crate::filters::FilterFiles;
+use crate::gathering::gather;
+use crate::mains::Main;
+use crate::names::{
+    IMAGE_BLANK, IMAGE_PATTERN, action_names, confdir, filter_names, page_names, template_names,
+    templdir,
+};
+use crate::sets::{FileSet, all_included};
+use crate::settings::{MainParts, Settings};
+use crate::templates::{check_sizes, image_in, read_pages};
+use px_base::{Content, Files, List, Mem, Text};
+use px_decide::Forwards;
+use px_filter_files::{FilterFile, Filters};
+use px_merge::Sections;
+use px_templates::Template;
+use px_text::Line;
+use std::alloc::Global;
+
+/// The configuration for which a set of files stands, or its first fault, in this order: the main file as a whole, its
+/// lines, the action files, the filter files, the sizes of templates, images and included texts, and the templates.
+#[tactic(auto, unfolding(crate::specs::Spelling::spelled), using(crate::proofs::FaultLemmas::fault_of))]
+pub fn spell(alloc: Global, set: &FileSet) -> Result<Config, LoadFault>
+    requires { All FitsItem set.now.items }
+    ensures config { IfOk result (λ config. spelled set.now ≡ Ok (seen_config config)) }
+    ensures refused { IfErr result (IsFault (spelled set.now)) }
+{
+    let main = set.main.as_bytes();
+    match file_lines(alloc, set.items.as_slice(), None, main) {
+        Ok(lines) => spell_lines(alloc, set, lines.as_slice()),
+        Err(fault) => Err(fault_in(alloc, main, fault)),
+    }
+}
+
+/// Goes on with the lines of the main file.
+#[tactic(auto, unfolding(crate::specs::Spelling::behind_lines), using(crate::proofs::FaultLemmas::fault_of))]
+fn spell_lines(alloc: Global, set: &FileSet, lines: &[Line]) -> Result<Config, LoadFault>
+    requires { All FitsItem set.now.items }
+    ensures config { IfOk result (λ config. behind_lines set.now lines.now ≡ Ok (seen_config config)) }
+    ensures refused { IfErr result (IsFault (behind_lines set.now lines.now)) }
+{
+    let file = set.main.as_bytes();
+    match Main::read(alloc, file, lines) {
+        Ok(main) => {
+            let parts = main.into_parts(alloc)?;
+            spell_actions(alloc, set, lines, parts)
+        }
+        Err(fault) => Err(fault_in(alloc, file, fault)),
+    }
+}
+
+/// Goes on with the action files.
+#[tactic(auto, unfolding(crate::specs::Spelling::behind_main))]
+fn spell_actions(
+    alloc: Global,
+    set: &FileSet,
+    lines: &[Line],
+    parts: MainParts,
+) -> Result<Config, LoadFault>
+    requires { All FitsItem set.now.items }
+    ensures config { IfOk result (λ config. behind_main set.now lines.now parts ≡ Ok (seen_config config)) }
+    ensures refused { IfErr result (IsFault (behind_main set.now lines.now parts)) }
+{
+    let names = action_names(alloc, lines)?;
+    let folder = confdir(set.main.as_bytes(), lines);
+    match ActionFiles::read(alloc, set.items.as_slice(), folder, names.as_slice()) {
+        Ok(actions) => spell_filters(alloc, set, lines, parts, actions),
+        Err(fault) => Err(fault),
+    }
+}
+
+/// Goes on with the filter files.
+#[tactic(auto, unfolding(crate::specs::Spelling::behind_actions))]
+fn spell_filters(
+    alloc: Global,
+    set: &FileSet,
+    lines: &[Line],
+    parts: MainParts,
+    actions: ActionFiles,
+) -> Result<Config, LoadFault>
+    requires { All FitsItem set.now.items }
+    ensures config { IfOk result (λ config. behind_actions set.now lines.now parts (seen_actions actions) ≡ Ok (seen_config config)) }
+    ensures refused { IfErr result (IsFault (behind_actions set.now lines.now parts (seen_actions actions))) }
+{
+    let names = filter_names(alloc, lines)?;
+    let templates = templdir(alloc, set.main.as_bytes(), lines)?;
+    let folder = confdir(set.main.as_bytes(), lines);
+    let items = set.items.as_slice();
+    let MainParts {
+        settings,
+        forwards,
+        notes,
+    } = parts;
+    match FilterFiles::read(alloc, items, folder, names.as_slice(), notes) {
+        Ok(filters) => spell_templates(
+            alloc,
+            items,
+            templates.as_bytes(),
+            settings,
+            forwards,
+            actions,
+            filters,
+        ),
+        Err(fault) => Err(fault),
+    }
+}
+
+/// Goes on with the sizes of templates, images and included texts.
+#[tactic(auto, unfolding(crate::specs::Spelling::behind_filters))]
+fn spell_templates(
+    alloc: Global,
+    items: &[(Text, Content)],
+    folder: &[u8],
+    settings: Settings,
+    forwards: Forwards,
+    actions: ActionFiles,
+    filters: FilterFiles,
+) -> Result<Config, LoadFault>
+    ensures config { IfOk result (λ config. behind_filters items.now folder.now settings forwards (seen_actions actions) filters ≡ Ok (seen_config config)) }
+    ensures refused { IfErr result (IsFault (behind_filters items.now folder.now settings forwards (seen_actions actions) filters)) }
+{
+    match check_all(alloc, items, folder) {
+        Ok(()) => spell_pages(alloc, items, folder, settings, forwards, actions, filters),
+        Err(fault) => Err(fault),
+    }
+}
+
+/// Refuses the first template, image or included text that is over the limit.
+fn check_all(alloc: Global, items: &[(Text, Content)], folder: &[u8]) -> Result<(), LoadFault>
+    ensures fit { OnOk result (sizes items.now folder.now ≡ Ok tt) }
+    ensures refused { IfErr result (IsFault (sizes items.now folder.now)) }
+{
+    let names = template_names(alloc)?;
+    let pages = page_names(alloc)?;
+    let included = all_included(alloc, items, folder, pages.as_slice())?;
+    match check_sizes(alloc, items, folder, names.as_slice()) {
+        Ok(()) => check_sizes(alloc, items, folder, included.as_slice()),
+        Err(fault) => Err(fault),
+    }
+}
+
+/// Goes on with the templates.
+#[tactic(auto, unfolding(crate::specs::Spelling::behind_sizes))]
+fn spell_pages(
+    alloc: Global,
+    items: &[(Text, Content)],
+    folder: &[u8],
+    settings: Settings,
+    forwards: Forwards,
+    actions: ActionFiles,
+    filters: FilterFiles,
+) -> Result<Config, LoadFault>
+    ensures config { IfOk result (λ config. behind_sizes items.now folder.now settings forwards (seen_actions actions) filters ≡ Ok (seen_config config)) }
+    ensures refused { IfErr result (IsFault (behind_sizes items.now folder.now settings forwards (seen_actions actions) filters)) }
+{
+    match read_pages(alloc, items, folder) {
+        Ok(pages) => {
+            let config = build(
+                alloc, items, folder, settings, forwards, actions, filters, pages,
+            )?;
+            Ok(config)
+        }
+        Err(fault) => Err(fault),
+    }
+}
+
+/// The configuration of its parts.
+#[tactic(auto, using(crate::proofs::SpellLemmas::same_sections))]
+fn build(
+    alloc: Global,
+    items: &[(Text, Content)],
+    folder: &[u8],
+    settings: Settings,
+    forwards: Forwards,
+    actions: ActionFiles,
+    filters: FilterFiles,
+    pages: List<Template>,
+) -> Result<Config, Mem>
+    requires { length pages ≡ 11 }
+    ensures { IfOk result (λ config. seen_config config ≡ config_of items.now folder.now settings forwards (seen_actions actions) filters pages) }
+{
+    let image_blank = image_in(alloc, items, folder, IMAGE_BLANK)?;
+    let image_pattern = image_in(alloc, items, folder, IMAGE_PATTERN)?;
+    let ActionFiles { files, patterns: _ } = actions;
+    let sections = Sections::new(alloc, files)?;
+    let FilterFiles { files, notes } = filters;
+    let filters = join_filters(alloc, files)?;
+    Ok(Config {
+        settings,
+        sections,
+        filters,
+        forwards,
+        pages,
+        image_blank,
+        image_pattern,
+        notes,
+    })
+}
+
+/// The filters of files. Where there are 2^32 filters or more, it is as if memory were wanting.
+fn join_filters(alloc: Global, files: List<FilterFile>) -> Result<Filters, Mem>
+    ensures { IfOk result (λ filters. filters ≡ filters_seen files) }
+{
+    let count = filter_count(files.as_slice())?;
+    if files.len() > u32::MAX as usize || count > u32::MAX as usize {
+        return Err(Mem);
+    }
+    Filters::new(alloc, files)
+}
+
+/// How many filters stand in files.
+fn filter_count(files: &[FilterFile]) -> Result<usize, Mem>
+    ensures { IfOk result (λ count. count ≡ sum_by (λ file. length file.filters) files.now) }
+{
+    let mut count = 0usize;
+    let mut rest = files;
+    'files: while let Some((file, others)) = rest.split_first() {
+        match count.checked_add(file.filters.len()) {
+            Some(more) => count = more,
+            None => return Err(Mem),
+        }
+        rest = others;
+    }
+    Ok(count)
+}
+
+/// Gathers the files of a configuration, and gives the configuration for which they stand, or the first fault. `Read` comes
+/// only where the files' count of faults rose.
+pub fn load<F: Files>(alloc: Global, files: &mut F, main: &str) -> Result<Config, LoadFault>
+    ensures config { IsTrue (F.state files.old).tells → IfOk result (λ config. spelled (gathered (F.state files.old).contents main.now) ≡ Ok (seen_config config)) }
+    ensures refused { IsTrue (F.state files.old).tells → IfErr result (IsLoadFault (spelled (gathered (F.state files.old).contents main.now))) }
+    ensures cause { LoadCauses (F.state files.old) (F.state files.new) result }
+    ensures only_reads { OnlyReads (F.state files.old) (F.state files.new) }
+    ensures go_on { FilesGoOn (F.state files.old) (F.state files.new) }
+{
+    let set = gather(alloc, files, main)?;
+    spell(alloc, &set)
+}

@@ -1,0 +1,53 @@
+-- What is shown of a URL, and what a check of a configuration prints.
+use Rattle.std.specs.Prelude.{ℕ, Bool, List, [], ◌∷◌, ◌++◌, length, map, slice_index_or, decimal, codes, if◌then◌else◌}
+use Rattle.std.specs.List.{flat_map}
+use Rattle.px_actions.specs.Sets.{set_lines}
+use Rattle.px_merge.specs.Merged.{Merged, pattern_count}
+use Rattle.px_merge.specs.Merging.{matching, ref_of, url_actions}
+use Rattle.px_merge.specs.declared.places.SectionRef.{SectionRef}
+use Rattle.px_patterns.specs.Urls.{shown_url}
+use Rattle.px_patterns.specs.declared.urls.Url.{Url}
+use Rattle.px_config.specs.declared.configs.Config.{Config}
+use Rattle.px_config.specs.declared.settings.Note.{Note}
+
+-- FILE:LINE
+abbrev pub place : List ℕ → ℕ → List ℕ
+place file line = file ++ 58 ∷ decimal line
+
+-- where a section stands, as a line
+abbrev pub ref_line : List (List ℕ) → SectionRef → List ℕ
+ref_line names r = place (slice_index_or names r.file []) r.line ++ 10 ∷ []
+
+-- the lines of the sections that match
+unfoldable pub ref_lines : List (List ℕ) → List SectionRef → List ℕ
+ref_lines names refs = flat_map (ref_line names) refs
+
+-- the lines of the actions; with `toggle 0` there are none
+abbrev pub action_lines : Config → Url → List (List ℕ) → List ℕ
+action_lines c url tags = if c.settings.toggle then set_lines (url_actions c.sections.sections url tags) else []
+
+-- the URL, the sections that match it or one of the client's tags, and the actions that they set
+unfoldable pub shown : Config → Url → List (List ℕ) → List ℕ
+shown c url tags =
+    shown_url url ++ codes "\nsections:\n" ++ ref_lines c.sections.names (map ref_of (matching c.sections.sections url tags))
+    ++ codes "actions:\n" ++ action_lines c url tags
+
+-- ---- what a check prints
+
+-- FILE:LINE: note: TEXT
+abbrev pub note_line : Note → List ℕ
+note_line n = place n.file n.line ++ codes ": note: " ++ n.text ++ 10 ∷ []
+
+unfoldable pub note_lines : List Note → List ℕ
+note_lines notes = flat_map note_line notes
+
+-- how many files, sections, patterns and filters there are
+abbrev pub count_line : Config → List ℕ
+count_line c =
+    codes "ok: " ++ decimal (length c.sections.names) ++ codes " action files, " ++ decimal (length c.sections.sections) ++ codes " sections, "
+    ++ decimal (pattern_count c.sections.sections) ++ codes " patterns, " ++ decimal c.filters.files ++ codes " filter files, "
+    ++ decimal (length c.filters.filters) ++ codes " filters\n"
+
+-- the notes, and then the counts
+unfoldable pub checked : Config → List ℕ
+checked c = note_lines c.notes ++ count_line c
