@@ -1,0 +1,3 @@
+pub mod AgainLemmas
+pub mod HeadLemmas
+pub mod PassageLemmas
