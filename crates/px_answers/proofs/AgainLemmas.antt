@@ -1,13 +1,14 @@
 -- The raw bytes of a body are read to themselves and to the same data.
-use Rattle.std.proofs.Common.{◌≡◌, ◌≢◌, ◌×◌, ◌⊎◌, inl, inr, ℕ, ◌+◌, ◌-◌, ◌<◌, ◌≤◌, List, [], ◌∷◌, ◌++◌, length, take, drop, sym, ap, subst, ◌∙◌, refl, arith, append_assoc, length-append}
+use Rattle.std.proofs.Common.{◌≡◌, ◌≢◌, ◌⊎◌, inl, inr, ℕ, ◌==◌, cond, Bool, true, false, ◌+◌, ◌-◌, ◌<◌, ◌≤◌, List, [], ◌∷◌, ◌++◌, length, take, drop, sym, ap, subst, ◌∙◌, refl, arith, append_assoc, length-append}
 use Rattle.std.proofs.lemmas.List.{append-nil, take-append-le, take-append-drop, take-take, length-take}
 use Rattle.std.proofs.Math.Seq.{take-length}
 use Rattle.std.proofs.Math.Nat.{eq-or-lt_of_le}
 use Rattle.std.proofs.lemmas.Grind.{common_steps}
 use Rattle.px_framing.specs.Body.{Body, Part, IsBody, CanGoOn, NoBody, Says, KeepsLimit, IsChunked, AreElements, nothing, first_bytes, body_limit}
-use Rattle.px_framing.specs.Reading.{goes_on, first}
+use Rattle.px_framing.specs.Reading.{goes_on, reads_on, first}
 use Rattle.px_framing.specs.declared.rules.BodyRule.{BodyRule}
 use Rattle.px_framing.specs.declared.rules.BodyRule.TheVariants as rule
+use Rattle.px_framing.specs.declared.stages.Stage.TheVariants as stage
 use Rattle.px_framing.specs.declared.places.State.{State}
 use Rattle.px_framing.specs.declared.places.State.TheVariants as state
 use Rattle.px_answers.specs.Forms.{body_of}
@@ -39,8 +40,8 @@ is_open rest p state.More e n x =
     let limit : KeepsLimit state.More p.used = rw e at x.limit in
     let full : take p.used rest ≡ rest = take_all p.used rest says.0 in
     record {
-      no_body = rw full says.1.1;
-      before_last = λ m lt. can_take m p.used rest (omega arith) (rw full says.1.0);
+      no_body = rw full says.2;
+      before_last = λ m lt. can_take m p.used rest (omega arith) (rw full says.1);
       limit = omega arith;
     }
 is_open rest p state.Cut e n x =
@@ -50,7 +51,7 @@ is_open rest p state.Cut e n x =
 is_open rest p state.Misframed e n x =
     let says : Says state.Misframed rest p.used = rw e at x.says in
     let limit : KeepsLimit state.Misframed p.used = rw e at x.limit in
-    record { no_body = says.1.1.1; before_last = λ m lt. can_take m (p.used - 1) rest (omega arith) says.1.0; limit = limit }
+    record { no_body = says.3; before_last = λ m lt. can_take m (p.used - 1) rest (omega arith) says.1; limit = limit }
 
 -- its raw bytes are a front of it
 record Front (rest : List ℕ) (p : Part) : Type 0 where
@@ -71,7 +72,8 @@ all_used : (rest : List ℕ) (p q : Part) (s : State) → q.state ≡ s → Open
 all_used rest p q state.More e o f y = let says : Says state.More p.raw q.used = rw e at y.says in says.0
 all_used rest p q state.Whole e o f y =
     let says : Says state.Whole p.raw q.used = rw e at y.says in
-    let body : IsBody (take q.used (take p.used rest)) = rw (take-take q.used p.used rest (omega (arith, y.within, f.fits)), sym (f.same q.used y.within)) says in
+    let same : take q.used p.raw ≡ take q.used (take p.used rest) = f.same q.used y.within ∙ sym (take-take q.used p.used rest (omega (arith, y.within, f.fits))) in
+    let body : IsBody (take q.used (take p.used rest)) = subst (λ (w : List ℕ). IsBody w) same says in
     absurd (o.no_body q.used body)
 all_used rest p q state.Cut e o f y =
     let limit : KeepsLimit state.Cut q.used = rw e at y.limit in
@@ -82,7 +84,7 @@ all_used rest p q state.Misframed e o f y =
   where
     by : (q.used ≡ length p.raw) ⊎ (q.used < length p.raw) → Says state.Misframed p.raw q.used → q.used ≡ length p.raw
     by (inl same) says = same
-    by (inr less) says = absurd (says.1.1.0 (rw (sym (f.same q.used y.within)) (o.before_last q.used (omega (arith, less, f.fits)))))
+    by (inr less) says = absurd (says.2 (subst (λ (w : List ℕ). CanGoOn w) (sym (f.same q.used y.within)) (o.before_last q.used (omega (arith, less, f.fits)))))
 
 none_held : (raw held : List ℕ) → length (raw ++ held) ≤ length raw → held ≡ []
 none_held raw [] h = refl
@@ -144,13 +146,32 @@ chunks_again laws rest p state.More e x = open_again laws rest p state.More (λ 
 chunks_again laws rest p state.Cut e x = open_again laws rest p state.Cut (λ h. cc) (is_open rest p state.Cut e (λ h. cc) x) x
 chunks_again laws rest p state.Misframed e x = open_again laws rest p state.Misframed (λ h. cc) (is_open rest p state.Misframed e (λ h. cc) x) x
 
+absent_again : ReadsAgain rule.Absent [] [] state.Whole
+unfolding goes_on
+absent_again = record { own = record { all = refl; used = refl }; same = refl; whole = λ h is. absurd (cc) }
+
 -- the raw bytes of a body are read to themselves and to the same data
 pub again : (laws : Laws) (r : BodyRule) (rest : List ℕ) (p : Part) → Body r rest p → ReadsAgain r p.raw p.plain p.state
-again laws rule.Absent rest p x = rw x (record { own = record { all = refl; used = refl }; same = refl; whole = λ h is. absurd (cc) })
+again laws rule.Absent rest p x = rw x absent_again
 again laws (rule.Length n) rest p x =
     let q = first_again n state.Whole rest (body_of (rule.Length n) (take n rest)) (laws.reads (rule.Length n) (take n rest)) in
-    rw x (record { own = record { all = q.0; used = q.1.0 }; same = q.1.1; whole = λ h is. absurd (cc) })
+    rw x (record { own = record { all = q.0; used = q.1 }; same = q.2; whole = λ h is. absurd (cc) })
 again laws rule.Chunked rest p x = chunks_again laws rest p p.state refl x
 again laws rule.ToClose rest p x =
     let q = first_again body_limit state.Cut rest (body_of rule.ToClose (take body_limit rest)) (laws.reads rule.ToClose (take body_limit rest)) in
-    rw x (record { own = record { all = q.0; used = q.1.0 }; same = q.1.1; whole = λ h is. absurd (cc) })
+    rw x (record { own = record { all = q.0; used = q.1 }; same = q.2; whole = λ h is. absurd (cc) })
+
+-- all bytes of a body that isn't in chunks are its data
+plain_is_raw : (r : BodyRule) (xs : List ℕ) → r ≢ rule.Chunked → (body_of r xs).plain ≡ (body_of r xs).raw
+unfolding goes_on
+plain_is_raw rule.Absent xs n = refl
+plain_is_raw (rule.Length m) xs n = by (m == 0)
+  where
+    by : (none : Bool) → (reads_on (cond none (stage.Ended state.Whole) (stage.Bytes m)) [] xs).plain ≡ (reads_on (cond none (stage.Ended state.Whole) (stage.Bytes m)) [] xs).raw
+    by true = refl
+    by false = refl
+plain_is_raw rule.Chunked xs n = absurd (n refl)
+plain_is_raw rule.ToClose xs n = refl
+
+pub own_data : (r : BodyRule) (raw : List ℕ) → r ≢ rule.Chunked → AreOwn r raw → raw ≡ (body_of r raw).plain
+own_data r raw n own = sym (plain_is_raw r raw n ∙ own.all)

@@ -19,25 +19,37 @@ lines_one f = append-nil (field_line f ++ crlf)
 
 -- a head without its end
 pub front_is : (old : List ℕ) (f : Framed) (out : List ℕ) → out ≡ old ++ printed_head f.first_line f.fields → take (length out - 2) out ≡ old ++ head_front f
-unfolding printed_head, head_front
+unfolding printed_head head_front
 front_is old f out e =
     let front = f.first_line ++ crlf ++ field_lines f.fields in
-    let parts : out ≡ (old ++ front) ++ crlf =
-        e ∙ rw (append_assoc old front crlf, append_assoc f.first_line (crlf ++ field_lines f.fields) crlf, append_assoc crlf (field_lines f.fields) crlf) refl in
+    let parts : out ≡ (old ++ front) ++ crlf = e ∙ sym (append_assoc old front crlf) in
     let len : length out - 2 ≡ length (old ++ front) = rw parts (omega (arith, length-append (old ++ front) crlf)) in
-    rw (len, parts) (take-append_seam (old ++ front) crlf)
+    ap (λ (n : ℕ). take n out) len ∙ ap (take (length (old ++ front))) parts ∙ take-append_seam (old ++ front) crlf
 
--- a head whose framing and Connection follow
-pub head_is : (f : Framed) (framing : List Field) (keep : Bool)
-    → head_front f ++ field_lines framing ++ field_line (connection_field keep) ++ crlf ++ crlf ≡ head_with f framing keep
-unfolding printed_head, head_front, head_with
-head_is f framing keep =
+-- parts put out one behind the other
+parts : (old a b l x e : List ℕ) → ((((old ++ (a ++ b)) ++ l) ++ x) ++ e) ++ e ≡ old ++ ((a ++ ((b ++ l) ++ (x ++ e))) ++ e)
+parts old a b l x e =
+    let y : (old ++ (a ++ b)) ++ l ≡ old ++ (a ++ (b ++ l)) = append_assoc old (a ++ b) l ∙ ap (λ (w : List ℕ). old ++ w) (append_assoc a b l) in
+    let z : (old ++ (a ++ (b ++ l))) ++ (x ++ e) ≡ old ++ (a ++ ((b ++ l) ++ (x ++ e))) =
+        append_assoc old (a ++ (b ++ l)) (x ++ e) ∙ ap (λ (w : List ℕ). old ++ w) (append_assoc a (b ++ l) (x ++ e)) in
+    ap (λ (w : List ℕ). w ++ e) (append_assoc ((old ++ (a ++ b)) ++ l) x e ∙ ap (λ (w : List ℕ). w ++ (x ++ e)) y ∙ z)
+        ∙ append_assoc old (a ++ ((b ++ l) ++ (x ++ e))) e
+
+-- a head whose framing and Connection were put out behind its front
+pub head_is : (old front_out lines_out : List ℕ) (f : Framed) (framing : List Field) (keep : Bool) → front_out ≡ old ++ head_front f → lines_out ≡ front_out ++ field_lines framing
+    → lines_out ++ field_line (connection_field keep) ++ crlf ++ crlf ≡ old ++ head_with f framing keep
+unfolding printed_head head_front head_with
+head_is old front_out lines_out f framing keep e d =
     let c = connection_field keep in
-    rw (lines_append f.fields (framing ++ c ∷ []), lines_append framing (c ∷ []), lines_one c,
-        append_assoc f.first_line (crlf ++ field_lines f.fields) (field_lines framing ++ field_line c ++ crlf ++ crlf), append_assoc crlf (field_lines f.fields) (field_lines framing ++ field_line c ++ crlf ++ crlf),
-        append_assoc (field_lines f.fields) (field_lines framing ++ field_line c ++ crlf) crlf, append_assoc (field_lines framing) (field_line c ++ crlf) crlf, append_assoc (field_line c) crlf crlf) refl
+    let all : field_lines (f.fields ++ framing ++ c ∷ []) ≡ (field_lines f.fields ++ field_lines framing) ++ (field_line c ++ crlf) =
+        lines_append (f.fields ++ framing) (c ∷ []) ∙ ap (λ (w : List ℕ). w ++ field_lines (c ∷ [])) (lines_append f.fields framing)
+            ∙ ap (λ (w : List ℕ). (field_lines f.fields ++ field_lines framing) ++ w) (lines_one c) in
+    ap (λ (w : List ℕ). ((w ++ field_line c) ++ crlf) ++ crlf) (d ∙ ap (λ (w : List ℕ). w ++ field_lines framing) e)
+        ∙ parts old (f.first_line ++ crlf) (field_lines f.fields) (field_lines framing) (field_line c) crlf
+        ∙ ap (λ (w : List ℕ). old ++ (((f.first_line ++ crlf) ++ w) ++ crlf)) (sym all)
 
 -- and where one field frames the body
-pub head_one : (f : Framed) (g : Field) (keep : Bool)
-    → head_front f ++ (field_line g ++ crlf) ++ field_line (connection_field keep) ++ crlf ++ crlf ≡ head_with f (g ∷ []) keep
-head_one f g keep = ap (λ (xs : List ℕ). head_front f ++ xs ++ field_line (connection_field keep) ++ crlf ++ crlf) (sym (lines_one g)) ∙ head_is f (g ∷ []) keep
+pub head_one : (old front_out lines_out : List ℕ) (f : Framed) (g : Field) (keep : Bool) → front_out ≡ old ++ head_front f → lines_out ≡ front_out ++ field_line g ++ crlf
+    → lines_out ++ field_line (connection_field keep) ++ crlf ++ crlf ≡ old ++ head_with f (g ∷ []) keep
+head_one old front_out lines_out f g keep e d =
+    head_is old front_out lines_out f (g ∷ []) keep e (d ∙ append_assoc front_out (field_line g) crlf ∙ ap (λ (w : List ℕ). front_out ++ w) (sym (lines_one g)))

@@ -1,10 +1,10 @@
 -- What a course says of what is returned.
-use Rattle.std.proofs.Common.{◌≡◌, ◌≢◌, ◌×◌, ℕ, ◌+◌, ◌<◌, ◌≤◌, Bool, true, false, ◌&&◌, cond, List, [], ◌∷◌, ◌++◌, length, take, drop, sym, ap, ◌∙◌, refl, arith, append_assoc, length-append, nat_le, Option, Some, None, is_some, not, zero, suc}
+use Rattle.std.proofs.Common.{◌≡◌, ◌≢◌, ℕ, ◌+◌, ◌<◌, ◌≤◌, Bool, true, false, ◌&&◌, cond, List, [], ◌∷◌, ◌++◌, length, take, drop, sym, ap, ◌∙◌, refl, arith, append_assoc, length-append, nat_le, Option, Some, None, is_some, not, min}
 use Rattle.std.proofs.lemmas.Grind.{common_steps}
 use Rattle.std.proofs.lemmas.Bool.Decides.{nat_tests}
-use Rattle.std.proofs.Math.Seq.{take-append_seam, drop-append_seam, drop-length}
+use Rattle.std.proofs.Math.Seq.{take-append_seam, take-nil, drop-append_seam, drop-length}
 use Rattle.std.proofs.lemmas.List.{append-nil}
-use Rattle.px_framing.specs.Body.{Part, nothing, at_end}
+use Rattle.px_framing.specs.Body.{Part, nothing, first_bytes, at_end}
 use Rattle.px_framing.specs.declared.rules.BodyRule.{BodyRule}
 use Rattle.px_framing.specs.declared.rules.BodyRule.TheVariants as rule
 use Rattle.px_framing.specs.declared.places.Place.{Place}
@@ -12,7 +12,7 @@ use Rattle.px_framing.specs.declared.places.Place.TheVariants as place
 use Rattle.px_framing.specs.declared.stages.Stage.{Stage}
 use Rattle.px_framing.specs.declared.stages.Stage.TheVariants as stage
 use Rattle.px_framing.specs.Reading as framing
-use Rattle.px_framing.specs.Reading.{Reading, IsSettled, Steps, KeepsKind, goes_on, first, before, stage_state, is_ended, is_to_close}
+use Rattle.px_framing.specs.Reading.{Reading, IsSettled, Steps, KeepsKind, goes_on, reads, first, before, stage_state, is_ended, is_to_close}
 use Rattle.px_framing.specs.declared.places.State.{State}
 use Rattle.px_framing.specs.declared.places.State.TheVariants as state
 use Rattle.px_answers.specs.declared.forms.Framed.{Framed}
@@ -23,7 +23,7 @@ use Rattle.px_answers.specs.declared.courses.Course.{Course}
 use Rattle.px_answers.specs.declared.courses.Course.TheVariants as course
 use Rattle.px_answers.specs.Forms.{allows, body_of, formed, passed_head, may_filter, is_open, is_more, is_sound, is_whole, stands}
 use Rattle.px_answers.specs.Finished.{Work, finished, by_end, passed, passed_outcome, filtered, so_far}
-use Rattle.px_answers.specs.Passages.{Read, TakesOn, Holds, Passes, Finishes, After, Ends, Begins, added, ended_of, passing}
+use Rattle.px_answers.specs.Passages.{IsRaw, Read, TakesOn, Holds, Passes, Finishes, After, Ends, Begins, added, ended_of, passing}
 
 -- ---- lists
 
@@ -56,7 +56,9 @@ read_on r rest raw plain piece x y n old new read steps = record {
 }
   where
     joins : (p : Part) → before raw plain read.used (before x y n p) ≡ before (raw ++ x) (plain ++ y) (read.used + n) p
-    joins p = rw (append_assoc raw x p.raw, append_assoc plain y p.plain) (ap (λ (k : ℕ). record { raw = raw ++ x ++ p.raw; plain = plain ++ y ++ p.plain; used = k; state = p.state }) (omega arith))
+    joins p =
+        let counts : read.used + (n + p.used) ≡ (read.used + n) + p.used = omega arith in
+        rw (append_assoc raw x p.raw, append_assoc plain y p.plain, counts) refl
 
 -- a reader at its end reads nothing more
 ended_reads : (r : Reading) (more : List ℕ) → stage_state r.stage ≢ state.More → goes_on r more ≡ nothing (stage_state r.stage)
@@ -71,22 +73,25 @@ ended_reads r more n = by r.stage r.kept n
 
 -- and a reader that is fed nothing reads nothing
 pub nothing_left : (r : Reading) → IsSettled r → goes_on r [] ≡ nothing (stage_state r.stage)
-unfolding goes_on, framing.reads
+unfolding goes_on reads
 nothing_left r settled = by r.stage r.kept settled.settled
   where
+    over : (n : ℕ) → 0 < n → nat_le n 0 ≡ false
+    over n h = grind (arith, nat_tests)
+    none : (n : ℕ) (s : State) → 0 < n → first_bytes n s [] ≡ nothing state.More
+    none n s h = let fewest : min n 0 ≡ 0 = omega arith in rw (over n h, take-nil n, fewest) refl
+    at : (p : Place) (kept : List ℕ) → framing.is_last p ≡ false → framing.capped false (reads p kept []) ≡ nothing state.More
+    at place.Size kept h = refl
+    at (place.Data m) kept h = refl
+    at place.Gap kept h = refl
+    at (place.Trailers m) kept h = refl
+    at place.Done kept h = absurd (cc)
+    at place.Wrong kept h = absurd (cc)
     by : (s : Stage) (kept : List ℕ) → framing.IsSettledAt s kept → framing.reads_on s kept [] ≡ nothing (stage_state s)
     by (stage.Ended x) kept h = refl
-    by (stage.Bytes zero) kept h = absurd (omega (arith, h.1))
-    by (stage.Bytes (suc n)) kept h = refl
-    by (stage.Rest zero) kept h = absurd (omega (arith, h.1))
-    by (stage.Rest (suc n)) kept h = refl
-    by (stage.Chunks p zero) kept h = absurd (omega (arith, h.1.1))
-    by (stage.Chunks place.Size (suc n)) kept h = refl
-    by (stage.Chunks (place.Data m) (suc n)) kept h = refl
-    by (stage.Chunks place.Gap (suc n)) kept h = refl
-    by (stage.Chunks (place.Trailers m) (suc n)) kept h = refl
-    by (stage.Chunks place.Done (suc n)) kept h = cc
-    by (stage.Chunks place.Wrong (suc n)) kept h = cc
+    by (stage.Bytes n) kept h = none n state.Whole h.1
+    by (stage.Rest n) kept h = none n state.Cut h.1
+    by (stage.Chunks p n) kept h = rw (over n h.2, take-nil n) (at p kept h.1)
 
 stands_ended : (r : BodyRule) (failed : Bool) (s : State) → s ≢ state.More → stands r failed s ≡ s
 stands_ended r true state.More n = absurd (n refl)
@@ -125,6 +130,23 @@ whole_before rule.Chunked false state.Misframed e h = cc
 whole_before rule.Absent false s e h = cc
 whole_before (rule.Length n) false s e h = cc
 whole_before rule.ToClose false s e h = cc
+
+-- what a reader from the start of a body put out of all its bytes
+pub decoded : (r : BodyRule) (bytes x y : List ℕ) (n : ℕ) (new : Reading) → Steps (first r) bytes x y n new → IsSettled new → (body_of r bytes).plain ≡ y
+decoded r bytes x y n new steps settled =
+    ap (λ (xs : List ℕ). (goes_on (first r) xs).plain) (sym (append-nil bytes)) ∙ ap (λ (p : Part). p.plain) (steps.same [])
+        ∙ ap (λ (p : Part). y ++ p.plain) (nothing_left new settled) ∙ append-nil y
+
+-- a held body, with one more piece
+pub holds_on : (r : BodyRule) (rest raw raw' plain piece : List ℕ) (old new : Reading) → Read r rest raw plain old → (t : TakesOn form.Raw old piece (added raw raw') new)
+    → raw' ≡ raw ++ added raw raw' → Read r (rest ++ piece) raw' (plain ++ t.plain) new
+holds_on r rest raw raw' plain piece old new read t grows =
+    rw (grows ∙ ap (λ (xs : List ℕ). raw ++ xs) t.put_is) (read_on r rest raw plain piece t.raw t.plain t.used old new read t.steps)
+
+pub is_raw_on : (r : BodyRule) (raw raw' piece : List ℕ) (old new : Reading) → IsRaw r raw old → TakesOn form.Raw old piece (added raw raw') new
+    → raw' ≡ raw ++ added raw raw' → IsRaw r raw' new
+is_raw_on r raw raw' piece old new h t grows =
+    record { rest = h.rest ++ piece; plain = h.plain ++ t.plain; read = holds_on r h.rest raw raw' h.plain piece old new h.read t grows }
 
 -- ---- what is returned
 

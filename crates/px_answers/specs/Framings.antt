@@ -3,7 +3,7 @@ use Rattle.std.specs.Prelude.{ℕ, Bool, true, false, not, ◌&&◌, ◌||◌, �
 use Rattle.std.specs.List.{list_all, list_any}
 use Rattle.std.specs.Str.{str_eq_ignore_ascii_case}
 use Rattle.px_base.specs.Numbers.{decimal}
-use Rattle.px_head.specs.Names.{has_name, has_field}
+use Rattle.px_head.specs.Names.{has_name}
 use Rattle.px_head.specs.declared.fields.Field.{Field}
 use Rattle.px_head.specs.declared.responses.ResponseHead.{ResponseHead}
 use Rattle.px_framing.specs.Rules.{codings_of, are_chunked}
@@ -18,13 +18,14 @@ use Rattle.px_answers.specs.declared.framings.Terms.{Terms}
 use Rattle.px_answers.specs.declared.framings.HeaderLines.{HeaderLines}
 use Rattle.px_answers.specs.Forms.{length_field}
 
+unfoldable pub is_length : Field → Bool
+is_length f = has_name (codes "Content-Length") f
+
 -- the number that the one Content-Length states: digits of a value below 2^63
 abbrev pub stated_length : List Field → Option ℕ
 stated_length [] = None
 stated_length (f ∷ fs) =
-    if has_name (codes "Content-Length") f
-    then (if has_field (codes "Content-Length") fs then None else decimal 9223372036854775807 f.value)
-    else stated_length fs
+    if is_length f then (if list_any is_length fs then None else decimal 9223372036854775807 f.value) else stated_length fs
 
 abbrev pub length_fields : Option ℕ → List Field
 length_fields None = []

@@ -1,5 +1,6 @@
 // Fields that are added to a head.
-ghost use Rattle.std.specs.Prelude.{◌≡◌, ◌∷◌, [], ◌++◌, OnOk};
+ghost use Rattle.std.specs.Prelude.{◌≡◌, ◌∷◌, [], ◌++◌, IfOk, OnOk};
+ghost use Rattle.std.specs.Fmt.{decimal};
 ghost use Rattle.px_answers.specs.Forms.{length_field};
 
 use itoa::Buffer;
@@ -26,7 +27,14 @@ pub fn push_field(
 pub fn push_length(alloc: Global, fields: &mut List<Field>, len: u64) -> Result<(), Mem>
     ensures { OnOk result (fields.new ≡ fields.old ++ length_field len ∷ []) }
 {
-    let mut buffer = Buffer::new();
-    let digits = Text::from_bytes(alloc, buffer.format(len).as_bytes())?;
+    let digits = digits(alloc, len)?;
     push_field(alloc, fields, b"Content-Length", digits)
+}
+
+/// The number in decimal digits.
+fn digits(alloc: Global, number: u64) -> Result<Text, Mem>
+    ensures { IfOk result (λ text. text ≡ decimal number) }
+{
+    let mut buffer = Buffer::new();
+    Text::from_bytes(alloc, buffer.format(number).as_bytes())
 }

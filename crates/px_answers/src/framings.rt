@@ -2,7 +2,7 @@
 ghost use Rattle.std.specs.Prelude.{◌≡◌, ◌++◌, [], ◌∷◌, IfOk, OnOk};
 ghost use Rattle.std.specs.List.{list_all, list_any};
 ghost use Rattle.px_framing.specs.Rules.{codings_of};
-ghost use Rattle.px_answers.specs.Framings.{coding_fields, filters_if, form_by, framed_of, framing_of, has_body, is_filter, is_filterable, is_identity, is_old, is_plainly_coded, joined, length_fields, raw_framing, stated_length};
+ghost use Rattle.px_answers.specs.Framings.{coding_fields, filters_if, form_by, framed_of, framing_of, has_body, is_filter, is_length, is_filterable, is_identity, is_old, is_plainly_coded, joined, length_fields, raw_framing, stated_length};
 ghost use Rattle.px_answers.specs.Forms.{length_field};
 
 use crate::fields::{push_field, push_length};
@@ -10,10 +10,8 @@ use crate::forms::{Form, Framed};
 use px_base::{List, Mem, Text, read_decimal, same_without_case};
 use px_filter_files::{FilterKind, Filters};
 use px_framing::{BODY_LIMIT, BodyRule, is_chunked_alone, transfer_codings};
-use px_head::{Field, ResponseHead, has_field, has_name};
+use px_head::{Field, ResponseHead, has_name};
 use std::alloc::Global;
-
-const CONTENT_LENGTH: &[u8] = b"Content-Length";
 
 const CONTENT_ENCODING: &[u8] = b"Content-Encoding";
 
@@ -174,14 +172,27 @@ fn stated_length(received: &[Field]) -> Option<u64>
     ensures { result ≡ stated_length received.now }
 {
     for (at, field) in received.iter().enumerate() {
-        if has_name(field, CONTENT_LENGTH) {
-            if has_field(&received[at + 1..], CONTENT_LENGTH) {
+        if is_length(field) {
+            if has_length(&received[at + 1..]) {
                 return None;
             }
             return read_decimal(field.value.as_bytes(), BODY_LIMIT);
         }
     }
     None
+}
+
+#[tactic(auto, unfolding(crate::specs::Framings::is_length))]
+fn is_length(field: &Field) -> bool
+    ensures { result ≡ is_length field.now }
+{
+    has_name(field, b"Content-Length")
+}
+
+fn has_length(fields: &[Field]) -> bool
+    ensures { result ≡ list_any is_length fields.now }
+{
+    fields.iter().any(|field| is_length(field))
 }
 
 /// Whether the head allows filters.
@@ -200,13 +211,23 @@ fn is_filterable(
     has_body(rule)
         && head.status != PARTIAL_CONTENT
         && terms.text
-        && received.iter().all(|field| is_identity(field))
+        && has_no_encoding(received)
         && is_plainly_coded(received, codings)
-        && terms
-            .filters
-            .as_slice()
-            .iter()
-            .any(|name| is_filter(files, name.as_bytes()))
+        && has_filter(files, terms.filters.as_slice())
+}
+
+/// Whether no coding is applied to the content (RFC 9110, section 8.4).
+fn has_no_encoding(received: &[Field]) -> bool
+    ensures { result ≡ list_all is_identity received.now }
+{
+    received.iter().all(|field| is_identity(field))
+}
+
+/// Whether one of the names is a content filter's.
+fn has_filter(files: &Filters, names: &[Text]) -> bool
+    ensures { result ≡ list_any (is_filter files.now) names.now }
+{
+    names.iter().any(|name| is_filter(files, name.as_bytes()))
 }
 
 /// Whether the transfer codings are none, or `chunked` alone.
@@ -235,7 +256,7 @@ fn has_body(rule: BodyRule) -> bool
     }
 }
 
-/// Whether the field applies no coding to the content (RFC 9110, section 8.4).
+/// Whether the field applies no coding to the content.
 fn is_identity(field: &Field) -> bool
     ensures { result ≡ is_identity field.now }
 {

@@ -1,5 +1,5 @@
 // The machine that returns the body of an answer whose head stands whole.
-ghost use Rattle.std.specs.Prelude.{◌≡◌, ◌≢◌, ◌≤◌, ◌<◌, ◌+◌, ◌^◌, ◌++◌, List, ℕ, Bool, None, [], IfOk, OnOk, OnErr, length};
+ghost use Rattle.std.specs.Prelude.{◌≡◌, ◌≢◌, ◌≤◌, ◌<◌, ◌+◌, ◌^◌, ◌++◌, List, ℕ, Bool, None, [], IfOk, OnOk, OnErr, is_some, not, length};
 ghost use Rattle.px_framing.specs.Passing.{bytes_left};
 ghost use Rattle.px_framing.specs.Reading.{IsSettled, stage_state};
 ghost use Rattle.px_framing.specs.declared.places.State.TheVariants as state;
@@ -68,6 +68,7 @@ fn settle(
     ensures sound { IfOk result (λ next. IsSound framed.now next) }
     ensures grows { IfOk result (λ _. out.new ≡ out.old ++ added out.old out.new) }
     ensures room { IfOk result (λ next. room_of next ≤ bytes_left reader.stage) }
+    ensures more { IfOk result (λ next. ended_of next ≡ None → stage_state reader.stage ≡ State.More) }
     ensures same { warm.new ≡ warm.old }
 {
     raw_again();
@@ -244,6 +245,11 @@ impl Passage {
         ensures vars { self.new.vars ≡ self.old.vars }
         ensures framed { self.new.framed ≡ self.old.framed }
         ensures grows { OnOk result (out.new ≡ out.old ++ added out.old out.new) }
+        ensures so_far { (w : Work) (rest put : List ℕ) → After w self.old.framed rest put self.old.course → Begins w self.old.framed rest put }
+        ensures done { OnOk result ((rest put : List ℕ) → After (record { filters = warm.old; vars = self.old.vars }) self.old.framed rest put self.old.course
+            → is_some (ended_of self.new.course) ≡ not (is_more (body_of self.old.framed.rule (rest ++ piece.now)).state)) }
+        ensures lag { OnOk result ((rest put : List ℕ) → After (record { filters = warm.old; vars = self.old.vars }) self.old.framed rest put self.old.course
+            → length (so_far self.old.framed (body_of self.old.framed.rule (rest ++ piece.now))) ≤ length (put ++ added out.old out.new)) }
         ensures repeats { ended_of self.old.course ≢ None → OnOk result ((self.new ≡ self.old) × (out.new ≡ out.old)) }
         ensures room { OnOk result (ended_of self.new.course ≡ None → room_of self.new.course + length piece.now ≤ room_of self.old.course) }
         ensures wanting { OnErr result (self.new.course ≡ Course.Wanting) }

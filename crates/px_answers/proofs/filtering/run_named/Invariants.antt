@@ -1,4 +1,4 @@
-use Rattle.std.proofs.Common.{◌≡◌, ◌×◌, take}
+use Rattle.std.proofs.Common.{◌≡◌, take}
 use Rattle.std.specs.List.{fold}
 use Rattle.px_answers.specs.Finished.{run_one}
 use Rattle.px_answers.proofs.filtering.run_named.Given as goal

@@ -1,0 +1,8 @@
+use Rattle.std.proofs.Common.{◌≡◌}
+use Rattle.px_answers.proofs.PassageLemmas.{decoded}
+use Rattle.px_answers.proofs.bodies.push_formed.Goals as goal
+
+pub returns-in_ok-decode-in-Plain : goal.returns-in_ok-decode-in-Plain
+returns-in_ok-decode-in-Plain c =
+    let steps = rw c.new-reader.ensures.first at c.in_ok-decode-in-Plain.ensures.steps in
+    rw (c.in-Plain.is, decoded c.args.rule c.args.raw.now _ _ _ _ steps c.state.ensures.settled) c.in_ok-decode-in-Plain.ensures.plain
