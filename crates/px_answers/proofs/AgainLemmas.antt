@@ -3,8 +3,7 @@ use Rattle.std.proofs.Common.{◌≡◌, ◌≢◌, ◌⊎◌, inl, inr, ℕ, �
 use Rattle.std.proofs.lemmas.List.{append-nil, take-append-le, take-append-drop, take-take, length-take}
 use Rattle.std.proofs.Math.Seq.{take-length}
 use Rattle.std.proofs.Math.Nat.{eq-or-lt_of_le}
-use Rattle.std.proofs.lemmas.Grind.{common_steps}
-use Rattle.px_framing.specs.Body.{Body, Part, IsBody, CanGoOn, NoBody, Says, KeepsLimit, IsChunked, AreElements, nothing, first_bytes, body_limit}
+use Rattle.px_framing.specs.Body.{Body, Part, IsBody, CanGoOn, NoBody, Says, KeepsLimit, IsChunked, AreElements, first_bytes, body_limit}
 use Rattle.px_framing.specs.Reading.{goes_on, reads_on, first}
 use Rattle.px_framing.specs.declared.rules.BodyRule.{BodyRule}
 use Rattle.px_framing.specs.declared.rules.BodyRule.TheVariants as rule
@@ -12,7 +11,7 @@ use Rattle.px_framing.specs.declared.stages.Stage.TheVariants as stage
 use Rattle.px_framing.specs.declared.places.State.{State}
 use Rattle.px_framing.specs.declared.places.State.TheVariants as state
 use Rattle.px_answers.specs.Forms.{body_of}
-use Rattle.px_answers.specs.Passages.{ReadsAgain, AreOwn, AreWholeChunks}
+use Rattle.px_answers.specs.Passages.{ReadsAgain, AreOwn}
 
 -- what may go on, and a front of it
 can_front : (a b : List ℕ) → CanGoOn (a ++ b) → CanGoOn a

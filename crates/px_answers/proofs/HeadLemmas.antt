@@ -1,7 +1,7 @@
 -- A head that is printed part by part.
-use Rattle.std.proofs.Common.{◌≡◌, ℕ, ◌+◌, ◌-◌, ◌≤◌, List, [], ◌∷◌, ◌++◌, length, take, sym, ap, ◌∙◌, refl, arith, append_assoc, length-append, Bool, flat_map}
-use Rattle.std.proofs.lemmas.Grind.{flat_map-append, common_steps}
-use Rattle.std.proofs.lemmas.List.{append-nil, take-append-le}
+use Rattle.std.proofs.Common.{◌≡◌, ℕ, ◌-◌, List, [], ◌∷◌, ◌++◌, length, take, sym, ap, ◌∙◌, arith, append_assoc, length-append, Bool}
+use Rattle.std.proofs.lemmas.Grind.{flat_map-append}
+use Rattle.std.proofs.lemmas.List.{append-nil}
 use Rattle.std.proofs.Math.Seq.{take-append_seam}
 use Rattle.px_head.specs.declared.fields.Field.{Field}
 use Rattle.px_head.specs.Prints.{crlf, field_line, field_lines, printed_head}
@@ -31,9 +31,9 @@ parts : (old a b l x e : List ℕ) → ((((old ++ (a ++ b)) ++ l) ++ x) ++ e) ++
 parts old a b l x e =
     let y : (old ++ (a ++ b)) ++ l ≡ old ++ (a ++ (b ++ l)) = append_assoc old (a ++ b) l ∙ ap (λ (w : List ℕ). old ++ w) (append_assoc a b l) in
     let z : (old ++ (a ++ (b ++ l))) ++ (x ++ e) ≡ old ++ (a ++ ((b ++ l) ++ (x ++ e))) =
-        append_assoc old (a ++ (b ++ l)) (x ++ e) ∙ ap (λ (w : List ℕ). old ++ w) (append_assoc a (b ++ l) (x ++ e)) in
+    append_assoc old (a ++ (b ++ l)) (x ++ e) ∙ ap (λ (w : List ℕ). old ++ w) (append_assoc a (b ++ l) (x ++ e)) in
     ap (λ (w : List ℕ). w ++ e) (append_assoc ((old ++ (a ++ b)) ++ l) x e ∙ ap (λ (w : List ℕ). w ++ (x ++ e)) y ∙ z)
-        ∙ append_assoc old (a ++ ((b ++ l) ++ (x ++ e))) e
+    ∙ append_assoc old (a ++ ((b ++ l) ++ (x ++ e))) e
 
 -- a head whose framing and Connection were put out behind its front
 pub head_is : (old front_out lines_out : List ℕ) (f : Framed) (framing : List Field) (keep : Bool) → front_out ≡ old ++ head_front f → lines_out ≡ front_out ++ field_lines framing
@@ -42,11 +42,11 @@ unfolding printed_head head_front head_with
 head_is old front_out lines_out f framing keep e d =
     let c = connection_field keep in
     let all : field_lines (f.fields ++ framing ++ c ∷ []) ≡ (field_lines f.fields ++ field_lines framing) ++ (field_line c ++ crlf) =
-        lines_append (f.fields ++ framing) (c ∷ []) ∙ ap (λ (w : List ℕ). w ++ field_lines (c ∷ [])) (lines_append f.fields framing)
-            ∙ ap (λ (w : List ℕ). (field_lines f.fields ++ field_lines framing) ++ w) (lines_one c) in
+    lines_append (f.fields ++ framing) (c ∷ []) ∙ ap (λ (w : List ℕ). w ++ field_lines (c ∷ [])) (lines_append f.fields framing)
+    ∙ ap (λ (w : List ℕ). (field_lines f.fields ++ field_lines framing) ++ w) (lines_one c) in
     ap (λ (w : List ℕ). ((w ++ field_line c) ++ crlf) ++ crlf) (d ∙ ap (λ (w : List ℕ). w ++ field_lines framing) e)
-        ∙ parts old (f.first_line ++ crlf) (field_lines f.fields) (field_lines framing) (field_line c) crlf
-        ∙ ap (λ (w : List ℕ). old ++ (((f.first_line ++ crlf) ++ w) ++ crlf)) (sym all)
+    ∙ parts old (f.first_line ++ crlf) (field_lines f.fields) (field_lines framing) (field_line c) crlf
+    ∙ ap (λ (w : List ℕ). old ++ (((f.first_line ++ crlf) ++ w) ++ crlf)) (sym all)
 
 -- and where one field frames the body
 pub head_one : (old front_out lines_out : List ℕ) (f : Framed) (g : Field) (keep : Bool) → front_out ≡ old ++ head_front f → lines_out ≡ front_out ++ field_line g ++ crlf

@@ -1,5 +1,5 @@
 -- What a course says of what is returned.
-use Rattle.std.proofs.Common.{◌≡◌, ◌≢◌, ℕ, ◌+◌, ◌<◌, ◌≤◌, Bool, true, false, ◌&&◌, cond, List, [], ◌∷◌, ◌++◌, length, take, drop, sym, ap, ◌∙◌, refl, arith, append_assoc, length-append, nat_le, Option, Some, None, is_some, not, min}
+use Rattle.std.proofs.Common.{◌≡◌, ◌≢◌, ℕ, ◌+◌, ◌<◌, ◌≤◌, Bool, true, false, ◌&&◌, List, [], ◌++◌, length, drop, sym, ap, ◌∙◌, refl, arith, append_assoc, length-append, nat_le, Option, Some, None, is_some, not, min}
 use Rattle.std.proofs.lemmas.Grind.{common_steps}
 use Rattle.std.proofs.lemmas.Bool.Decides.{nat_tests}
 use Rattle.std.proofs.Math.Seq.{take-append_seam, take-nil, drop-append_seam, drop-length}
@@ -22,8 +22,8 @@ use Rattle.px_answers.specs.declared.forms.Form.TheVariants as form
 use Rattle.px_answers.specs.declared.courses.Course.{Course}
 use Rattle.px_answers.specs.declared.courses.Course.TheVariants as course
 use Rattle.px_answers.specs.Forms.{allows, body_of, formed, passed_head, may_filter, is_open, is_more, is_sound, is_whole, stands}
-use Rattle.px_answers.specs.Finished.{Work, finished, by_end, passed, passed_outcome, filtered, so_far}
-use Rattle.px_answers.specs.Passages.{IsRaw, Read, TakesOn, Holds, Passes, Finishes, After, Ends, Begins, added, ended_of, passing}
+use Rattle.px_answers.specs.Finished.{Work, finished, by_end, passed, passed_outcome, so_far}
+use Rattle.px_answers.specs.Passages.{IsRaw, Read, TakesOn, Holds, Passes, Finishes, After, Begins, added, ended_of, passing}
 
 -- ---- lists
 
@@ -78,8 +78,10 @@ nothing_left r settled = by r.stage r.kept settled.settled
   where
     over : (n : ℕ) → 0 < n → nat_le n 0 ≡ false
     over n h = grind (arith, nat_tests)
+
     none : (n : ℕ) (s : State) → 0 < n → first_bytes n s [] ≡ nothing state.More
     none n s h = let fewest : min n 0 ≡ 0 = omega arith in rw (over n h, take-nil n, fewest) refl
+
     at : (p : Place) (kept : List ℕ) → framing.is_last p ≡ false → framing.capped false (reads p kept []) ≡ nothing state.More
     at place.Size kept h = refl
     at (place.Data m) kept h = refl
@@ -87,13 +89,14 @@ nothing_left r settled = by r.stage r.kept settled.settled
     at (place.Trailers m) kept h = refl
     at place.Done kept h = absurd (cc)
     at place.Wrong kept h = absurd (cc)
+
     by : (s : Stage) (kept : List ℕ) → framing.IsSettledAt s kept → framing.reads_on s kept [] ≡ nothing (stage_state s)
     by (stage.Ended x) kept h = refl
     by (stage.Bytes n) kept h = none n state.Whole h.1
     by (stage.Rest n) kept h = none n state.Cut h.1
     by (stage.Chunks p n) kept h = rw (over n h.2, take-nil n) (at p kept h.1)
 
-stands_ended : (r : BodyRule) (failed : Bool) (s : State) → s ≢ state.More → stands r failed s ≡ s
+pub stands_ended : (r : BodyRule) (failed : Bool) (s : State) → s ≢ state.More → stands r failed s ≡ s
 stands_ended r true state.More n = absurd (n refl)
 stands_ended r true state.Whole n = refl
 stands_ended r true state.Cut n = refl
@@ -135,7 +138,7 @@ whole_before rule.ToClose false s e h = cc
 pub decoded : (r : BodyRule) (bytes x y : List ℕ) (n : ℕ) (new : Reading) → Steps (first r) bytes x y n new → IsSettled new → (body_of r bytes).plain ≡ y
 decoded r bytes x y n new steps settled =
     ap (λ (xs : List ℕ). (goes_on (first r) xs).plain) (sym (append-nil bytes)) ∙ ap (λ (p : Part). p.plain) (steps.same [])
-        ∙ ap (λ (p : Part). y ++ p.plain) (nothing_left new settled) ∙ append-nil y
+    ∙ ap (λ (p : Part). y ++ p.plain) (nothing_left new settled) ∙ append-nil y
 
 -- a held body, with one more piece
 pub holds_on : (r : BodyRule) (rest raw raw' plain piece : List ℕ) (old new : Reading) → Read r rest raw plain old → (t : TakesOn form.Raw old piece (added raw raw') new)
@@ -194,6 +197,7 @@ begun w f rest raw plain reader read settled closed = by (stage_state reader.sta
           over = end_over f rest raw plain reader read not_more;
           settled = λ more failed. end_due w f rest raw plain reader read not_more more failed ∙ closed_end w f raw plain (stage_state reader.stage) closed ∙ ap (λ (t : State). passed f raw plain (is_whole t)) e;
         }
+
     by : (s : State) → stage_state reader.stage ≡ s → After w f rest (passed_head f ++ formed f.form raw plain) (passing f reader)
     by state.More e = rw e (record { raw = raw; plain = plain; read = read; more = e; excluded = closed; settled = settled; put_is = refl })
     by state.Whole e = rw e (ends state.Whole e (λ h. cc))
@@ -207,7 +211,7 @@ passes_on w f rest put piece x old new h t settled =
     let read = read_on f.rule rest h.raw h.plain piece t.raw t.plain t.used old new h.read t.steps in
     let closed : is_open f (length (h.raw ++ t.raw)) ≡ false = stays_closed f (length h.raw) (length (h.raw ++ t.raw)) h.excluded (omega (arith, length-append h.raw t.raw)) in
     let all : put ++ x ≡ passed_head f ++ formed f.form (h.raw ++ t.raw) (h.plain ++ t.plain) =
-        rw (h.put_is, t.put_is, formed_more f.form h.raw h.plain t.raw t.plain) (append_assoc (passed_head f) (formed f.form h.raw h.plain) (formed f.form t.raw t.plain)) in
+    rw (h.put_is, t.put_is, formed_more f.form h.raw h.plain t.raw t.plain) (append_assoc (passed_head f) (formed f.form h.raw h.plain) (formed f.form t.raw t.plain)) in
     rw all (begun w f (rest ++ piece) (h.raw ++ t.raw) (h.plain ++ t.plain) new read settled closed)
 
 -- a held body above the limit is put out unfiltered
@@ -264,6 +268,7 @@ finishes w f rest raw plain again old out reader s outcome read is over same o g
     differs state.Whole e h = cc
     differs state.Cut e h = cc
     differs state.Misframed e h = cc
+
     due : (more : List ℕ) (failed : Bool) → by_end w f raw plain (stage_state reader.stage) ≡ record { bytes = added old out; outcome = outcome }
     due more failed = rw (is, sym same, put_one old out (by_end w f raw again s).bytes grows, o) refl
 

@@ -1,7 +1,6 @@
 -- The machine behind a whole head: what it has put out of the bytes that it was fed. In what follows w is what filters run with, f
 -- what the head settled, rest the bytes that were fed, and put those that were put out.
 use Rattle.std.specs.Prelude.{◌≡◌, ◌≢◌, ℕ, ◌+◌, Bool, true, false, Option, Some, None, List, [], ◌++◌, length, take, drop, if◌then◌else◌}
-use Rattle.px_framing.specs.Body.{Part}
 use Rattle.px_framing.specs.Passing.{bytes_left}
 use Rattle.px_framing.specs.Reading as framing
 use Rattle.px_framing.specs.Reading.{Reading, IsSettled, Steps, stage_state}
@@ -16,7 +15,7 @@ use Rattle.px_answers.specs.declared.forms.Outcome.{Outcome}
 use Rattle.px_answers.specs.declared.courses.Course.{Course}
 use Rattle.px_answers.specs.declared.courses.Course.TheVariants as course
 use Rattle.px_answers.specs.Forms.{body_of, formed, is_more, is_open, is_whole, passed_head}
-use Rattle.px_answers.specs.Finished.{Due, Work, finished, passed_outcome}
+use Rattle.px_answers.specs.Finished.{Work, finished, passed_outcome}
 
 -- the bytes behind those that were there
 abbrev pub added : List ℕ → List ℕ → List ℕ

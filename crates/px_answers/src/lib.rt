@@ -15,4 +15,8 @@ mod passages;
 pub use courses::Course;
 pub use forms::{Form, Framed, Outcome, Returned};
 pub use framings::{HeaderLines, Terms, frame};
+pub use laws::settled_at_end;
 pub use passages::Passage;
+
+#[cfg(test)]
+mod tests;

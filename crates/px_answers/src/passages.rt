@@ -99,12 +99,7 @@ fn passing(framed: &Framed, reader: BodyReader) -> Course
 }
 
 /// Goes on with a body that isn't filtered.
-fn pass_on(
-    framed: &Framed,
-    reader: BodyReader,
-    piece: &[u8],
-    out: &mut Text,
-) -> Result<Course, Mem>
+fn pass_on(framed: &Framed, reader: BodyReader, piece: &[u8], out: &mut Text) -> Result<Course, Mem>
     ensures after { IfOk result (λ next. (w : Work) (rest put : List ℕ) → Passes framed.now rest put reader
         → After w framed.now (rest ++ piece.now) (put ++ added out.old out.new) next) }
     ensures sound { IfOk result (λ next. IsSound framed.now next) }

@@ -1,5 +1,3 @@
-use Rattle.std.proofs.Common.{◌≡◌, ◌≢◌}
-use Rattle.px_framing.specs.declared.rules.BodyRule.TheVariants as rule
 use Rattle.px_answers.proofs.AgainLemmas.{own_data}
 use Rattle.px_answers.proofs.bodies.data_of.Goals as goal
 

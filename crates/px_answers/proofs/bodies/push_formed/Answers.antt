@@ -1,4 +1,3 @@
-use Rattle.std.proofs.Common.{◌≡◌}
 use Rattle.px_answers.proofs.PassageLemmas.{decoded}
 use Rattle.px_answers.proofs.bodies.push_formed.Goals as goal
 

@@ -1,4 +1,3 @@
-use Rattle.std.proofs.Common.{◌≡◌}
 use Rattle.px_answers.proofs.fields.push_length.Goals as goal
 
 pub returns : goal.returns

@@ -1,4 +1,4 @@
-use Rattle.std.proofs.Common.{◌≡◌, sym}
+use Rattle.std.proofs.Common.{sym}
 use Rattle.px_answers.specs.Forms.{length_field}
 use Rattle.px_answers.proofs.HeadLemmas.{head_one}
 use Rattle.px_answers.proofs.heads.push_filtered_head.Goals as goal

@@ -1,4 +1,4 @@
-use Rattle.std.proofs.Common.{◌≡◌, sym}
+use Rattle.std.proofs.Common.{sym}
 use Rattle.px_answers.specs.Forms.{keeps}
 use Rattle.px_answers.proofs.HeadLemmas.{head_is}
 use Rattle.px_answers.proofs.heads.push_passed_head.Goals as goal

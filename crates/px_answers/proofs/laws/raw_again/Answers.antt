@@ -1,4 +1,3 @@
-use Rattle.std.proofs.Common.{◌≡◌}
 use Rattle.px_answers.proofs.AgainLemmas.{again}
 use Rattle.px_answers.proofs.laws.raw_again.Goals as goal
 

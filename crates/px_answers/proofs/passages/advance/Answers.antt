@@ -1,4 +1,4 @@
-use Rattle.std.proofs.Common.{◌≡◌, ◌+◌, ◌≤◌, arith}
+use Rattle.std.proofs.Common.{arith}
 use Rattle.px_answers.proofs.PassageLemmas.{holds_on, is_raw_on}
 use Rattle.px_answers.proofs.passages.advance.Goals as goal
 
@@ -12,7 +12,7 @@ returns-in_ok-next-in-Holding-clause-after c rest put held =
     let f = c.args.framed.now in
     let h = rw c.in-Holding.is at held in
     rw h.quiet (c.in_ok-next-in-Holding.ensures.after _ _ (holds_on f.rule rest c.in-Holding.raw _ h.plain c.args.piece.now c.in-Holding.reader _ h.read
-        c.in_ok-take-in-Holding.ensures.takes c.in_ok-take-in-Holding.ensures.grows))
+    c.in_ok-take-in-Holding.ensures.takes c.in_ok-take-in-Holding.ensures.grows))
 
 pub returns-in_ok-next-in-Holding-clause-room : goal.returns-in_ok-next-in-Holding-clause-room
 returns-in_ok-next-in-Holding-clause-room c goes =

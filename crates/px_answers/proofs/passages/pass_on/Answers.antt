@@ -1,4 +1,3 @@
-use Rattle.std.proofs.Common.{◌≡◌}
 use Rattle.px_answers.proofs.PassageLemmas.{passes_on}
 use Rattle.px_answers.proofs.passages.pass_on.Goals as goal
 

@@ -19,4 +19,4 @@ returns-then-not-is_more-clause-after c rest plain read =
     let again = c.raw_again.ensures f.rule rest c.args.raw plain c.args.reader read c.state-state.ensures.settled in
     let over : is_more c.state-state.result ≡ false = cc in
     finishes (record { filters = c.args.warm.now; vars = c.args.vars.now }) f rest c.args.raw plain (body_of f.rule c.args.raw).plain c.args.out.now _ c.args.reader c.state-state.result _ read (sym c.state-state.ensures.state) over
-        again.same c.in_ok-outcome.ensures.outcome c.in_ok-outcome.ensures.put
+    again.same c.in_ok-outcome.ensures.outcome c.in_ok-outcome.ensures.put

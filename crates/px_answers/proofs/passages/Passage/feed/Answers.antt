@@ -1,4 +1,4 @@
-use Rattle.std.proofs.Common.{◌≡◌, sym}
+use Rattle.std.proofs.Common.{sym}
 use Rattle.px_answers.proofs.PassageLemmas.{begins, ends_exactly, no_lag}
 use Rattle.px_answers.proofs.passages.Passage.feed.Goals as goal
 

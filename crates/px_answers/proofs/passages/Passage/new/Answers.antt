@@ -1,4 +1,4 @@
-use Rattle.std.proofs.Common.{◌≡◌, []}
+use Rattle.std.proofs.Common.{[]}
 use Rattle.px_answers.proofs.passages.Passage.new.Goals as goal
 
 pub returns-clause-after : goal.returns-clause-after
