@@ -45,7 +45,6 @@ pub fn push_formed(
         Form::Plain => {
             let mut reader = BodyReader::new(alloc, rule);
             reader.decode(raw, out)?;
-            let _ = reader.state();
             Ok(())
         }
     }

@@ -1,7 +1,7 @@
 //! Answers whose returned bytes are known from outside, cut after every byte.
 use crate::{HeaderLines, Outcome, Passage, Returned, Terms, frame};
 use px_base::{List, Text};
-use px_filter_files::{FilterFile, FilterKind, Filters, NamedFilter};
+use px_filter_files::{FilterFile, FilterKind, Filters, NamedFilter, WarmFilters};
 use px_framing::response_body;
 use px_head::{Field, ResponseHead, is_held_back_of_response};
 use px_subst::{Filter, Job, Vars};
@@ -200,15 +200,15 @@ fn terms(rt: &impl Abort, alloc: Global, asked: Asked) -> Terms {
     }
 }
 
-/// What the machine puts out for the body in two pieces, and what comes of it.
-fn returned(
+/// The machine behind the row's head.
+fn begun(
     rt: &impl Abort,
     alloc: Global,
     files: &Filters,
+    warm: &mut WarmFilters<'_>,
     row: Row,
-    cut: usize,
     out: &mut Text,
-) -> Option<Outcome> {
+) -> Passage {
     let head = ResponseHead::read(alloc, row.head)
         .ok()
         .expect(rt, "a head");
@@ -218,8 +218,20 @@ fn returned(
     let lines = lines(rt, alloc, &head);
     let terms = terms(rt, alloc, row.asked);
     let framed = frame(alloc, files, &head, rule, terms, lines).expect(rt, "memory");
+    Passage::new(alloc, warm, vars(alloc), framed, out).expect(rt, "memory")
+}
+
+/// What comes of the row where its body comes in two pieces.
+fn returned(
+    rt: &impl Abort,
+    alloc: Global,
+    files: &Filters,
+    row: Row,
+    cut: usize,
+    out: &mut Text,
+) -> Option<Outcome> {
     let mut warm = files.warm(alloc).expect(rt, "memory");
-    let mut passage = Passage::new(alloc, &mut warm, vars(alloc), framed, out).expect(rt, "memory");
+    let mut passage = begun(rt, alloc, files, &mut warm, row, out);
     assert!(rt; cut <= row.body.len());
     passage
         .feed(&mut warm, &row.body[..cut], out)
@@ -698,4 +710,45 @@ fn cuts_what_is_not_whole(rt: HostRuntime) {
     for row in CUT {
         assert!(rt; holds(&rt, alloc, &files, row));
     }
+}
+
+#[test]
+fn holds_a_text_to_its_end(rt: HostRuntime) {
+    let alloc = rt.alloc();
+    let files = filters(&rt, alloc);
+    let mut warm = files.warm(alloc).expect(&rt, "memory");
+    let mut out = Text::new(alloc);
+    let mut passage = begun(&rt, alloc, &files, &mut warm, CUT[0], &mut out);
+    for byte in CUT[0].body {
+        passage
+            .feed(&mut warm, &[*byte], &mut out)
+            .expect(&rt, "memory");
+        assert!(rt; out.is_empty() && passage.ended().is_none());
+    }
+    assert_eq!(rt; passage.held(), 6);
+    passage
+        .end(&mut warm, false, &mut out)
+        .expect(&rt, "memory");
+    assert!(rt; out.as_bytes() == CUT[0].out);
+}
+
+#[test]
+fn puts_out_all_else_at_once(rt: HostRuntime) {
+    let alloc = rt.alloc();
+    let files = filters(&rt, alloc);
+    let mut warm = files.warm(alloc).expect(&rt, "memory");
+    let mut out = Text::new(alloc);
+    let mut passage = begun(&rt, alloc, &files, &mut warm, PASSED[0], &mut out);
+    let head = out.len();
+    assert_eq!(rt; PASSED[0].out.len().checked_sub(head), Some(2));
+    passage
+        .feed(&mut warm, b"o", &mut out)
+        .expect(&rt, "memory");
+    assert!(rt; passage.ended().is_none());
+    assert_eq!(rt; out.len().checked_sub(head), Some(1));
+    passage
+        .feed(&mut warm, b"k", &mut out)
+        .expect(&rt, "memory");
+    assert!(rt; passage.ended().is_some());
+    assert!(rt; out.as_bytes() == PASSED[0].out);
 }

@@ -4,4 +4,5 @@ use Rattle.px_answers.proofs.bodies.push_formed.Goals as goal
 pub returns-in_ok-decode-in-Plain : goal.returns-in_ok-decode-in-Plain
 returns-in_ok-decode-in-Plain c =
     let steps = rw c.new-reader.ensures.first at c.in_ok-decode-in-Plain.ensures.steps in
-    rw (c.in-Plain.is, decoded c.args.rule c.args.raw.now _ _ _ _ steps c.state.ensures.settled) c.in_ok-decode-in-Plain.ensures.plain
+    let settled = rw c.reader.view_is at c.reader.invariant in
+    rw (c.in-Plain.is, decoded c.args.rule c.args.raw.now _ _ _ _ steps settled) c.in_ok-decode-in-Plain.ensures.plain
