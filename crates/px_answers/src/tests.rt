@@ -667,50 +667,63 @@ const CUT: [Row; 7] = [
     },
 ];
 
+/// Whether each row holds.
+fn all_hold(rt: &impl Abort, alloc: Global, rows: &[Row]) -> bool {
+    let files = filters(rt, alloc);
+    for row in rows {
+        if !holds(rt, alloc, &files, *row) {
+            return false;
+        }
+    }
+    true
+}
+
 #[test]
 fn passes_unfiltered_bodies(rt: HostRuntime) {
-    let alloc = rt.alloc();
-    let files = filters(&rt, alloc);
-    for row in PASSED {
-        assert!(rt; holds(&rt, alloc, &files, row));
-    }
+    assert!(rt; all_hold(&rt, rt.alloc(), &PASSED));
 }
 
 #[test]
 fn decodes_chunks_for_old_clients(rt: HostRuntime) {
-    let alloc = rt.alloc();
-    let files = filters(&rt, alloc);
-    for row in OLD_CLIENTS {
-        assert!(rt; holds(&rt, alloc, &files, row));
-    }
+    assert!(rt; all_hold(&rt, rt.alloc(), &OLD_CLIENTS));
 }
 
 #[test]
 fn filters_whole_texts(rt: HostRuntime) {
-    let alloc = rt.alloc();
-    let files = filters(&rt, alloc);
-    for row in FILTERED {
-        assert!(rt; holds(&rt, alloc, &files, row));
-    }
+    assert!(rt; all_hold(&rt, rt.alloc(), &FILTERED));
 }
 
 #[test]
 fn counts_raw_bytes_against_the_limit(rt: HostRuntime) {
-    let alloc = rt.alloc();
-    let files = filters(&rt, alloc);
-    for row in LIMITED {
-        assert!(rt; holds(&rt, alloc, &files, row));
-    }
+    assert!(rt; all_hold(&rt, rt.alloc(), &LIMITED));
 }
 
 #[test]
 fn cuts_what_is_not_whole(rt: HostRuntime) {
-    let alloc = rt.alloc();
-    let files = filters(&rt, alloc);
-    for row in CUT {
-        assert!(rt; holds(&rt, alloc, &files, row));
-    }
+    assert!(rt; all_hold(&rt, rt.alloc(), &CUT));
 }
+
+/// A text that is cut, and may be filtered until then.
+const HELD: Row = Row {
+    asked: GET,
+    head: b"HTTP/1.1 200 OK\r\nContent-Type: text/html\r\nTransfer-Encoding: chunked\r\n\r\n",
+    body: b"5\r\nabc",
+    failed: false,
+    out: b"HTTP/1.1 200 OK\r\nContent-Type: text/html\r\nTransfer-Encoding: chunked\r\nConnection: keep-alive\r\n\r\n5\r\nabc",
+    returned: Returned::CutFront,
+    keep: false,
+};
+
+/// A body that isn't filtered.
+const SENT: Row = Row {
+    asked: PLAIN,
+    head: b"HTTP/1.1 200 OK\r\nContent-Length: 2\r\n\r\n",
+    body: b"ok",
+    failed: false,
+    out: b"HTTP/1.1 200 OK\r\nContent-Length: 2\r\nConnection: keep-alive\r\n\r\nok",
+    returned: Returned::Passed,
+    keep: true,
+};
 
 #[test]
 fn holds_a_text_to_its_end(rt: HostRuntime) {
@@ -718,8 +731,8 @@ fn holds_a_text_to_its_end(rt: HostRuntime) {
     let files = filters(&rt, alloc);
     let mut warm = files.warm(alloc).expect(&rt, "memory");
     let mut out = Text::new(alloc);
-    let mut passage = begun(&rt, alloc, &files, &mut warm, CUT[0], &mut out);
-    for byte in CUT[0].body {
+    let mut passage = begun(&rt, alloc, &files, &mut warm, HELD, &mut out);
+    for byte in HELD.body {
         passage
             .feed(&mut warm, &[*byte], &mut out)
             .expect(&rt, "memory");
@@ -729,7 +742,7 @@ fn holds_a_text_to_its_end(rt: HostRuntime) {
     passage
         .end(&mut warm, false, &mut out)
         .expect(&rt, "memory");
-    assert!(rt; out.as_bytes() == CUT[0].out);
+    assert!(rt; out.as_bytes() == HELD.out);
 }
 
 #[test]
@@ -738,9 +751,9 @@ fn puts_out_all_else_at_once(rt: HostRuntime) {
     let files = filters(&rt, alloc);
     let mut warm = files.warm(alloc).expect(&rt, "memory");
     let mut out = Text::new(alloc);
-    let mut passage = begun(&rt, alloc, &files, &mut warm, PASSED[0], &mut out);
+    let mut passage = begun(&rt, alloc, &files, &mut warm, SENT, &mut out);
     let head = out.len();
-    assert_eq!(rt; PASSED[0].out.len().checked_sub(head), Some(2));
+    assert_eq!(rt; SENT.out.len().checked_sub(head), Some(2));
     passage
         .feed(&mut warm, b"o", &mut out)
         .expect(&rt, "memory");
@@ -750,5 +763,5 @@ fn puts_out_all_else_at_once(rt: HostRuntime) {
         .feed(&mut warm, b"k", &mut out)
         .expect(&rt, "memory");
     assert!(rt; passage.ended().is_some());
-    assert!(rt; out.as_bytes() == PASSED[0].out);
+    assert!(rt; out.as_bytes() == SENT.out);
 }
