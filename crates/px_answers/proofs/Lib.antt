@@ -1,0 +1,4 @@
+pub mod AgainLemmas
+pub mod HeadLemmas
+pub mod PassageLemmas
+pub mod SettledLemmas

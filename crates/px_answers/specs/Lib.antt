@@ -1,0 +1,5 @@
+pub mod Forms
+pub mod Framings
+pub mod Finished
+pub mod Heads
+pub mod Passages
