@@ -1,0 +1,5 @@
+mod HeadLemmas
+mod AskingLemmas
+mod PassageLemmas
+mod PumpLemmas
+mod HearingLemmas

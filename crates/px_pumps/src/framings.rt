@@ -1,0 +1,161 @@
+// What the answer's own head settles, by a configuration and by what was asked.
+ghost use Rattle.std.specs.Prelude.{◌≡◌, ◌++◌, codes, drop, IfOk, OnOk};
+ghost use Rattle.px_pumps.specs.Asking.{as_version_1_1, framed_by, framed_of, received_lines, response_set, returned_lines, terms_of};
+
+use crate::asked::Asked;
+use px_actions::{ActionSet, Kind};
+use px_answers::{Framed, HeaderLines, Terms, frame};
+use px_base::{List, Mem, Text};
+use px_config::Config;
+use px_filter_files::WarmFilters;
+use px_framing::BodyRule;
+use px_head::{Field, ResponseHead};
+use px_headers::{ServerOut, is_text, server_headers};
+use px_merge::Side;
+use px_subst::Vars;
+use px_taggers::tag_headers;
+use std::alloc::Global;
+
+/// The version of a returned head, and its length as that of any version.
+const VERSION: &[u8] = b"HTTP/1.1";
+
+/// What the answer's own head settles, and what the words of substitution jobs stand for.
+#[derive(Drop)]
+pub struct Settled {
+    pub framed: Framed,
+    pub vars: Vars,
+}
+
+/// The lines of a head as they were received: the status line, and each field's.
+fn received_lines(alloc: Global, head: &ResponseHead) -> Result<List<Text>, Mem>
+    ensures { IfOk result (λ lines. lines ≡ received_lines head.now) }
+{
+    let mut lines = List::new(alloc);
+    lines.add(head.first_line(alloc)?)?;
+    for field in head.fields.as_slice() {
+        lines.add(field.line(alloc)?)?;
+    }
+    Ok(lines)
+}
+
+/// The action set of an answer, from the request's set and tags.
+#[tactic(auto, unfolding(crate::specs::Asking::response_set))]
+fn response_set(
+    alloc: Global,
+    config: &Config,
+    set: ActionSet,
+    tags: List<Text>,
+    head: &ResponseHead,
+    vars: &Vars,
+) -> Result<ActionSet, Mem>
+    ensures { IfOk result (λ answer. answer ≡ response_set config.now set tags vars.now head.now) }
+{
+    if !config.settings.toggle {
+        return Ok(set);
+    }
+    let mut set = set;
+    let mut tags = tags;
+    let lines = received_lines(alloc, head)?;
+    tag_headers(
+        alloc,
+        &config.sections,
+        &config.filters,
+        &mut set,
+        &mut tags,
+        lines.as_slice(),
+        Side::Response,
+        vars,
+    )?;
+    Ok(set)
+}
+
+/// Copies of texts.
+fn copy_texts(alloc: Global, texts: &[Text]) -> Result<List<Text>, Mem>
+    ensures { IfOk result (λ copies. copies ≡ texts.now) }
+{
+    let mut copies = List::with_capacity(alloc, texts.len())?;
+    for text in texts {
+        copies.add(Text::from_bytes(alloc, text.as_bytes())?)?;
+    }
+    Ok(copies)
+}
+
+/// A status line with its version written as HTTP/1.1.
+fn as_version_1_1(alloc: Global, line: &[u8]) -> Result<Text, Mem>
+    ensures { IfOk result (λ text. text ≡ as_version_1_1 line.now) }
+{
+    let mut text = Text::with_capacity(alloc, line.len())?;
+    text.push_all(VERSION)?;
+    text.push_all(&line[line.len().min(8)..])?;
+    Ok(text)
+}
+
+/// What the header actions made of a head, with its version written as HTTP/1.1.
+fn returned_lines(alloc: Global, out: ServerOut) -> Result<HeaderLines, Mem>
+    ensures { IfOk result (λ lines. lines ≡ returned_lines out) }
+{
+    let ServerOut { first_line, fields } = out;
+    Ok(HeaderLines {
+        first_line: as_version_1_1(alloc, first_line.as_bytes())?,
+        fields,
+    })
+}
+
+/// A copy of a head, from which the header actions take the fields out.
+fn copy_head(alloc: Global, head: &ResponseHead) -> Result<ResponseHead, Mem>
+    ensures { IfOk result (λ copy. copy ≡ head.now) }
+{
+    let received = head.fields.as_slice();
+    let mut fields = List::with_capacity(alloc, received.len())?;
+    for field in received {
+        fields.add(Field {
+            name: Text::from_bytes(alloc, field.name.as_bytes())?,
+            value: Text::from_bytes(alloc, field.value.as_bytes())?,
+        })?;
+    }
+    Ok(ResponseHead {
+        minor: head.minor,
+        status: head.status,
+        reason: Text::from_bytes(alloc, head.reason.as_bytes())?,
+        fields,
+    })
+}
+
+/// What a head settles. The store lent is that of the configuration.
+#[tactic(auto, unfolding(crate::specs::Asking::framed_of))]
+pub fn settle(
+    alloc: Global,
+    config: &Config,
+    warm: &mut WarmFilters<'_>,
+    asked: Asked,
+    head: &ResponseHead,
+    rule: BodyRule,
+) -> Result<Settled, Mem>
+    requires { warm.old ≡ config.now.filters }
+    ensures framed { IfOk result (λ settled. settled.framed ≡ framed_of config.now asked head.now rule) }
+    ensures vars { IfOk result (λ settled. settled.vars ≡ asked.vars) }
+    ensures same { warm.new ≡ warm.old }
+{
+    let Asked {
+        method: _,
+        minor,
+        keep,
+        set,
+        tags,
+        vars,
+        moment,
+    } = asked;
+    let set = response_set(alloc, config, set, tags, head, &vars)?;
+    let mut copy = copy_head(alloc, head)?;
+    let out = server_headers(alloc, &mut copy, &set, &config.filters, warm, &vars, moment)?;
+    let lines = returned_lines(alloc, out)?;
+    let terms = Terms {
+        minor,
+        keep,
+        text: is_text(head.fields.as_slice(), &set),
+        filters: copy_texts(alloc, set.values(Kind::Filter))?,
+        limit: config.settings.buffer_limit,
+    };
+    let framed = frame(alloc, &config.filters, head, rule, terms, lines)?;
+    Ok(Settled { framed, vars })
+}

@@ -1,0 +1,24 @@
+//! What an origin's answer becomes for the client, as it comes, piece by piece.
+#![tactic(auto)]
+
+mod answering;
+mod asked;
+mod dues;
+mod flows;
+mod framings;
+mod heads;
+mod laws;
+mod notes;
+mod pumps;
+mod talks;
+
+pub use answering::return_answer;
+pub use asked::Asked;
+pub use dues::Due;
+pub use flows::Flow;
+pub use notes::{After, Conclusion, Ending, after_whole, broken};
+pub use pumps::Pump;
+pub use talks::Talked;
+
+#[cfg(test)]
+mod tests;

@@ -1,0 +1,373 @@
+// The pump: what is returned of an answer that comes in pieces.
+ghost use Rattle.std.specs.Prelude.{◌≡◌, ◌≢◌, ◌+◌, ◌^◌, ◌<◌, ◌≤◌, ◌++◌, ℕ, List, [], length, drop, None, IfOk, OnErr};
+ghost use Rattle.px_head.specs.Searches.{BeginsSearched};
+ghost use Rattle.px_answers.specs.Finished.{Work};
+ghost use Rattle.px_answers.specs.declared.forms.Framed as framed;
+ghost use Rattle.px_answers.specs.Passages as passages;
+ghost use Rattle.px_templates.specs.declared.pages.Page as page;
+ghost use Rattle.px_pumps.specs.declared.dues.Due as due;
+ghost use Rattle.px_pumps.specs.Answering.{Ask, most_heads};
+ghost use Rattle.px_pumps.specs.Asking.{ask_of};
+ghost use Rattle.px_pumps.specs.Heads.{Leads, heads_room};
+ghost use Rattle.px_pumps.specs.Pumps.{added, EndsAnswer, flow_at, flow_by, held_at, IsOfAnswer, IsSettled, keeps_at, keeps_by, PassageAfter, pieces_left, PumpAfter, Pumped, SoFar, StageAfter, StaysAtEnd};
+
+use crate::asked::Asked;
+use crate::flows::Flow;
+use crate::framings::{Settled, settle};
+use crate::heads::{HeadsRead, read_heads};
+use crate::laws::passage_tells;
+use crate::notes::ending_of;
+use px_answers::{Outcome, Passage};
+use px_base::{Mem, Text};
+use px_config::Config;
+use px_filter_files::WarmFilters;
+use px_head::{HEAD_LIMIT, HeadSearch};
+use px_templates::Page;
+use std::alloc::Global;
+use std::marker::Model;
+use std::mem::replace;
+
+/// So many heads of an answer are read at most: eight interim ones, and its own.
+const MOST_HEADS: u8 = 9;
+
+/// An answer's head that isn't whole.
+#[derive(Drop)]
+pub struct Heading {
+    pub asked: Asked,
+    /// With it at most so many heads are read.
+    pub left: u8,
+    /// Its bytes so far, and how far they were searched.
+    pub held: Text,
+    pub search: HeadSearch,
+}
+
+/// How far an answer has come.
+#[derive(Drop)]
+pub enum Stage {
+    Heading(Heading),
+    /// The answer's own head is whole.
+    Behind(Passage),
+    Refused(Page),
+    /// Memory was wanting.
+    Wanting,
+}
+
+fn flow_by(outcome: Option<Outcome>) -> Flow
+    ensures { result ≡ flow_by outcome }
+{
+    match outcome {
+        None => Flow::More,
+        Some(outcome) => Flow::Done(ending_of(outcome.returned)),
+    }
+}
+
+fn keeps_by(outcome: Option<Outcome>) -> bool
+    ensures { result ≡ keeps_by outcome }
+{
+    match outcome {
+        None => false,
+        Some(outcome) => outcome.keep,
+    }
+}
+
+impl Stage {
+    fn flow(&self) -> Flow
+        ensures { result ≡ flow_at self.now }
+    {
+        match self {
+            Stage::Heading(_) => Flow::More,
+            Stage::Behind(passage) => flow_by(passage.ended()),
+            Stage::Refused(page) => Flow::Refused(*page),
+            Stage::Wanting => Flow::More,
+        }
+    }
+
+    fn keeps(&self) -> bool
+        ensures { result ≡ keeps_at self.now }
+    {
+        match self {
+            Stage::Heading(_) => false,
+            Stage::Behind(passage) => keeps_by(passage.ended()),
+            Stage::Refused(_) => false,
+            Stage::Wanting => false,
+        }
+    }
+}
+
+/// The bytes from there on.
+fn bytes_from(alloc: Global, held: Text, from: usize) -> Result<Text, Mem>
+    requires { from ≤ length held }
+    ensures { IfOk result (λ rest. rest ≡ drop from held) }
+{
+    if from == 0 {
+        Ok(held)
+    } else {
+        Text::from_bytes(alloc, &held.as_bytes()[from..])
+    }
+}
+
+/// The machine behind a head, fed with what follows it so far.
+fn begin_behind(
+    alloc: Global,
+    warm: &mut WarmFilters<'_>,
+    settled: Settled,
+    rest: &[u8],
+    out: &mut Text,
+) -> Result<Passage, Mem>
+    ensures after { IfOk result (λ p. PassageAfter (record { filters = warm.old; vars = settled.vars }) settled.framed rest.now (added out.old out.new) p) }
+    ensures grows { IfOk result (λ _. out.new ≡ out.old ++ added out.old out.new) }
+    ensures framed { IfOk result (λ p. p.framed ≡ settled.framed) }
+    ensures room { IfOk result (λ p. passages.ended_of p.course ≡ None → passages.room_of p.course < 2 ^ 64) }
+    ensures same { warm.new ≡ warm.old }
+{
+    let Settled { framed, vars } = settled;
+    let mut passage = Passage::new(alloc, warm, vars, framed, out)?;
+    passage.feed(warm, rest, out)?;
+    Ok(passage)
+}
+
+/// Goes on from bytes that are held, the last of them new.
+fn pass_heads(
+    alloc: Global,
+    config: &Config,
+    warm: &mut WarmFilters<'_>,
+    heading: Heading,
+    out: &mut Text,
+) -> Result<Stage, Mem>
+    requires begins { BeginsSearched HEAD_LIMIT heading.held heading.search }
+    requires lent { warm.old ≡ config.now.filters }
+    ensures after { IfOk result (λ next. (ask : Ask) (fed : List ℕ) → ask ≡ ask_of config.now heading.asked ask.page_due → Leads most_heads ask.method fed heading.left heading.held
+        → StageAfter ask fed (added out.old out.new) config.now next) }
+    ensures grows { IfOk result (λ _. out.new ≡ out.old ++ added out.old out.new) }
+    ensures settled { IfOk result (IsSettled config.now) }
+    ensures pieces { IfOk result (λ next. (count : ℕ) → count < length heading.held → count < HEAD_LIMIT → flow_at next ≡ Flow.More
+        → pieces_left next < 2 ^ 64 + heads_room heading.left count) }
+    ensures same { warm.new ≡ warm.old }
+{
+    let Heading {
+        asked,
+        left,
+        held,
+        search,
+    } = heading;
+    match read_heads(
+        alloc,
+        asked.method.as_bytes(),
+        left,
+        held.as_bytes(),
+        search,
+    )? {
+        HeadsRead::Waiting { left, from, search } => {
+            let held = bytes_from(alloc, held, from)?;
+            Ok(Stage::Heading(Heading {
+                asked,
+                left,
+                held,
+                search,
+            }))
+        }
+        HeadsRead::Refused => Ok(Stage::Refused(Page::BadReply)),
+        HeadsRead::Final { head, rule, from } => {
+            let settled = settle(alloc, config, warm, asked, &head, rule)?;
+            let passage = begin_behind(alloc, warm, settled, &held.as_bytes()[from..], out)?;
+            Ok(Stage::Behind(passage))
+        }
+    }
+}
+
+/// Feeds a piece to a stage.
+fn advance(
+    alloc: Global,
+    config: &Config,
+    warm: &mut WarmFilters<'_>,
+    stage: Stage,
+    piece: &[u8],
+    out: &mut Text,
+) -> Result<Stage, Mem>
+    requires settled { IsSettled config.now stage }
+    requires lent { warm.old ≡ config.now.filters }
+    ensures after { IfOk result (λ next. (ask : Ask) (fed put : List ℕ) → StageAfter ask fed put config.now stage → StageAfter ask (fed ++ piece.now) (put ++ added out.old out.new) config.now next) }
+    ensures grows { IfOk result (λ _. out.new ≡ out.old ++ added out.old out.new) }
+    ensures settled { IfOk result (IsSettled config.now) }
+    ensures repeats { IfOk result (λ next. StaysAtEnd stage next out.old out.new) }
+    ensures live { IfOk result (λ _. stage ≢ Stage.Wanting) }
+    ensures pieces { IfOk result (λ next. flow_at next ≡ Flow.More → 0 < length piece.now → pieces_left next < pieces_left stage) }
+    ensures same { warm.new ≡ warm.old }
+{
+    match stage {
+        Stage::Heading(heading) => {
+            let Heading {
+                asked,
+                left,
+                held,
+                search,
+            } = heading;
+            let mut held = held;
+            held.push_all(piece)?;
+            let heading = Heading {
+                asked,
+                left,
+                held,
+                search,
+            };
+            let next = pass_heads(alloc, config, warm, heading, out)?;
+            Ok(next)
+        }
+        Stage::Behind(passage) => {
+            let mut passage = passage;
+            passage.feed(warm, piece, out)?;
+            Ok(Stage::Behind(passage))
+        }
+        Stage::Refused(page) => Ok(Stage::Refused(page)),
+        Stage::Wanting => Err(Mem),
+    }
+}
+
+/// Ends the bytes.
+fn finish(
+    config: &Config,
+    warm: &mut WarmFilters<'_>,
+    stage: Stage,
+    failed: bool,
+    out: &mut Text,
+) -> Result<Stage, Mem>
+    requires settled { IsSettled config.now stage }
+    requires lent { warm.old ≡ config.now.filters }
+    ensures ended { IfOk result (λ next. (ask : Ask) (fed put : List ℕ) → StageAfter ask fed put config.now stage
+        → EndsAnswer ask (flow_at next) (keeps_at next) fed failed (put ++ added out.old out.new)) }
+    ensures grows { IfOk result (λ _. out.new ≡ out.old ++ added out.old out.new) }
+    ensures settled { IfOk result (IsSettled config.now) }
+    ensures repeats { IfOk result (λ next. StaysAtEnd stage next out.old out.new) }
+    ensures over { IfOk result (λ next. flow_at next ≢ Flow.More) }
+    ensures live { IfOk result (λ _. stage ≢ Stage.Wanting) }
+    ensures same { warm.new ≡ warm.old }
+{
+    match stage {
+        Stage::Heading(_) => Ok(Stage::Refused(Page::NoServerData)),
+        Stage::Behind(passage) => {
+            let mut passage = passage;
+            passage.end(warm, failed, out)?;
+            Ok(Stage::Behind(passage))
+        }
+        Stage::Refused(page) => Ok(Stage::Refused(page)),
+        Stage::Wanting => Err(Mem),
+    }
+}
+
+/// Returns an answer that comes in pieces: it holds each head until it is whole, drops the interim ones, and then puts out what is
+/// due of each piece. An answer that may still be filtered is held. What filters keep from run to run is lent by each call.
+#[derive(Drop)]
+pub struct Pump<'a> {
+    alloc: Global,
+    config: &'a Config,
+    stage: Stage,
+}
+
+impl<'a> Model for Pump<'a> {
+    ghost use Rattle.px_pumps.specs.Pumps.{Pumping, IsSettled};
+
+    ghost Value = { Pumping };
+
+    ghost view = { λ p. record { config = p.config.now; stage = p.stage } };
+
+    ghost invariant = { λ p. IsSettled p.config.now p.stage };
+}
+
+impl<'a> Pump<'a> {
+    /// A pump that was fed nothing.
+    pub fn new(alloc: Global, config: &'a Config, asked: Asked) -> Pump<'a>
+        ensures after { (page_due : page.Page → due.Due) → PumpAfter (ask_of config.now asked page_due) [] [] result }
+        ensures config { result.config ≡ config.now }
+    {
+        Pump {
+            alloc,
+            config,
+            stage: Stage::Heading(Heading {
+                asked,
+                left: MOST_HEADS,
+                held: Text::new(alloc),
+                search: HeadSearch::new(),
+            }),
+        }
+    }
+
+    /// Feeds a piece, and adds what it puts out. The store lent is that of the configuration. Once the flow isn't `More` it
+    /// stays, and nothing is put out. After `Mem` each further call gives `Mem`.
+    pub fn feed(
+        &mut self,
+        warm: &mut WarmFilters<'_>,
+        piece: &[u8],
+        out: &mut Text,
+    ) -> Result<Flow, Mem>
+        requires { warm.old ≡ self.old.config.filters }
+        ensures after { IfOk result (λ _. (ask : Ask) (fed put : List ℕ) → PumpAfter ask fed put self.old → PumpAfter ask (fed ++ piece.now) (put ++ added out.old out.new) self.new) }
+        ensures pumped { IfOk result (λ f. (ask : Ask) (fed put : List ℕ) → PumpAfter ask fed put self.old → Pumped ask (fed ++ piece.now) (put ++ added out.old out.new) f (keeps_at self.new.stage)) }
+        ensures grows { IfOk result (λ _. out.new ≡ out.old ++ added out.old out.new) }
+        ensures shows { IfOk result (λ f. f ≡ flow_at self.new.stage) }
+        ensures kind { IfOk result IsOfAnswer }
+        ensures repeats { IfOk result (λ _. StaysAtEnd self.old.stage self.new.stage out.old out.new) }
+        ensures progress { IfOk result (λ f. f ≡ Flow.More → 0 < length piece.now → pieces_left self.new.stage < pieces_left self.old.stage) }
+        ensures so_far { (ask : Ask) (fed put : List ℕ) → PumpAfter ask fed put self.old → SoFar ask fed put }
+        ensures live { IfOk result (λ _. self.old.stage ≢ Stage.Wanting) }
+        ensures wanting { OnErr result (self.new.stage ≡ Stage.Wanting) }
+        ensures config { self.new.config ≡ self.old.config }
+        ensures same { warm.new ≡ warm.old }
+    {
+        passage_tells();
+        let stage = replace(&mut self.stage, Stage::Wanting);
+        let next = advance(self.alloc, self.config, warm, stage, piece, out)?;
+        let flow = next.flow();
+        self.stage = next;
+        Ok(flow)
+    }
+
+    /// Ends the answer, and adds what it puts out. `failed` says that its source failed. The flow is then at its end. The store
+    /// lent is that of the configuration. After `Mem` each further call gives `Mem`.
+    pub fn end(
+        &mut self,
+        warm: &mut WarmFilters<'_>,
+        failed: bool,
+        out: &mut Text,
+    ) -> Result<Flow, Mem>
+        requires { warm.old ≡ self.old.config.filters }
+        ensures ended { IfOk result (λ f. (ask : Ask) (fed put : List ℕ) → PumpAfter ask fed put self.old → EndsAnswer ask f (keeps_at self.new.stage) fed failed (put ++ added out.old out.new)) }
+        ensures grows { IfOk result (λ _. out.new ≡ out.old ++ added out.old out.new) }
+        ensures shows { IfOk result (λ f. f ≡ flow_at self.new.stage) }
+        ensures kind { IfOk result IsOfAnswer }
+        ensures repeats { IfOk result (λ _. StaysAtEnd self.old.stage self.new.stage out.old out.new) }
+        ensures over { IfOk result (λ f. f ≢ Flow.More) }
+        ensures so_far { (ask : Ask) (fed put : List ℕ) → PumpAfter ask fed put self.old → SoFar ask fed put }
+        ensures live { IfOk result (λ _. self.old.stage ≢ Stage.Wanting) }
+        ensures wanting { OnErr result (self.new.stage ≡ Stage.Wanting) }
+        ensures config { self.new.config ≡ self.old.config }
+        ensures same { warm.new ≡ warm.old }
+    {
+        passage_tells();
+        let stage = replace(&mut self.stage, Stage::Wanting);
+        let next = finish(self.config, warm, stage, failed, out)?;
+        let flow = next.flow();
+        self.stage = next;
+        Ok(flow)
+    }
+
+    /// How many of the answer's bytes are held: those of a head that isn't whole, or the raw ones of a body that may still be
+    /// filtered. With an unfinished line of at most 8,192 bytes they are all that are kept.
+    pub fn held(&self) -> u64
+        ensures kept { held_at self.now.stage ≤ result + 8192 }
+        ensures within { result ≤ self.now.config.settings.buffer_limit + HEAD_LIMIT }
+    {
+        match &self.stage {
+            Stage::Heading(heading) => heading.held.len() as u64,
+            Stage::Behind(passage) => passage.held(),
+            Stage::Refused(_) => 0,
+            Stage::Wanting => 0,
+        }
+    }
+
+    /// Whether the client's connection is kept behind an answer that is done.
+    pub fn keeps(&self) -> bool
+        ensures { result ≡ keeps_at self.now.stage }
+    {
+        self.stage.keeps()
+    }
+}
