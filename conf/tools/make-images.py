@@ -57,9 +57,10 @@ def blank():
 
 
 def pattern():
-    """Eight by eight pixels with slanted lines, the one colour grey and the other not seen: it can be read on light and on dark."""
-    pixels = [1 if (x + y) % 8 == 0 else 0 for y in range(8) for x in range(8)]
-    return gif(8, 8, [(255, 255, 255), (136, 136, 136)], pixels, transparent=0)
+    """Slanted grey lines, and nothing seen between them: it shows on light and on dark pages, and where it is stretched."""
+    side = 32
+    pixels = [1 if (x + y) % 8 < 2 else 0 for y in range(side) for x in range(side)]
+    return gif(side, side, [(255, 255, 255), (136, 136, 136)], pixels, transparent=0)
 
 
 def main():
