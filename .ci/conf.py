@@ -1,5 +1,6 @@
 #!/usr/bin/env python3
-"""Checks the configuration in conf/ with the built program: `check config` is without notes, `show` gives the actions below.
+"""Checks the configuration in conf/ with the built program: `check config` is without notes, `show` gives the actions below,
+and what docs/MANUAL.md prints of both is what they print.
 
 Usage: conf.py PROGRAM..
 
@@ -11,6 +12,7 @@ import sys
 
 HERE = os.path.dirname(os.path.abspath(__file__))
 CONF = os.path.join(HERE, "..", "conf")
+MANUAL = os.path.join(HERE, "..", "docs", "MANUAL.md")
 
 # The whole output of `check config`: no notes, and the counts.
 CHECKED = "ok: 3 action files, 31 sections, 287 patterns, 1 filter files, 28 filters\n"
@@ -74,6 +76,9 @@ ROWS = [
     ("a client with the tag untouched", "http://ads.example.net/offer untouched", [], FRAGILE),
 ]
 
+# Addresses of which the manual prints what `show` says, up to the first action.
+IN_THE_MANUAL = ["http://ads.example.net/offer", "http://www.example.com/market/ads/list.html"]
+
 
 def name_of(line):
     return line[1:].split("{")[0]
@@ -115,6 +120,15 @@ def try_program(program):
             fail(row, "show config " + words, *["missing  " + line for line in want if line not in got],
                  *["too many " + line for line in got if line not in want],
                  *(["in another order"] if sorted(got) == sorted(want) else []))
+    with open(MANUAL, encoding="utf-8") as file:
+        manual = file.read()
+    if CHECKED not in manual:
+        fail("the manual's line of check", "expected: " + CHECKED.rstrip())
+    for url in IN_THE_MANUAL:
+        lines = run(program, ["show", "config", url])[1].splitlines()
+        said = lines[: lines.index("actions:") + 2] if "actions:" in lines else lines
+        if not said or "\n" + "\n".join(said) + "\n" not in manual:
+            fail("the manual's example " + url, *said)
     return failed
 
 
@@ -126,7 +140,7 @@ def main():
     failed = subprocess.run([sys.executable, os.path.join(CONF, "tools", "make-images.py"), "--check"]).returncode
     for program in programs:
         failed += try_program(program)
-    print("conf.py: %d rows, %s" % ((len(ROWS) + 1) * len(programs), "%d failed" % failed if failed else "all as expected"))
+    print("conf.py: %d rows, %s" % ((len(ROWS) + len(IN_THE_MANUAL) + 2) * len(programs), "%d failed" % failed if failed else "all as expected"))
     return 1 if failed else 0
 
 
