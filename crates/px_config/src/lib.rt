@@ -17,6 +17,7 @@ mod sets;
 mod settings;
 mod spelling;
 mod templates;
+mod warm;
 #[cfg(test)]
 mod tests;
 
@@ -27,3 +28,4 @@ pub use gathering::gather;
 pub use sets::{FILE_LIMIT, FileSet};
 pub use settings::{Note, Settings};
 pub use spelling::{load, spell};
+pub use warm::Warm;

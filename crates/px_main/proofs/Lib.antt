@@ -2,3 +2,4 @@ pub mod OriginLemmas
 pub mod WordLemmas
 pub mod ReadLemmas
 pub mod PassLemmas
+pub mod LoadLemmas

@@ -6,7 +6,7 @@ use Rattle.px_base.specs.declared.files.Content.{Content}
 use Rattle.px_base.specs.declared.files.Content.TheVariants as content
 use Rattle.px_base.specs.declared.dials.Answer.{Answer}
 use Rattle.px_base.specs.Contents.{content_of}
-use Rattle.px_main.specs.Faults.{fault_line}
+use Rattle.px_config.specs.FaultLines.{fault_line}
 use Rattle.px_main.specs.Origins.{IsOrigin}
 use Rattle.px_main.specs.Passes.{refusal, HasAnswers}
 

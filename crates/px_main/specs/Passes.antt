@@ -16,12 +16,10 @@ use Rattle.px_serve.specs.Histories.{Looks}
 use Rattle.px_serve.specs.Sessions.{Caller, Serves}
 use Rattle.px_main.specs.declared.statuses.Status.{Status}
 use Rattle.px_main.specs.declared.statuses.Status.TheVariants as status
-use Rattle.px_main.specs.declared.statuses.TheConstants.{USAGE}
-use Rattle.px_main.specs.Faults.{fault_line}
+use Rattle.px_config.specs.FaultLines.{fault_line}
 use Rattle.px_main.specs.Origins.{IsOrigin}
 use Rattle.px_main.specs.Sents.{sent_text}
-use Rattle.px_main.specs.Statuses.{is_wanting, status_after, code_of}
-use Rattle.px_main.specs.Words.{IsPass}
+use Rattle.px_main.specs.Statuses.{is_wanting, status_after}
 
 -- the objects of a run: the files, the input, the output, the error output and the clock
 pub record Outside : Type 0 where
@@ -181,23 +179,3 @@ pub record Loads (config origin sent : List ℕ) (tags : List (List ℕ)) (old n
 abbrev pub RunsPass : List ℕ → List ℕ → List ℕ → List (List ℕ) → Outside → Outside → Status → Type 0
 RunsPass config origin sent tags old new s =
     FailsOnConfig config old new s ⊎ (RefusesConfig config old new s ⊎ (Loads config origin sent tags old new s ⊎ GivesUp old new s))
-
--- the words aren't those of `pass`
-pub record RefusesWords (words : List (List ℕ)) (old new : Outside) (s : Status) : Type 0 where
-  pub other : (config origin sent : List ℕ) → (tags : List (List ℕ)) → ¬ IsPass words config origin sent tags
-  pub reports : Reports old new USAGE.now status.Usage s
-
--- the words are those of `pass`
-pub record PassesBy (words : List (List ℕ)) (old new : Outside) (s : Status) : Type 0 where
-  pub config : List ℕ
-  pub origin : List ℕ
-  pub sent : List ℕ
-  pub tags : List (List ℕ)
-  pub is_pass : IsPass words config origin sent tags
-  pub runs : RunsPass config origin sent tags old new s
-
--- how a command ends: by one status, with what it did and why
-pub record RunsTool (words : List (List ℕ)) (old new : Outside) (code : ℕ) : Type 0 where
-  pub ended : Status
-  pub code_is : code ≡ code_of ended
-  pub runs : RefusesWords words old new ended ⊎ PassesBy words old new ended

@@ -11,7 +11,7 @@ use Rattle.px_main.specs.declared.configs.ConfigRead.{ConfigRead}
 use Rattle.px_main.specs.declared.configs.ConfigRead.TheVariants as config
 use Rattle.px_main.specs.declared.answers.OriginRead.{OriginRead}
 use Rattle.px_main.specs.declared.answers.OriginRead.TheVariants as origin
-use Rattle.px_main.specs.Faults.{fault_line}
+use Rattle.px_config.specs.FaultLines.{fault_line}
 use Rattle.px_main.specs.Passes.{refusal, HasAnswers}
 
 -- what reading CONFIG gives, by what the file holds

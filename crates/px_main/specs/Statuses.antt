@@ -14,6 +14,7 @@ code_of status.Usage = 2
 code_of status.ReadFailed = 3
 code_of status.WriteFailed = 4
 code_of status.NoMemory = 5
+code_of status.NoUrl = 6
 code_of status.NoOrigin = 8
 
 -- memory was wanting in a session that ended so

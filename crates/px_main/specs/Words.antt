@@ -15,3 +15,13 @@ no_flags (w ∷ ws) = not (is_flag w) && no_flags ws
 pub record IsPass (words : List (List ℕ)) (config origin sent : List ℕ) (tags : List (List ℕ)) : Type 0 where
   pub words_are : words ≡ codes "pass" ∷ config ∷ origin ∷ sent ∷ tags
   pub none_is_flag : no_flags (config ∷ origin ∷ sent ∷ tags) ≡ true
+
+-- check CONFIG
+pub record IsCheck (words : List (List ℕ)) (config : List ℕ) : Type 0 where
+  pub words_are : words ≡ codes "check" ∷ config ∷ []
+  pub none_is_flag : no_flags (config ∷ []) ≡ true
+
+-- show CONFIG URL [TAG]..., where no word after the first begins with `-`
+pub record IsShow (words : List (List ℕ)) (config url : List ℕ) (tags : List (List ℕ)) : Type 0 where
+  pub words_are : words ≡ codes "show" ∷ config ∷ url ∷ tags
+  pub none_is_flag : no_flags (config ∷ url ∷ tags) ≡ true

@@ -1,17 +1,19 @@
 // The commands by their words.
 ghost use Rattle.std.specs.Prelude.{◌≡◌, map, string_bytes};
-ghost use Rattle.px_main.specs.Passes.{Outside, OutsideGoesOn, RunsTool};
+ghost use Rattle.px_main.specs.Commands.{RunsTool};
+ghost use Rattle.px_main.specs.Passes.{Outside, OutsideGoesOn};
 
+use crate::loads::{run_check, run_show};
 use crate::passes::run_pass;
 use crate::reports::report;
 use crate::statuses::{Status, USAGE};
-use crate::words::read_pass;
+use crate::words::{read_check, read_pass, read_show};
 use px_base::{Clock, Files, Sink, Source};
 use std::alloc::Global;
 
 /// Runs the command that the words name, and gives the exit status: 0 where its whole result was given, 1 where the
 /// configuration doesn't load, 2 where the words aren't of the grammar, 3 after a read fault, 4 after a write fault, 5 where
-/// memory was wanting, and 8 where ORIGIN isn't there, is too large or not of its format.
+/// memory was wanting, 6 where the URL of `show` isn't read, and 8 where ORIGIN isn't there, is too large or not of its format.
 pub fn run_tool<F: Files, S: Source, O: Sink, E: Sink, T: Clock>(
     alloc: Global,
     words: &[String],
@@ -30,6 +32,12 @@ pub fn run_tool<F: Files, S: Source, O: Sink, E: Sink, T: Clock>(
 {
     match read_pass(words) {
         Some(pass) => run_pass(alloc, pass, files, input, out, err, clock).code(),
-        None => report(err, USAGE, Status::Usage).code(),
+        None => match read_check(words) {
+            Some(config) => run_check(alloc, config, files, out, err).code(),
+            None => match read_show(words) {
+                Some(words) => run_show(alloc, words, files, out, err).code(),
+                None => report(err, USAGE, Status::Usage).code(),
+            },
+        },
     }
 }

@@ -1,6 +1,6 @@
 // Why the configuration's files don't load.
 ghost use Rattle.std.specs.Prelude.{◌≡◌, IfOk};
-ghost use Rattle.px_main.specs.Faults.{fault_line};
+ghost use Rattle.px_config.specs.FaultLines.{fault_line};
 
 use itoa::Buffer;
 use px_base::{Mem, Text};

@@ -5,11 +5,13 @@ mod answers;
 mod commands;
 mod configs;
 mod faults;
+mod loads;
 mod origins;
 mod passes;
 mod reports;
 mod sents;
 mod statuses;
+mod texts;
 mod words;
 
 use commands::run_tool;
@@ -53,5 +55,7 @@ fn main(rt: HostRuntime) -> ExitCode {
     ExitCode::from(status)
 }
 
+#[cfg(test)]
+mod load_tests;
 #[cfg(test)]
 mod tests;

@@ -11,6 +11,7 @@ use crate::configs::{ConfigRead, read_config};
 use crate::reports::report;
 use crate::sents::made_sent;
 use crate::statuses::{Status, is_wanting, status_after};
+use crate::texts::tag_texts;
 use crate::words::PassWords;
 use px_base::{Answer, Clock, Files, List, Mem, MemDialer, Peer, Sink, Source, Text};
 use px_exchange::Config;
@@ -119,17 +120,6 @@ fn serve_input<S: Source, O: Sink, T: Clock>(
         end: session.end,
         sent: made_sent(alloc, dialer.links()),
     })
-}
-
-/// The client's tags as texts.
-fn tag_texts(alloc: Global, words: &[String]) -> Result<List<Text>, Mem>
-    ensures { IfOk result (λ tags. tags ≡ map string_bytes words.now) }
-{
-    let mut tags = Vec::new(alloc);
-    'words: for word in words {
-        tags.push(Text::from_bytes(alloc, word.as_bytes())?)?;
-    }
-    Ok(List::from_vec(tags))
 }
 
 /// Puts SENT behind a session, unless memory was wanting in it or for the text.

@@ -6,11 +6,12 @@ use px_base::FilesFault;
 use px_serve::SessionEnd;
 
 /// How the commands are used, a line for each that is built.
-pub const USAGE: &[u8] = b"usage: pass CONFIG ORIGIN SENT [TAG]...\n";
+pub const USAGE: &[u8] =
+    b"usage: pass CONFIG ORIGIN SENT [TAG]...\n       show CONFIG URL [TAG]...\n       check CONFIG\n";
 
 /// What the text of the usage is.
 pub fn constants()
-    ensures { USAGE.now ≡ codes "usage: pass CONFIG ORIGIN SENT [TAG]...\n" }
+    ensures { USAGE.now ≡ codes "usage: pass CONFIG ORIGIN SENT [TAG]...\n       show CONFIG URL [TAG]...\n       check CONFIG\n" }
 {}
 
 /// How a command ended.
@@ -27,6 +28,8 @@ pub enum Status {
     /// The output, the error output or a file couldn't be written.
     WriteFailed,
     NoMemory,
+    /// The URL of `show` isn't read.
+    NoUrl,
     /// ORIGIN is missing, too large, or not of its format.
     NoOrigin,
 }
@@ -43,6 +46,7 @@ impl Status {
             Status::ReadFailed => 3,
             Status::WriteFailed => 4,
             Status::NoMemory => 5,
+            Status::NoUrl => 6,
             Status::NoOrigin => 8,
         }
     }

@@ -14,13 +14,13 @@ const SEVENS: [usize; 8] = [7, 7, 7, 7, 7, 7, 7, 7];
 
 /// What a run of the tool gave.
 #[derive(Drop)]
-struct Run {
-    status: u8,
-    out: Text,
-    err: Text,
-    sent: Option<Text>,
+pub struct Run {
+    pub status: u8,
+    pub out: Text,
+    pub err: Text,
+    pub sent: Option<Text>,
     /// What the clock gives next.
-    next_moment: u64,
+    pub next_moment: u64,
 }
 
 /// The moments of the clock, in order.
@@ -28,17 +28,17 @@ const MOMENTS: [u64; 3] = [10, 20, 30];
 
 /// How the objects of a run behave: the most bytes of their first reads and writes, and the calls that fail.
 #[derive(Clone, Copy)]
-struct Outside<'a> {
-    input_cuts: &'a [usize],
-    out_cuts: &'a [usize],
-    files_fails: &'a [u64],
-    input_fails: &'a [u64],
-    out_fails: &'a [u64],
-    err_fails: &'a [u64],
+pub struct Outside<'a> {
+    pub input_cuts: &'a [usize],
+    pub out_cuts: &'a [usize],
+    pub files_fails: &'a [u64],
+    pub input_fails: &'a [u64],
+    pub out_fails: &'a [u64],
+    pub err_fails: &'a [u64],
 }
 
 /// Objects that are cut so, and of which no call fails.
-fn cut_so<'a>(input_cuts: &'a [usize], out_cuts: &'a [usize]) -> Outside<'a> {
+pub fn cut_so<'a>(input_cuts: &'a [usize], out_cuts: &'a [usize]) -> Outside<'a> {
     Outside {
         input_cuts,
         out_cuts,
@@ -50,7 +50,7 @@ fn cut_so<'a>(input_cuts: &'a [usize], out_cuts: &'a [usize]) -> Outside<'a> {
 }
 
 /// Runs the tool over files in memory, where each file is a name and its content.
-fn run_over(
+pub fn run_over(
     alloc: Global,
     words: &[&str],
     named: &[(&str, &str)],
@@ -206,35 +206,27 @@ fn both_streams_are_cut_after_each_byte(rt: HostRuntime) -> Result<(), Fail> {
     Ok(())
 }
 
+/// The lines of the commands that are built.
+const USAGE_TEXT: &str =
+    "usage: pass CONFIG ORIGIN SENT [TAG]...\n       show CONFIG URL [TAG]...\n       check CONFIG\n";
+
 /// Words, CONFIG and ORIGIN where they are there, the status, and what is printed.
 const REFUSALS: &[(&[&str], Option<&str>, Option<&str>, u8, &str)] = &[
-    (
-        &[],
-        Some(""),
-        Some(ANSWER),
-        2,
-        "usage: pass CONFIG ORIGIN SENT [TAG]...\n",
-    ),
-    (
-        &["pass", "c", "o"],
-        Some(""),
-        Some(ANSWER),
-        2,
-        "usage: pass CONFIG ORIGIN SENT [TAG]...\n",
-    ),
+    (&[], Some(""), Some(ANSWER), 2, USAGE_TEXT),
+    (&["pass", "c", "o"], Some(""), Some(ANSWER), 2, USAGE_TEXT),
     (
         &["pass", "c", "o", "s", "-t"],
         Some(""),
         Some(ANSWER),
         2,
-        "usage: pass CONFIG ORIGIN SENT [TAG]...\n",
+        USAGE_TEXT,
     ),
     (
         &["serve", "c", "o", "s"],
         Some(""),
         Some(ANSWER),
         2,
-        "usage: pass CONFIG ORIGIN SENT [TAG]...\n",
+        USAGE_TEXT,
     ),
     (
         &["pass", "c", "o", "s"],

@@ -1,6 +1,6 @@
 // The words after the program's name.
 ghost use Rattle.std.specs.Prelude.{◌≡◌, not, map, string_bytes, IfSome, IsNone, List, ℕ};
-ghost use Rattle.px_main.specs.Words.{IsPass, is_flag, no_flags};
+ghost use Rattle.px_main.specs.Words.{IsPass, IsCheck, IsShow, is_flag, no_flags};
 
 /// The words of `pass`.
 #[derive(Clone, Copy)]
@@ -28,6 +28,42 @@ pub fn read_pass(words: &[String]) -> Option<PassWords<'_>>
         origin: words[2].as_str(),
         sent: words[3].as_str(),
         tags: &words[4..],
+    })
+}
+
+/// Reads `check CONFIG`. It gives the name of the configuration's main file.
+pub fn read_check(words: &[String]) -> Option<&str>
+    ensures check { IfSome result (λ config. IsCheck (map string_bytes words.now) config.now) }
+    ensures other { IsNone result → (config : List ℕ) → ¬ IsCheck (map string_bytes words.now) config }
+{
+    if words.len() != 2 || words[0].as_str() != "check" || has_flag(&words[1..]) {
+        return None;
+    }
+    Some(words[1].as_str())
+}
+
+/// The words of `show`.
+#[derive(Clone, Copy)]
+pub struct ShowWords<'w> {
+    /// The name of the configuration's main file.
+    pub config: &'w str,
+    pub url: &'w str,
+    /// The client's tags.
+    pub tags: &'w [String],
+}
+
+/// Reads `show CONFIG URL [TAG]...`, where no word after the first begins with `-`.
+pub fn read_show(words: &[String]) -> Option<ShowWords<'_>>
+    ensures show { IfSome result (λ w. IsShow (map string_bytes words.now) w.config.now w.url.now (map string_bytes w.tags.now)) }
+    ensures other { IsNone result → (config url : List ℕ) → (tags : List (List ℕ)) → ¬ IsShow (map string_bytes words.now) config url tags }
+{
+    if words.len() < 3 || words[0].as_str() != "show" || has_flag(&words[1..]) {
+        return None;
+    }
+    Some(ShowWords {
+        config: words[1].as_str(),
+        url: words[2].as_str(),
+        tags: &words[3..],
     })
 }
 

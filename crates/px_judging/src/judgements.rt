@@ -1,0 +1,60 @@
+// What is done for a request.
+use crate::replies::LocalReply;
+use px_actions::ActionSet;
+use px_base::{List, Text};
+use px_decide::Route;
+use px_patterns::Url;
+use px_sending::Message;
+use px_subst::Vars;
+
+/// What an answer becomes depends on this alone, beside the configuration and the answer.
+#[derive(Drop)]
+pub struct Asked {
+    pub method: Text,
+    /// The minor number of the client's version.
+    pub minor: u8,
+    /// Whether the connection may be kept.
+    pub keep: bool,
+    /// What is set for the request.
+    pub set: ActionSet,
+    /// The request's tags.
+    pub tags: List<Text>,
+    /// The values of a job's words.
+    pub vars: Vars,
+    /// In seconds since 1970.
+    pub moment: u64,
+}
+
+/// A request that is sent on: its destination, where to, what is sent, and what was asked.
+#[derive(Drop)]
+pub struct Plan {
+    /// The URL of the destination, which a header filter may have changed.
+    pub url: Url,
+    pub route: Route,
+    pub message: Message,
+    pub asked: Asked,
+    /// Whether a page in place of the answer has no body, as in a reply to HEAD.
+    pub bodiless: bool,
+}
+
+/// A tunnel: its destination, where to, and what is written to the link and to the client before anything is carried.
+#[derive(Drop)]
+pub struct TunnelPlan {
+    pub url: Url,
+    pub route: Route,
+    /// The head that asks a parent for the tunnel, empty on a direct route.
+    pub head: Text,
+    /// The head that tells the client that the tunnel stands, empty where a parent answers.
+    pub greeting: Text,
+}
+
+/// What is done for a request.
+#[derive(Drop)]
+pub enum Judgement {
+    /// It is answered here, without a dial.
+    Local(LocalReply),
+    /// It is sent on.
+    Forward(Plan),
+    /// It is a tunnel.
+    Tunnel(TunnelPlan),
+}

@@ -1,0 +1,49 @@
+// What the bytes read as that were seen where a request begins.
+ghost use Rattle.std.specs.Prelude.{IfOk};
+ghost use Rattle.px_judging.specs.Readings.{ReadsAs, BlockReads};
+
+use px_base::{Mem, Text};
+use px_head::{HeadFault, RequestHead};
+use std::alloc::Global;
+
+/// What was seen where a request begins.
+#[derive(Drop)]
+pub enum HeadSeen {
+    /// A head block.
+    Block(Text),
+    /// No block within the limit.
+    Over,
+}
+
+/// What the bytes that were seen read as.
+#[derive(Drop)]
+pub enum Reading {
+    /// No block within the limit.
+    Overlong,
+    /// A block that isn't one whole head.
+    Malformed,
+    /// A head of too many fields.
+    TooManyFields,
+    Head(RequestHead),
+}
+
+/// Reads what was seen.
+pub fn read_request(alloc: Global, seen: &HeadSeen) -> Result<Reading, Mem>
+    ensures { IfOk result (ReadsAs seen.now) }
+{
+    match seen {
+        HeadSeen::Block(block) => read_block(alloc, block.as_bytes()),
+        HeadSeen::Over => Ok(Reading::Overlong),
+    }
+}
+
+fn read_block(alloc: Global, block: &[u8]) -> Result<Reading, Mem>
+    ensures { IfOk result (BlockReads block.now) }
+{
+    match RequestHead::read(alloc, block) {
+        Ok(head) => Ok(Reading::Head(head)),
+        Err(HeadFault::Malformed) => Ok(Reading::Malformed),
+        Err(HeadFault::TooManyFields) => Ok(Reading::TooManyFields),
+        Err(HeadFault::Mem) => Err(Mem),
+    }
+}

@@ -1,0 +1,100 @@
+// What is set for a request, and its tags.
+ghost use Rattle.std.specs.Prelude.{◌≡◌, ◌<◌, IfOk, map};
+ghost use Rattle.px_head.specs.Prints.{field_line};
+ghost use Rattle.px_merge.specs.Merging.{url_actions};
+ghost use Rattle.px_judging.specs.Requests.{tagged, lines_of, vars_of};
+
+use crate::handed::Handed;
+use crate::requests::Tags;
+use px_actions::ActionSet;
+use px_base::{List, Mem, Peer, Steps, Text};
+use px_config::Warm;
+use px_head::RequestHead;
+use px_merge::{Side, Warm as WarmSections};
+use px_patterns::Url;
+use px_subst::Vars;
+use px_taggers::tag_headers_with;
+use std::alloc::Global;
+use std::marker::Brand;
+use std::sync::ledger::{Blank, Ledger};
+
+/// The values of a job's words.
+pub fn vars_of(alloc: Global, peer: &Peer, url: &Url) -> Result<Vars, Mem>
+    ensures { IfOk result (λ vars. vars ≡ vars_of peer.now.address url.now) }
+{
+    Ok(Vars {
+        host: Text::from_bytes(alloc, url.host.as_bytes())?,
+        origin: Text::from_bytes(alloc, peer.address.as_bytes())?,
+        path: Text::from_bytes(alloc, url.path.as_bytes())?,
+        url: url.print(alloc)?,
+    })
+}
+
+/// The lines of a head as taggers see them: as received.
+fn lines_of(alloc: Global, head: &RequestHead) -> Result<List<Text>, Mem>
+    ensures { IfOk result (λ lines. lines ≡ lines_of head.now) }
+{
+    let fields = head.fields.as_slice();
+    let mut lines = List::with_capacity(alloc, fields.len().saturating_add(1))?;
+    lines.add(head.first_line(alloc)?)?;
+    for field in fields {
+        lines.add(field.line(alloc)?)?;
+    }
+    Ok(lines)
+}
+
+/// What the sections set for a URL, where L is the name of the blank.
+fn set_of<L: Ledger>(
+    alloc: Global,
+    sections: &mut WarmSections<'_>,
+    url: &Url,
+    tags: &[Text],
+    blank: Blank,
+) -> Result<ActionSet, Mem>
+    requires name { blank.name ≡ L.name }
+    requires parts { blank.parts ≡ L.parts }
+    requires some { 0 < L.parts }
+    ensures value { IfOk result (λ set. set ≡ url_actions sections.old.sections url.now tags.now) }
+    ensures same { sections.new ≡ sections.old }
+{
+    let mut steps: Steps<L> = Steps::begin(blank);
+    sections.url_actions(alloc, url, tags, &mut steps)
+}
+
+/// What is set for a request, and its tags: those of the URL and of the client's tags, and then by the taggers.
+#[tactic(auto, unfolding(crate::specs::Requests::tagged))]
+pub fn tag_request(
+    alloc: Global,
+    handed: &Handed<'_>,
+    warm: &mut Warm<'_>,
+    head: &RequestHead,
+    url: &Url,
+    vars: &Vars,
+) -> Result<Tags, Mem>
+    requires sections { warm.old.sections ≡ handed.now.config.sections }
+    requires filters { warm.old.filters ≡ handed.now.config.filters }
+    requires vars { vars.now ≡ vars_of handed.now.peer url.now }
+    ensures value { IfOk result (λ t. t ≡ tagged handed.now head.now url.now) }
+    ensures same_sections { warm.new.sections ≡ warm.old.sections }
+    ensures same_filters { warm.new.filters ≡ warm.old.filters }
+{
+    let mut tags = List::new(alloc);
+    if !handed.config.settings.toggle {
+        let set = ActionSet::empty(alloc);
+        return Ok(Tags { set, tags });
+    }
+    let Warm { sections, filters } = warm;
+    let mut set = set_of::<Brand>(alloc, sections, url, handed.tags, Blank::new(1))?;
+    let lines = lines_of(alloc, head)?;
+    tag_headers_with(
+        alloc,
+        sections,
+        filters,
+        &mut set,
+        &mut tags,
+        lines.as_slice(),
+        Side::Request,
+        vars,
+    )?;
+    Ok(Tags { set, tags })
+}
