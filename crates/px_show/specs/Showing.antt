@@ -41,12 +41,27 @@ note_line n = place n.file n.line ++ codes ": note: " ++ n.text ++ 10 ∷ []
 unfoldable pub note_lines : List Note → List ℕ
 note_lines notes = flat_map note_line notes
 
+-- a number and what it counts
+unfoldable pub counted : ℕ → List ℕ → List ℕ
+counted count what = decimal count ++ what
+
+-- so many action files
+unfoldable pub file_counts : ℕ → List ℕ
+file_counts files = codes "ok: " ++ counted files (codes " action files, ")
+
+-- so many sections and patterns
+unfoldable pub pattern_counts : ℕ → ℕ → List ℕ
+pattern_counts sections patterns = counted sections (codes " sections, ") ++ counted patterns (codes " patterns, ")
+
+-- so many filter files and filters
+unfoldable pub filter_counts : ℕ → ℕ → List ℕ
+filter_counts files filters = counted files (codes " filter files, ") ++ counted filters (codes " filters\n")
+
 -- how many files, sections, patterns and filters there are
 abbrev pub count_line : Config → List ℕ
 count_line c =
-    codes "ok: " ++ decimal (length c.sections.names) ++ codes " action files, " ++ decimal (length c.sections.sections) ++ codes " sections, "
-    ++ decimal (pattern_count c.sections.sections) ++ codes " patterns, " ++ decimal c.filters.files ++ codes " filter files, "
-    ++ decimal (length c.filters.filters) ++ codes " filters\n"
+    file_counts (length c.sections.names) ++ pattern_counts (length c.sections.sections) (pattern_count c.sections.sections)
+    ++ filter_counts c.filters.files (length c.filters.filters)
 
 -- the notes, and then the counts
 unfoldable pub checked : Config → List ℕ

@@ -1,11 +1,13 @@
 // What a check of a configuration prints.
-ghost use Rattle.std.specs.Prelude.{◌≡◌, ◌++◌, IfOk, OnOk, codes, decimal};
-ghost use Rattle.px_show.specs.Showing.{checked, count_line, note_line, note_lines};
+ghost use Rattle.std.specs.Prelude.{◌≡◌, ◌++◌, IfOk, OnOk};
+ghost use Rattle.px_show.specs.Showing.{checked, count_line, counted, file_counts, filter_counts, note_line, note_lines, pattern_counts};
 
 use crate::places::push_place;
 use itoa::Buffer;
 use px_base::{Mem, Text};
 use px_config::{Config, Note};
+use px_filter_files::FilterCounts;
+use px_merge::SectionCounts;
 use std::alloc::Global;
 
 /// A line for each note, and then the numbers of files, sections, patterns and filters.
@@ -41,8 +43,9 @@ fn push_note(note: &Note, out: &mut Text) -> Result<(), Mem>
 }
 
 /// Adds a number and what it counts.
+#[tactic(auto, unfolding(crate::specs::Showing::counted))]
 fn push_count(count: u32, what: &[u8], out: &mut Text) -> Result<(), Mem>
-    ensures { OnOk result (out.new ≡ out.old ++ decimal count ++ what.now) }
+    ensures { OnOk result (out.new ≡ out.old ++ counted count what.now) }
 {
     out.push_all(Buffer::new().format(count).as_bytes())?;
     out.push_all(what)
@@ -52,11 +55,31 @@ fn push_counts(config: &Config, out: &mut Text) -> Result<(), Mem>
     ensures { OnOk result (out.new ≡ out.old ++ count_line config.now) }
 {
     let sections = config.sections.counts();
-    let filters = config.filters.counts();
+    push_file_counts(sections, out)?;
+    push_pattern_counts(sections, out)?;
+    push_filter_counts(config.filters.counts(), out)
+}
+
+#[tactic(auto, unfolding(crate::specs::Showing::file_counts))]
+fn push_file_counts(counts: SectionCounts, out: &mut Text) -> Result<(), Mem>
+    ensures { OnOk result (out.new ≡ out.old ++ file_counts counts.files) }
+{
     out.push_all(b"ok: ")?;
-    push_count(sections.files, b" action files, ", out)?;
-    push_count(sections.sections, b" sections, ", out)?;
-    push_count(sections.patterns, b" patterns, ", out)?;
-    push_count(filters.files, b" filter files, ", out)?;
-    push_count(filters.filters, b" filters\n", out)
+    push_count(counts.files, b" action files, ", out)
+}
+
+#[tactic(auto, unfolding(crate::specs::Showing::pattern_counts))]
+fn push_pattern_counts(counts: SectionCounts, out: &mut Text) -> Result<(), Mem>
+    ensures { OnOk result (out.new ≡ out.old ++ pattern_counts counts.sections counts.patterns) }
+{
+    push_count(counts.sections, b" sections, ", out)?;
+    push_count(counts.patterns, b" patterns, ", out)
+}
+
+#[tactic(auto, unfolding(crate::specs::Showing::filter_counts))]
+fn push_filter_counts(counts: FilterCounts, out: &mut Text) -> Result<(), Mem>
+    ensures { OnOk result (out.new ≡ out.old ++ filter_counts counts.files counts.filters) }
+{
+    push_count(counts.files, b" filter files, ", out)?;
+    push_count(counts.filters, b" filters\n", out)
 }

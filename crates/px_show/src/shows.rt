@@ -2,7 +2,7 @@
 ghost use Rattle.std.specs.Prelude.{◌≡◌, ◌++◌, ◌<◌, All, IfOk, OnOk, codes, length, map};
 ghost use Rattle.px_merge.specs.Merging.{matching, ref_of, url_actions};
 ghost use Rattle.px_patterns.specs.Urls.{shown_url};
-ghost use Rattle.px_show.specs.Showing.{action_lines, ref_lines, shown};
+ghost use Rattle.px_show.specs.Showing.{action_lines, ref_line, ref_lines, shown};
 
 use crate::places::push_place;
 use px_actions::ActionSet;
@@ -66,13 +66,20 @@ fn push_refs(sections: &Sections, refs: &[SectionRef], out: &mut Text) -> Result
     requires { All (λ r. r.file < length sections.now.names) refs.now }
     ensures { OnOk result (out.new ≡ out.old ++ ref_lines sections.now.names refs.now) }
 {
-    let mut rest = refs;
-    'refs: while let Some((place, others)) = rest.split_first() {
-        push_place(sections.file_name(place.file), place.line, out)?;
-        out.push(b'\n')?;
-        rest = others;
+    'refs: for place in refs {
+        push_ref(sections, place, out)?;
     }
     Ok(())
+}
+
+/// Adds where a section stands.
+#[tactic(auto, using(crate::proofs::PlaceLemmas::name_at))]
+fn push_ref(sections: &Sections, place: &SectionRef, out: &mut Text) -> Result<(), Mem>
+    requires { place.now.file < length sections.now.names }
+    ensures { OnOk result (out.new ≡ out.old ++ ref_line sections.now.names place.now) }
+{
+    push_place(sections.file_name(place.file), place.line, out)?;
+    out.push(b'\n')
 }
 
 /// Adds the actions that are set, unless all actions are switched off.

@@ -24,12 +24,7 @@ fn loaded(alloc: Global, files: &[(&str, &str)]) -> Result<Option<Config>, Fail>
 }
 
 /// What is shown of a URL; nothing where the files don't load or the URL isn't read.
-fn shown(
-    alloc: Global,
-    files: &[(&str, &str)],
-    url: &str,
-    tags: &[&str],
-) -> Result<Text, Fail> {
+fn shown(alloc: Global, files: &[(&str, &str)], url: &str, tags: &[&str]) -> Result<Text, Fail> {
     let Some(config) = loaded(alloc, files)? else {
         return Ok(Text::new(alloc));
     };
