@@ -16,7 +16,7 @@ use px_subst::Vars;
 use px_taggers::tag_headers;
 use std::alloc::Global;
 
-/// The version of a returned head, and its length as that of any version.
+/// The version of a returned head.
 const VERSION: &[u8] = b"HTTP/1.1";
 
 /// What the answer's own head settles, and what the words of substitution jobs stand for.
