@@ -61,6 +61,19 @@ fn set_of<L: Ledger>(
     sections.url_actions(alloc, url, tags, &mut steps)
 }
 
+/// What the sections set for a URL and the tags of a client.
+fn actions_of(
+    alloc: Global,
+    sections: &mut WarmSections<'_>,
+    url: &Url,
+    tags: &[Text],
+) -> Result<ActionSet, Mem>
+    ensures value { IfOk result (λ set. set ≡ url_actions sections.old.sections url.now tags.now) }
+    ensures same { sections.new ≡ sections.old }
+{
+    set_of::<Brand>(alloc, sections, url, tags, Blank::new(1))
+}
+
 /// What is set for a request, and its tags: those of the URL and of the client's tags, and then by the taggers.
 #[tactic(auto, unfolding(crate::specs::Requests::tagged))]
 pub fn tag_request(
@@ -84,7 +97,7 @@ pub fn tag_request(
         return Ok(Tags { set, tags });
     }
     let Warm { sections, filters } = warm;
-    let mut set = set_of::<Brand>(alloc, sections, url, handed.tags, Blank::new(1))?;
+    let mut set = actions_of(alloc, sections, url, handed.tags)?;
     let lines = lines_of(alloc, head)?;
     tag_headers_with(
         alloc,

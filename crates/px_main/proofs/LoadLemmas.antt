@@ -112,5 +112,7 @@ pub show_loaded : (config url : List ℕ) (tags : List (List ℕ)) (old new : Ou
 show_loaded config url tags old new loaded s loads shows = inr (inl (record { loaded = loaded; loads = loads; shows = shows }))
 
 pub ruleset check_rules = (check_fails, check_prints, check_wants)
+
 pub ruleset show_rules = (show_fails, show_loaded)
+
 pub ruleset url_rules = (url_refused, url_shown, show_wants)
