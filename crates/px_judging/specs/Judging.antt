@@ -143,10 +143,14 @@ by_decision g r t decision.ConnectDenied = closing_page page.ConnectDenied (url_
 abbrev pub by_tags : Given → Request → Tags → Judgement
 by_tags g r t = by_decision g r t (decision_of r.url (is_connect r.head) t.set (vars_of g.peer r.url))
 
+-- the body's rule is refused
+abbrev pub body_refused : RequestHead → Url → BodyFault → Judgement
+body_refused head url fault = closing_page page.InvalidRequest (url_symbols url [] (fault_name fault) []) (is_head head)
+
 -- by the rule of the body
 abbrev pub by_rule : Given → RequestHead → Url → Result BodyRule BodyFault → Judgement
 by_rule g head url (Ok rule) = by_tags g (record { head = head; url = url; rule = rule }) (tagged g head url)
-by_rule g head url (Err fault) = closing_page page.InvalidRequest (url_symbols url [] (fault_name fault) []) (is_head head)
+by_rule g head url (Err fault) = body_refused head url fault
 
 -- by the target
 abbrev pub by_url : Given → RequestHead → Result Url UrlFault → Judgement

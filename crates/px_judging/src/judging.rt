@@ -1,8 +1,7 @@
 // Judging: what is done for a request, before any dial. Each step refuses, or goes on to the next.
-ghost use Rattle.std.specs.Prelude.{◌≡◌, IfOk, Err};
-ghost use Rattle.px_judging.specs.Judging.{judged, by_url, by_rule, by_tags, by_decision, by_method, by_headers, front_of, closing_page, invalid, reply_to, blocked, image_or_page};
+ghost use Rattle.std.specs.Prelude.{◌≡◌, IfOk};
+ghost use Rattle.px_judging.specs.Judging.{judged, body_refused, by_url, by_rule, by_tags, by_decision, by_method, by_headers, front_of, closing_page, invalid, reply_to, blocked, image_or_page};
 ghost use Rattle.px_judging.specs.Requests.{tagged, vars_of, body_read, target_read};
-ghost use Rattle.px_judging.specs.Given.{Given};
 ghost use Rattle.px_judging.specs.Replies.{job_symbols};
 ghost use Rattle.px_headers.specs.ClientRows.{client_out};
 ghost use Rattle.px_headers.specs.Faults.{fault_name};
@@ -267,7 +266,7 @@ fn refuse_body(
     url: &Url,
     fault: BodyFault,
 ) -> Result<Judgement, Mem>
-    ensures { IfOk result (λ j. (g : Given) → j ≡ by_rule g head.now url.now (Err fault)) }
+    ensures { IfOk result (λ j. j ≡ body_refused head.now url.now fault) }
 {
     let symbols = url_symbols(alloc, url, &[], fault.name().as_bytes(), &[])?;
     Ok(closing_page(Page::InvalidRequest, symbols, is_head(head)))

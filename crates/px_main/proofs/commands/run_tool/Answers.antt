@@ -1,0 +1,27 @@
+use Rattle.std.proofs.Common.{map, inl, inr}
+use Rattle.std.specs.Prelude.{string_bytes}
+use Rattle.px_main.proofs.commands.run_tool.Goals as goal
+
+pub returns-in-Some-read_check-clause-runs : goal.returns-in-Some-read_check-clause-runs
+returns-in-Some-read_check-clause-runs g c = record {
+  ended = c.run_check.result;
+  code_is = c.code-in-Some-read_check.ensures;
+  runs = inr (inr (inl (record {
+    config = c.in-Some-read_check.config.now;
+    is_check = c.in-Some-read_check.ensures.check;
+    runs = c.run_check.ensures.runs (g.S.Source.state c.args.input.now) (g.T.Clock.state c.args.clock.now);
+  })));
+}
+
+pub returns-in-Some-read_show-clause-runs : goal.returns-in-Some-read_show-clause-runs
+returns-in-Some-read_show-clause-runs g c = record {
+  ended = c.run_show.result;
+  code_is = c.code-in-Some-read_show.ensures;
+  runs = inr (inr (inr (record {
+    config = c.in-Some-read_show.words.config.now;
+    url = c.in-Some-read_show.words.url.now;
+    tags = map string_bytes c.in-Some-read_show.words.tags.now;
+    is_show = c.in-Some-read_show.ensures.show;
+    runs = c.run_show.ensures.runs (g.S.Source.state c.args.input.now) (g.T.Clock.state c.args.clock.now);
+  })));
+}
