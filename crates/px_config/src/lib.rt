@@ -17,9 +17,9 @@ mod sets;
 mod settings;
 mod spelling;
 mod templates;
-mod warm;
 #[cfg(test)]
 mod tests;
+mod warm;
 
 pub use actions::PATTERN_LIMIT;
 pub use configs::Config;
