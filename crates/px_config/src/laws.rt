@@ -1,0 +1,14 @@
+// What the constants are that the definitions cite.
+ghost use Rattle.std.specs.Prelude.{◌≡◌};
+
+use crate::actions::PATTERN_LIMIT;
+use crate::names::{FILES_OF_A_KIND, SLASH};
+use crate::sets::FILE_LIMIT;
+
+/// The most files of a kind, bytes of a file and patterns, and what stands between a folder and a name.
+pub fn constants()
+    ensures files { FILES_OF_A_KIND ≡ 16 }
+    ensures bytes { FILE_LIMIT ≡ 1048576 }
+    ensures patterns { PATTERN_LIMIT ≡ 20000 }
+    ensures slash { SLASH ≡ 47 }
+{}
