@@ -24,11 +24,20 @@ fn loaded(alloc: Global, files: &[(&str, &str)]) -> Result<Result<Config, LoadFa
     Ok(load(alloc, &mut files, "c"))
 }
 
+/// A fault as it is printed. Want of memory has no line.
+fn printed(alloc: Global, fault: &LoadFault) -> Result<Text, Fail> {
+    match fault {
+        LoadFault::Spelled { .. } => Ok(fault.print(alloc)?),
+        LoadFault::Read { .. } => Ok(fault.print(alloc)?),
+        LoadFault::Mem => Ok(Text::new(alloc)),
+    }
+}
+
 /// The fault of these files, as it is printed.
 fn fault(alloc: Global, files: &[(&str, &str)]) -> Result<Text, Fail> {
     match loaded(alloc, files)? {
         Ok(_) => Ok(Text::new(alloc)),
-        Err(fault) => Ok(fault.print(alloc)?),
+        Err(fault) => printed(alloc, &fault),
     }
 }
 
@@ -175,7 +184,7 @@ fn a_read_that_fails_is_the_fault(rt: HostRuntime) -> Result<(), Fail> {
     match load(alloc, &mut files, "e/c") {
         Ok(_) => panic!(rt; "the files load"),
         Err(fault) => {
-            let text = fault.print(alloc)?;
+            let text = printed(alloc, &fault)?;
             assert_eq!(rt; text.as_bytes(), b"/f:0: 33 ReadFault\n".as_slice());
         }
     }
