@@ -56,6 +56,4 @@ fn main(rt: HostRuntime) -> ExitCode {
 }
 
 #[cfg(test)]
-mod load_tests;
-#[cfg(test)]
 mod tests;

@@ -19,6 +19,3 @@ pub use flows::Flow;
 pub use notes::{After, Conclusion, Ending, after_whole, broken};
 pub use pumps::Pump;
 pub use talks::Talked;
-
-#[cfg(test)]
-mod tests;
