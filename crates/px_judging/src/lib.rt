@@ -17,3 +17,6 @@ pub use judgements::{Asked, Judgement, Plan, TunnelPlan};
 pub use judging::judge;
 pub use readings::{HeadSeen, Reading, read_request};
 pub use replies::{LocalReply, ReplyKind, reply_bytes, url_symbols};
+
+#[cfg(test)]
+mod tests;

@@ -19,3 +19,6 @@ pub use flows::Flow;
 pub use notes::{After, Conclusion, Ending, after_whole, broken};
 pub use pumps::Pump;
 pub use talks::Talked;
+
+#[cfg(test)]
+mod tests;
