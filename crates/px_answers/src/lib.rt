@@ -1,6 +1,7 @@
 //! What an answer's head settles, and the machine that returns the body behind it as it comes (RFC 9112, section 6.3).
 #![tactic(auto)]
 
+mod asked;
 mod bodies;
 mod courses;
 mod fields;
@@ -12,6 +13,7 @@ mod laws;
 mod outcomes;
 mod passages;
 
+pub use asked::Asked;
 pub use courses::Course;
 pub use forms::{Form, Framed, Outcome, Returned};
 pub use framings::{HeaderLines, Terms, frame};

@@ -11,7 +11,7 @@ use Rattle.px_base.specs.Sources.{SourceState, SourceGoesOn}
 use Rattle.px_base.specs.Sinks.{SinkState, SinkGoesOn}
 use Rattle.px_base.specs.Dials.{DialerState, IsFresh, IsTold, HangsUp, traffic, Traffic, is_open, is_open_at, finish, closed_dial, agrees}
 use Rattle.px_base.specs.declared.dials.DialOutcome.{DialOutcome}
-use Rattle.px_exchange.specs.declared.judging.Route.{Route}
+use Rattle.px_decide.specs.declared.routes.Route.{Route}
 use Rattle.px_exchange.specs.Forwarding.{link_seen}
 use Rattle.px_exchange.specs.Dialling.{DialsOnce, Comes}
 
@@ -60,7 +60,7 @@ rises_by : (mid new : ℕ) (b : Bool) → MatchBool b (new ≡ mid) (Rose mid ne
 rises_by mid new true r failed = absurd (cc)
 rises_by mid new false r failed = r
 
-rises : (old mid new n : ℕ) → mid ≡ old → RisesWith mid new n → not (n == 0) ≡ true → Rose old new
+pub rises : (old mid new n : ℕ) → mid ≡ old → RisesWith mid new n → not (n == 0) ≡ true → Rose old new
 rises old mid new n e r failed = subst (λ (k : ℕ). Rose k new) e (rises_by mid new (n == 0) r failed)
 
 -- the dial that is added by a dial and hanging up

@@ -1,102 +1,140 @@
--- What came of a talk over one link.
-use Rattle.std.proofs.Common.{◌≡◌, ℕ, ◌-◌, ◌≤◌, Bool, true, false, not, ◌==◌, List, ◌++◌, length, take, sym, ap, ◌∙◌, refl, arith, length-append, [], inl, inr}
-use Rattle.std.specs.Prelude.{MatchBool}
-use Rattle.std.proofs.lemmas.Grind.{common_steps}
-use Rattle.std.proofs.Math.Seq.{take-append_seam}
-use Rattle.px_base.specs.Causes.{Rose}
-use Rattle.px_base.specs.Sources.{SourceState, SourceGoesOn}
-use Rattle.px_base.specs.Sinks.{SinkState, AddsFront}
-use Rattle.px_streams.specs.Streams.{IsStream}
+-- A request that was sent on, the rest being returned.
+use Rattle.std.proofs.Common.{◌≡◌, ℕ, List, ap, ◌∙◌, refl, ◌⊎◌, inl, inr}
+use Rattle.px_base.specs.Dials.{DialerState}
 use Rattle.px_base.specs.declared.dials.LinkSeen.{LinkSeen}
-use Rattle.px_exchange.specs.declared.judging.Plan.{Plan}
-use Rattle.px_exchange.specs.declared.dues.Due.{Due}
-use Rattle.px_exchange.specs.declared.talks.Talked.{Talked}
-use Rattle.px_exchange.specs.declared.talks.Talked.TheVariants as talked
-use Rattle.px_exchange.specs.declared.pages.Page.TheVariants as page
-use Rattle.px_exchange.specs.declared.notes.After.TheVariants as after
-use Rattle.px_exchange.specs.Answering.{ask_of, Answered}
-use Rattle.px_exchange.specs.Returning.{IsPrefix, AddsPrefix, SaysDue, HasDue, TalkGives, broken}
-use Rattle.px_exchange.specs.Forwarding.{Follows, TalksOverLink, link_seen, answer_of}
-use Rattle.px_exchange.specs.Hearing.{HearsStream}
+use Rattle.px_base.specs.declared.dials.DialOutcome.{DialOutcome}
+use Rattle.px_base.specs.declared.dials.DialOutcome.TheVariants as outcome
+use Rattle.px_decide.specs.declared.routes.Route.{Route}
+use Rattle.px_sending.specs.declared.messages.Message.{Message}
+use Rattle.px_sending.specs.declared.messages.Sent.{Sent}
+use Rattle.px_sending.specs.declared.messages.Sent.TheVariants as sent
+use Rattle.px_config.specs.declared.configs.Config.{Config}
+use Rattle.px_judging.specs.declared.judgements.Plan.{Plan}
+use Rattle.px_pumps.specs.Answering.{Ask}
+use Rattle.px_pumps.specs.Returning.{AddsPrefix, SaysDue, broken}
+use Rattle.px_pumps.specs.declared.dues.Due.{Due}
+use Rattle.px_pumps.specs.declared.notes.After.{After}
+use Rattle.px_pumps.specs.declared.notes.After.TheVariants as after
+use Rattle.px_pumps.specs.declared.notes.Conclusion.{Conclusion}
+use Rattle.px_pumps.specs.declared.talks.Talked.{Talked}
+use Rattle.px_pumps.specs.declared.talks.Talked.TheVariants as talked
+use Rattle.px_exchange.specs.Dialling.{DialsOnce}
+use Rattle.px_exchange.specs.Exchange.{ForwardsSome, TalksOn, asking}
+use Rattle.px_exchange.specs.Forwarding.{Client, Follows, Forwards, Says, Talks, TalksOver, WantsOver, concluded, talked_so, wanted}
+use Rattle.px_exchange.specs.Replies.{ReturnsSome}
 
--- the source of a fresh link failed exactly where its count isn't 0
-read_failed : (failed : Bool) (old new : ℕ) → old ≡ 0 → MatchBool failed (Rose old new) (new ≡ old) → not (new == 0) ≡ failed
-read_failed true old new z c =
-    let some : 1 ≤ new = rw z at c in
-    grind (arith, some)
-read_failed false old new z c = rw (c, z) refl
+-- what is said of an end in one sense is said in another
+record Also (P Q : Says) : Type 0 where
+  due : (mid : List ℕ) (d : Due) → P.due mid d → Q.due mid d
+  stopped : (mid : List ℕ) (a : After) → P.stopped mid a → Q.stopped mid a
 
--- the bytes of the answer
-heard : (answer left left' offered : List ℕ) → left ≡ answer ++ left' → offered ≡ left → take (length offered - length left') offered ≡ answer
-heard answer left left' offered e o =
-    let whole : offered ≡ answer ++ left' = o ∙ e in
-    let count : length offered - length left' ≡ length answer = omega (arith, ap (λ (zs : List ℕ). length zs) whole, length-append answer left') in
-    rw (count, whole) (take-append_seam answer left')
+follows_also : (ask : Ask) (P Q : Says) (seen : LinkSeen) (mid : List ℕ) (how : Sent) → Also P Q → Follows ask P seen mid how → Follows ask Q seen mid how
+follows_also ask P Q seen mid sent.Whole f h = record { due = h.due; is_due = h.is_due; is_so = f.due mid h.due h.is_so }
+follows_also ask P Q seen mid sent.LinkFailed f h = f.due mid _ h
+follows_also ask P Q seen mid sent.Misframed f h = f.due mid _ h
+follows_also ask P Q seen mid sent.Cut f h = f.stopped mid _ h
+follows_also ask P Q seen mid sent.ReadFailed f h = f.stopped mid _ h
+follows_also ask P Q seen mid sent.WriteFailed f h = f.stopped mid _ h
+follows_also ask P Q seen mid sent.NoMemory f h = absurd h
 
-answer_is : (failed : Bool) (answer : List ℕ) (i i' : SourceState) (o : SinkState) → i.left ≡ i.offered → i'.offered ≡ i.offered → not (i'.faults == 0) ≡ failed → IsStream failed answer i.left i'.left → answer_of (link_seen i' o) ≡ answer
-answer_is true answer i i' o fresh same f a = rw f (heard answer i.left i'.left i'.offered a (same ∙ sym fresh))
-answer_is false answer i i' o fresh same f a = rw f (same ∙ sym fresh ∙ sym a)
+forwards_also : (ask : Ask) (route : Route) (m : Message) (c : Client) (P Q : Says) (taken : List ℕ) (o : DialOutcome) → Also P Q
+    → Forwards ask route m c P taken o → Forwards ask route m c Q taken o
+forwards_also ask route m c P Q taken outcome.NoName f h = (h.0, f.due taken _ h.1)
+forwards_also ask route m c P Q taken outcome.NotReached f h = (h.0, f.due taken _ h.1)
+forwards_also ask route m c P Q taken (outcome.Open mark offered) f h = absurd h
+forwards_also ask route m c P Q taken (outcome.Link seen) f h =
+    record { how = h.how; mid = h.mid; sends = h.sends; by_link = h.by_link; follows = follows_also ask P Q seen h.mid h.how f h.follows }
 
--- the head was sent whole, and what the answer becomes is due
-follows_whole : (plan : Plan) (IsSo : Due → Type 0) (seen : LinkSeen) (answer : List ℕ) (failed : Bool) → seen.write_failed ≡ false → seen.sent ≡ plan.head
-    → answer_of seen ≡ answer → seen.read_failed ≡ failed → HasDue (Answered (ask_of plan.asked) answer failed) IsSo → Follows plan IsSo seen seen.write_failed
-follows_whole plan IsSo seen answer failed calm sent a f h = rw calm (record { whole = sent; due = h.due; answered = rw (a, f) h.is_due; is_so = h.is_so })
+-- one of two
+abbrev either : Says → Says → Says
+either P Q = record { due = λ mid d. P.due mid d ⊎ Q.due mid d; stopped = λ mid a. P.stopped mid a ⊎ Q.stopped mid a }
 
-pub talks_over : (plan : Plan) (i i' : SourceState) (o' : SinkState) (taken taken' : List ℕ) (t : Talked) (failed : Bool)
-    → i.left ≡ i.offered → i.faults ≡ 0 → o'.faults ≡ 0 → o'.taken ≡ plan.head → SourceGoesOn i i'
-    → MatchBool failed (Rose i.faults i'.faults) (i'.faults ≡ i.faults) → HearsStream (ask_of plan.asked) failed i.left i'.left taken taken' t
-    → TalksOverLink plan taken taken' t (link_seen i' o')
-talks_over plan i i' o' taken taken' t failed fresh none calm sent on cause h = by h.gives
+follows_either : (ask : Ask) (P Q : Says) (seen : LinkSeen) (mid : List ℕ) (how : Sent) → Follows ask (either P Q) seen mid how → Follows ask P seen mid how ⊎ Follows ask Q seen mid how
+follows_either ask P Q seen mid sent.Whole h = elim h.is_so [
+  | inl p ↦ inl (record { due = h.due; is_due = h.is_due; is_so = p })
+  | inr q ↦ inr (record { due = h.due; is_due = h.is_due; is_so = q })
+]
+follows_either ask P Q seen mid sent.LinkFailed h = h
+follows_either ask P Q seen mid sent.Misframed h = h
+follows_either ask P Q seen mid sent.Cut h = h
+follows_either ask P Q seen mid sent.ReadFailed h = h
+follows_either ask P Q seen mid sent.WriteFailed h = h
+follows_either ask P Q seen mid sent.NoMemory h = absurd h
+
+forwards_either : (ask : Ask) (route : Route) (m : Message) (c : Client) (P Q : Says) (taken : List ℕ) (o : DialOutcome) → Forwards ask route m c (either P Q) taken o
+    → Forwards ask route m c P taken o ⊎ Forwards ask route m c Q taken o
+forwards_either ask route m c P Q taken outcome.NoName h = elim h.1 [ inl p ↦ inl (h.0, p) | inr q ↦ inr (h.0, q) ]
+forwards_either ask route m c P Q taken outcome.NotReached h = elim h.1 [ inl p ↦ inl (h.0, p) | inr q ↦ inr (h.0, q) ]
+forwards_either ask route m c P Q taken (outcome.Open mark offered) h = absurd h
+forwards_either ask route m c P Q taken (outcome.Link seen) h = elim (follows_either ask P Q seen h.mid h.how h.follows) [
+  | inl p ↦ inl (record { how = h.how; mid = h.mid; sends = h.sends; by_link = h.by_link; follows = p })
+  | inr q ↦ inr (record { how = h.how; mid = h.mid; sends = h.sends; by_link = h.by_link; follows = q })
+]
+
+-- memory was wanting, with what that concludes
+abbrev wanting : List ℕ → Conclusion → Says
+wanting taken' x = record { due = λ mid d. AddsPrefix mid taken' d.bytes × (x ≡ broken after.NoMemory); stopped = λ mid a. ⊥ }
+
+wanting_wanted : (taken' : List ℕ) (x : Conclusion) → Also (wanting taken' x) (wanted taken')
+wanting_wanted taken' x = record { due = λ mid d h. h.0; stopped = λ mid a h. absurd h }
+
+follows_wanting : (ask : Ask) (taken' mid : List ℕ) (x : Conclusion) (seen : LinkSeen) (how : Sent) → Follows ask (wanting taken' x) seen mid how → x ≡ broken after.NoMemory
+follows_wanting ask taken' mid x seen sent.Whole h = h.is_so.1
+follows_wanting ask taken' mid x seen sent.LinkFailed h = h.1
+follows_wanting ask taken' mid x seen sent.Misframed h = h.1
+follows_wanting ask taken' mid x seen sent.Cut h = absurd h
+follows_wanting ask taken' mid x seen sent.ReadFailed h = absurd h
+follows_wanting ask taken' mid x seen sent.WriteFailed h = absurd h
+follows_wanting ask taken' mid x seen sent.NoMemory h = absurd h
+
+forwards_wanting : (ask : Ask) (route : Route) (m : Message) (c : Client) (taken taken' : List ℕ) (x : Conclusion) (o : DialOutcome) → Forwards ask route m c (wanting taken' x) taken o
+    → x ≡ broken after.NoMemory
+forwards_wanting ask route m c taken taken' x outcome.NoName h = h.1.1
+forwards_wanting ask route m c taken taken' x outcome.NotReached h = h.1.1
+forwards_wanting ask route m c taken taken' x (outcome.Open mark offered) h = absurd h
+forwards_wanting ask route m c taken taken' x (outcome.Link seen) h = follows_wanting ask taken' h.mid x seen h.how h.follows
+
+wants_over : (ask : Ask) (route : Route) (m : Message) (c : Client) (taken taken' : List ℕ) (o : DialOutcome) → Forwards ask route m c (wanted taken') taken o → WantsOver ask route m c taken taken' o
+wants_over ask route m c taken taken' outcome.NoName h = h
+wants_over ask route m c taken taken' outcome.NotReached h = h
+wants_over ask route m c taken taken' (outcome.Open mark offered) h = h
+wants_over ask route m c taken taken' (outcome.Link seen) h = inl h
+
+-- what follows a talk, the rest being returned
+rest_over : (ask : Ask) (route : Route) (m : Message) (c : Client) (taken mid taken' : List ℕ) (t : Talked) (x : Conclusion) (o : DialOutcome)
+    → ((d : Due) (before : List ℕ) → SaysDue ask.page_due d before mid t → ReturnsSome d before taken' x)
+    → ((y : Conclusion) → t ≡ talked.Ended y → (x ≡ y) × (taken' ≡ mid))
+    → TalksOver ask route m c taken mid t o
+    → Forwards ask route m c (concluded taken' x) taken o ⊎ ((x ≡ broken after.NoMemory) × WantsOver ask route m c taken taken' o)
+rest_over ask route m c taken mid taken' t x o returns ended (inl says) =
+    elim (forwards_either ask route m c (concluded taken' x) (wanting taken' x) taken o (forwards_also ask route m c (talked_so ask.page_due mid t) (either (concluded taken' x) (wanting taken' x)) taken o also says)) [
+      | inl whole ↦ inl whole
+      | inr wants ↦ inr (forwards_wanting ask route m c taken taken' x o wants, wants_over ask route m c taken taken' o (forwards_also ask route m c (wanting taken' x) (wanted taken') taken o (wanting_wanted taken' x) wants))
+    ]
   where
-    f : not (i'.faults == 0) ≡ failed
-    f = read_failed failed i.faults i'.faults none cause
+    also : Also (talked_so ask.page_due mid t) (either (concluded taken' x) (wanting taken' x))
+    also = record {
+      due = λ before d h. returns d before h;
+      stopped = λ before a h. let e = ended (broken a) h.1 in inl (e.1 ∙ h.0, e.0);
+    }
+rest_over ask route m c taken mid taken' t x o returns ended (inr wants) =
+    let e = ended (broken after.NoMemory) wants.0 in
+    inr (e.0, rw (← e.1) at wants.1)
 
-    a : answer_of (link_seen i' o') ≡ h.answer
-    a = answer_is failed h.answer i i' o' fresh on.offered_same f h.is_answer
+with_gives : (route : Route) (old new : DialerState) (P Q : DialOutcome → Type 0) (k : DialsOnce route P old new) → Q k.dial.outcome → DialsOnce route Q old new
+with_gives route old new P Q k q = record { dial = k.dial; added = k.added; to_host = k.to_host; to_port = k.to_port; gives = q; comes = k.comes; coming_left = k.coming_left; cause = k.cause }
 
-    quiet : not (o'.faults == 0) ≡ false
-    quiet = rw calm refl
-
-    whole : (IsSo : Due → Type 0) → HasDue (Answered (ask_of plan.asked) h.answer failed) IsSo → Follows plan IsSo (link_seen i' o') (not (o'.faults == 0))
-    whole IsSo due = follows_whole plan IsSo (link_seen i' o') h.answer failed quiet sent a f due
-
-    sent_prefix : IsPrefix o'.taken plan.head
-    sent_prefix = record { count = length plan.head; within = omega arith; is = sent ∙ grind (arith, common_steps) }
-
-    by : TalkGives (Answered (ask_of plan.asked) h.answer failed) taken taken' t → TalksOverLink plan taken taken' t (link_seen i' o')
-    by (inl due) = inl (whole (λ d. SaysDue d taken taken' t) due)
-    by (inr w) = inr (
-      w.wanting,
-      elim w.returned [
-        | inl same ↦ inr (record { prefix = sent_prefix; unreturned = same })
-        | inr some ↦ inl (whole (λ d. AddsPrefix taken taken' d.bytes) some)
-      ],
-    )
-
--- a count that rose from 0 isn't 0
-risen : (n : ℕ) → Rose 0 n → not (n == 0) ≡ true
-risen n c =
-    let some : 1 ≤ n = c in
-    grind (arith, some)
-
--- the link's sink failed in the head
-pub talk_cut : (plan : Plan) (i' : SourceState) (o o' : SinkState) (taken : List ℕ) → o.faults ≡ 0 → o.taken ≡ [] → Rose o.faults o'.faults → AddsFront o.taken o'.taken plan.head
-    → TalksOverLink plan taken taken (talked.Page page.ConnectFailed) (link_seen i' o')
-talk_cut plan i' o o' taken none nothing rose a =
-    let failed : not (o'.faults == 0) ≡ true = risen o'.faults (rw none at rose) in
-    rw failed (inl (record {
-      front = record { count = a.0; shorter = a.1; is = rw nothing at a.2 };
-      is_so = (refl, refl);
-    }))
-
--- memory was wanting in the head
-pub talk_wanting : (plan : Plan) (i' : SourceState) (o o' : SinkState) (taken : List ℕ) → o.taken ≡ [] → AddsFront o.taken o'.taken plan.head
-    → TalksOverLink plan taken taken (talked.Ended (broken after.NoMemory)) (link_seen i' o')
-talk_wanting plan i' o o' taken nothing a =
-    inr (
-      refl,
-      inr (record {
-        prefix = record { count = a.0; within = omega (arith, a.1); is = rw nothing at a.2 };
-        unreturned = refl;
-      }),
-    )
+-- a request that was sent on, the rest being returned
+pub forwards_some : (config : Config) (plan : Plan) (c : Client) (old new : DialerState) (taken mid taken' : List ℕ) (t : Talked) (x : Conclusion)
+    → ((d : Due) (before : List ℕ) → SaysDue (asking config plan).page_due d before mid t → ReturnsSome d before taken' x)
+    → ((y : Conclusion) → t ≡ talked.Ended y → (x ≡ y) × (taken' ≡ mid))
+    → TalksOn (asking config plan) plan.route plan.message c old new taken mid t
+    → ForwardsSome config plan c old new taken taken' x
+forwards_some config plan c old new taken mid taken' t x returns ended (inl d) =
+    elim (rest_over (asking config plan) plan.route plan.message c taken mid taken' t x d.dial.outcome returns ended d.gives) [
+      | inl whole ↦ inl (with_gives plan.route old new _ (λ o. Forwards (asking config plan) plan.route plan.message c (concluded taken' x) taken o) d whole)
+      | inr wants ↦ inr (wants.0, inr (with_gives plan.route old new _ (λ o. WantsOver (asking config plan) plan.route plan.message c taken taken' o) d wants.1))
+    ]
+forwards_some config plan c old new taken mid taken' t x returns ended (inr w) =
+    let e = ended (broken after.NoMemory) w.0 in
+    inr (e.0, inl (w.1, e.1 ∙ w.2))

@@ -1,7 +1,5 @@
+pub mod LastingLemmas
 pub mod DiallingLemmas
-pub mod HearingLemmas
-pub mod PumpLemmas
-pub mod ReturningLemmas
-pub mod ExchangeLemmas
+pub mod TalkLemmas
 pub mod ForwardingLemmas
-pub mod ShowsLemmas
+pub mod ReplyLemmas

@@ -1,5 +1,5 @@
 -- Dialling: the one dial of a request that is sent on.
-use Rattle.std.specs.Prelude.{◌≡◌, ◌⊎◌, false, true, IsTrue, List, [], ◌∷◌, ◌++◌, length, drop}
+use Rattle.std.specs.Prelude.{◌≡◌, false, true, IsTrue, List, [], ◌∷◌, ◌++◌, length, drop}
 use Rattle.px_base.specs.Causes.{Rose}
 use Rattle.px_base.specs.Dials.{DialerState}
 use Rattle.px_base.specs.declared.dials.Dial.{Dial}
@@ -7,7 +7,7 @@ use Rattle.px_base.specs.declared.dials.DialOutcome.{DialOutcome}
 use Rattle.px_base.specs.declared.dials.DialOutcome.TheVariants as outcome
 use Rattle.px_base.specs.declared.dials.Answer.{Answer}
 use Rattle.px_base.specs.declared.dials.Answer.TheVariants as answer
-use Rattle.px_exchange.specs.declared.judging.Route.{Route}
+use Rattle.px_decide.specs.declared.routes.Route.{Route}
 
 -- what came of a dial is what was to come: past the list no host is reached, and an end without failing calls doesn't fail
 abbrev pub Comes : List Answer → DialOutcome → Type 0
@@ -36,7 +36,3 @@ pub record DialsOnce (route : Route) (Gives : DialOutcome → Type 0) (old new :
   pub comes : IsTrue old.tells_coming → Comes old.coming dial.outcome
   pub coming_left : IsTrue old.tells_coming → new.coming ≡ drop 1 old.coming
   pub cause : OutcomeCause old new dial.outcome
-
--- why the page connect-failed is returned: one of three counts rose
-abbrev pub ConnectCause : DialerState → DialerState → Type 0
-ConnectCause old new = Rose old.names new.names ⊎ (Rose old.reach new.reach ⊎ Rose old.link_writes new.link_writes)

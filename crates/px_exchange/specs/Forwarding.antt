@@ -1,22 +1,30 @@
--- Forwarding: what is due for a request that is sent on, by what came of its one dial.
-use Rattle.std.specs.Prelude.{◌≡◌, ℕ, Bool, true, false, not, ◌==◌, ◌⊎◌, List, [], if◌then◌else◌}
+-- Forwarding: what is sent, and what is due, for a request that is sent on, by what came of its one dial.
+use Rattle.std.specs.Prelude.{◌≡◌, ℕ, Bool, true, false, not, ◌==◌, ◌⊎◌, List, [], Option, Some, None, if◌then◌else◌}
 use Rattle.px_base.specs.Sources.{SourceState, given}
 use Rattle.px_base.specs.Sinks.{SinkState}
 use Rattle.px_base.specs.declared.dials.LinkSeen.{LinkSeen}
 use Rattle.px_base.specs.declared.dials.DialOutcome.{DialOutcome}
 use Rattle.px_base.specs.declared.dials.DialOutcome.TheVariants as outcome
-use Rattle.px_exchange.specs.declared.pages.Page.TheVariants as page
-use Rattle.px_exchange.specs.declared.notes.After.TheVariants as after
-use Rattle.px_exchange.specs.declared.talks.Talked.{Talked}
-use Rattle.px_exchange.specs.declared.talks.Talked.TheVariants as talked
-use Rattle.px_exchange.specs.declared.judging.Plan.{Plan}
-use Rattle.px_exchange.specs.declared.dues.Due.{Due}
-use Rattle.px_exchange.specs.Answering.{page_due, ask_of, Answered}
-use Rattle.px_exchange.specs.Returning.{IsFront, IsPrefix, AddsPrefix, SaysDue, broken}
+use Rattle.px_decide.specs.declared.routes.Route.{Route}
+use Rattle.px_sending.specs.Sends.{Sends, is_link_failed}
+use Rattle.px_sending.specs.declared.messages.Message.{Message}
+use Rattle.px_sending.specs.declared.messages.Sent.{Sent}
+use Rattle.px_sending.specs.declared.messages.Sent.TheVariants as sent
+use Rattle.px_templates.specs.declared.pages.Page.{Page}
+use Rattle.px_templates.specs.declared.pages.Page.TheVariants as page
+use Rattle.px_pumps.specs.Answering.{Ask, Answered}
+use Rattle.px_pumps.specs.Returning.{Returns, AddsPrefix, SaysDue, HasDue, broken}
+use Rattle.px_pumps.specs.declared.dues.Due.{Due}
+use Rattle.px_pumps.specs.declared.notes.After.{After}
+use Rattle.px_pumps.specs.declared.notes.After.TheVariants as after
+use Rattle.px_pumps.specs.declared.notes.Conclusion.{Conclusion}
+use Rattle.px_pumps.specs.declared.talks.Talked.{Talked}
+use Rattle.px_pumps.specs.declared.talks.Talked.TheVariants as talked
 
--- the page connect-failed
-abbrev pub connect_failed : Due
-connect_failed = page_due page.ConnectFailed []
+-- a client's stream behind the request's head, and what of it is left behind the exchange
+pub record Client : Type 0 where
+  pub stream : List ℕ
+  pub behind : List ℕ
 
 -- what went over a link whose ends are so now
 abbrev pub link_seen : SourceState → SinkState → LinkSeen
@@ -32,54 +40,119 @@ link_seen i o = record {
 abbrev pub answer_of : LinkSeen → List ℕ
 answer_of seen = if seen.read_failed then seen.heard else seen.offered
 
--- the link's sink failed: a proper prefix of the head was sent, and the page connect-failed is due; IsSo is what is so of it
-pub record SendsFront (plan : Plan) (IsSo : Due → Type 0) (seen : LinkSeen) : Type 0 where
-  pub front : IsFront seen.sent plan.head
-  pub is_so : IsSo connect_failed
+-- What is said of an end, where the client's sink had taken those bytes before it: that something is due, or that nothing more is,
+-- since the request stopped.
+pub record Says : Type 1 where
+  pub due : List ℕ → Due → Type 0
+  pub stopped : List ℕ → After → Type 0
 
--- the head was sent whole, and what the answer becomes is due
-pub record SendsWhole (plan : Plan) (IsSo : Due → Type 0) (seen : LinkSeen) : Type 0 where
-  pub whole : seen.sent ≡ plan.head
-  pub due : Due
-  pub answered : Answered (ask_of plan.asked) (answer_of seen) seen.read_failed due
-  pub is_so : IsSo due
+-- What follows the sending of a request, by what came of that, the client's sink having taken `mid` behind it: what the answer
+-- becomes, the page of a link that failed or of a misframed body, or nothing more.
+abbrev pub Follows : Ask → Says → LinkSeen → List ℕ → Sent → Type 0
+Follows ask says seen mid sent.Whole = HasDue (Answered ask (answer_of seen) seen.read_failed) (says.due mid)
+Follows ask says seen mid sent.LinkFailed = says.due mid (ask.page_due page.SendFailed)
+Follows ask says seen mid sent.Misframed = says.due mid (ask.page_due page.InvalidRequest)
+Follows ask says seen mid sent.Cut = says.stopped mid after.Cut
+Follows ask says seen mid sent.ReadFailed = says.stopped mid after.ReadFailed
+Follows ask says seen mid sent.WriteFailed = says.stopped mid after.WriteFailed
+Follows ask says seen mid sent.NoMemory = ⊥
 
--- what follows the sending, by whether the link's sink failed
-abbrev pub Follows : Plan → (Due → Type 0) → LinkSeen → Bool → Type 0
-Follows plan IsSo seen true = SendsFront plan IsSo seen
-Follows plan IsSo seen false = SendsWhole plan IsSo seen
+-- what was sent over a link, and what followed
+pub record Talks (ask : Ask) (m : Message) (c : Client) (says : Says) (taken : List ℕ) (seen : LinkSeen) : Type 0 where
+  pub how : Sent
+  pub mid : List ℕ
+  pub sends : Sends m c.stream c.behind [] seen.sent taken mid how
+  pub by_link : seen.write_failed ≡ is_link_failed how
+  pub follows : Follows ask says seen mid how
 
--- what is due by what came of the dial, and that this is so of it
-abbrev pub Forwards : Plan → (Due → Type 0) → DialOutcome → Type 0
-Forwards plan IsSo outcome.NoName = IsSo connect_failed
-Forwards plan IsSo outcome.NotReached = IsSo connect_failed
-Forwards plan IsSo (outcome.Open mark offered) = ⊥
-Forwards plan IsSo (outcome.Link seen) = Follows plan IsSo seen seen.write_failed
+-- what came of a request that wasn't sent on whole
+abbrev pub stopped : Sent → Option Talked
+stopped sent.Whole = None
+stopped sent.LinkFailed = Some (talked.Page page.SendFailed)
+stopped sent.Misframed = Some (talked.Page page.InvalidRequest)
+stopped sent.Cut = Some (talked.Ended (broken after.Cut))
+stopped sent.ReadFailed = Some (talked.Ended (broken after.ReadFailed))
+stopped sent.WriteFailed = Some (talked.Ended (broken after.WriteFailed))
+stopped sent.NoMemory = Some (talked.Ended (broken after.NoMemory))
 
--- memory was wanting while the head was sent, or before anything was due for the answer
-pub record StopsOver (plan : Plan) (taken taken' : List ℕ) (seen : LinkSeen) : Type 0 where
-  pub prefix : IsPrefix seen.sent plan.head
-  pub unreturned : taken' ≡ taken
+-- the page of a dial whose host's name wasn't found
+abbrev pub no_name_page : Route → Page
+no_name_page route = if route.parent then page.ForwardingFailed else page.NoSuchDomain
 
--- memory was wanting over a link: a prefix of what is due was returned, or nothing
-abbrev pub WantsOverLink : Plan → List ℕ → List ℕ → LinkSeen → Type 0
-WantsOverLink plan taken taken' seen =
-    Follows plan (λ due. AddsPrefix taken taken' due.bytes) seen seen.write_failed ⊎ StopsOver plan taken taken' seen
+-- the page of a dial whose host wasn't reached
+abbrev pub not_reached_page : Route → Page
+not_reached_page route = if route.parent then page.ForwardingFailed else page.ConnectFailed
+
+-- a refused dial: a page is due, and nothing is read of the client
+abbrev pub Refuses : Due → Client → Says → List ℕ → Type 0
+Refuses due c says taken = (c.behind ≡ c.stream) × says.due taken due
+
+-- what came of a request that is sent on, by the outcome of its dial
+abbrev pub Forwards : Ask → Route → Message → Client → Says → List ℕ → DialOutcome → Type 0
+Forwards ask route m c says taken outcome.NoName = Refuses (ask.page_due (no_name_page route)) c says taken
+Forwards ask route m c says taken outcome.NotReached = Refuses (ask.page_due (not_reached_page route)) c says taken
+Forwards ask route m c says taken (outcome.Open mark offered) = ⊥
+Forwards ask route m c says taken (outcome.Link seen) = Talks ask m c says taken seen
+
+-- ---- how it ends
+
+-- how the exchange was concluded, the client's sink having taken those bytes
+abbrev pub concluded : List ℕ → Conclusion → Says
+concluded taken' x = record {
+  due = λ mid due. Returns due mid taken' x;
+  stopped = λ mid a. (taken' ≡ mid) × (x ≡ broken a);
+}
+
+-- what came of a talk, before a page is returned in place of an answer
+abbrev pub talked_so : (Page → Due) → List ℕ → Talked → Says
+talked_so page_due taken' t = record {
+  due = λ mid due. SaysDue page_due due mid taken' t;
+  stopped = λ mid a. (taken' ≡ mid) × (t ≡ talked.Ended (broken a));
+}
+
+-- memory was wanting: a prefix of what is due was returned
+abbrev pub wanted : List ℕ → Says
+wanted taken' = record { due = λ mid due. AddsPrefix mid taken' due.bytes; stopped = λ mid a. ⊥ }
+
+-- ---- want of memory
+
+-- nothing more was returned, for want of memory: in the sending, or behind it before anything was returned of the answer
+abbrev pub IsSilent : Sent → Type 0
+IsSilent sent.Whole = Unit {0}
+IsSilent sent.LinkFailed = ⊥
+IsSilent sent.Misframed = ⊥
+IsSilent sent.Cut = ⊥
+IsSilent sent.ReadFailed = ⊥
+IsSilent sent.WriteFailed = ⊥
+IsSilent sent.NoMemory = Unit {0}
+
+pub record StopsOver (m : Message) (c : Client) (taken taken' : List ℕ) (seen : LinkSeen) : Type 0 where
+  pub how : Sent
+  pub silent : IsSilent how
+  pub sends : Sends m c.stream c.behind [] seen.sent taken taken' how
+
+-- memory was wanting over a link
+abbrev pub WantsOverLink : Ask → Message → Client → List ℕ → List ℕ → LinkSeen → Type 0
+WantsOverLink ask m c taken taken' seen = Talks ask m c (wanted taken') taken seen ⊎ StopsOver m c taken taken' seen
 
 -- memory was wanting behind a dial
-abbrev pub WantsOver : Plan → List ℕ → List ℕ → DialOutcome → Type 0
-WantsOver plan taken taken' outcome.NoName = AddsPrefix taken taken' connect_failed.bytes
-WantsOver plan taken taken' outcome.NotReached = AddsPrefix taken taken' connect_failed.bytes
-WantsOver plan taken taken' (outcome.Open mark offered) = ⊥
-WantsOver plan taken taken' (outcome.Link seen) = WantsOverLink plan taken taken' seen
+abbrev pub WantsOver : Ask → Route → Message → Client → List ℕ → List ℕ → DialOutcome → Type 0
+WantsOver ask route m c taken taken' outcome.NoName = Refuses (ask.page_due (no_name_page route)) c (wanted taken') taken
+WantsOver ask route m c taken taken' outcome.NotReached = Refuses (ask.page_due (not_reached_page route)) c (wanted taken') taken
+WantsOver ask route m c taken taken' (outcome.Open mark offered) = ⊥
+WantsOver ask route m c taken taken' (outcome.Link seen) = WantsOverLink ask m c taken taken' seen
+
+-- ---- talks
+
+abbrev pub no_memory : Talked
+no_memory = talked.Ended (broken after.NoMemory)
 
 -- what came of a talk over a link
-abbrev pub TalksOverLink : Plan → List ℕ → List ℕ → Talked → LinkSeen → Type 0
-TalksOverLink plan taken taken' t seen =
-    Follows plan (λ due. SaysDue due taken taken' t) seen seen.write_failed
-    ⊎ ((t ≡ talked.Ended (broken after.NoMemory)) × WantsOverLink plan taken taken' seen)
+abbrev pub TalksOverLink : Ask → Message → Client → List ℕ → List ℕ → Talked → LinkSeen → Type 0
+TalksOverLink ask m c taken taken' t seen =
+    Talks ask m c (talked_so ask.page_due taken' t) taken seen ⊎ ((t ≡ no_memory) × WantsOverLink ask m c taken taken' seen)
 
 -- what came of a talk behind a dial
-abbrev pub TalksOver : Plan → List ℕ → List ℕ → Talked → DialOutcome → Type 0
-TalksOver plan taken taken' t o =
-    Forwards plan (λ due. SaysDue due taken taken' t) o ⊎ ((t ≡ talked.Ended (broken after.NoMemory)) × WantsOver plan taken taken' o)
+abbrev pub TalksOver : Ask → Route → Message → Client → List ℕ → List ℕ → Talked → DialOutcome → Type 0
+TalksOver ask route m c taken taken' t o =
+    Forwards ask route m c (talked_so ask.page_due taken' t) taken o ⊎ ((t ≡ no_memory) × WantsOver ask route m c taken taken' o)

@@ -1,10 +1,5 @@
-pub mod Fields
-pub mod Pages
-pub mod Judging
-pub mod Answering
-pub mod Pumps
-pub mod Forwarding
-pub mod Returning
-pub mod Hearing
+pub mod Replies
 pub mod Dialling
+pub mod Forwarding
+pub mod Causes
 pub mod Exchange

@@ -1,42 +1,97 @@
 // Dialling: the one dial of a request that is sent on.
-ghost use Rattle.std.specs.Prelude.{◌≡◌, ◌⊎◌, IsTrue};
-ghost use Rattle.px_base.specs.Sinks.{SinkGoesOn};
+ghost use Rattle.std.specs.Prelude.{◌≡◌, ◌++◌, IsTrue};
 ghost use Rattle.px_base.specs.Dials.{DialerGoesOn};
-ghost use Rattle.px_exchange.specs.Dialling.{ConnectCause};
+ghost use Rattle.px_base.specs.Sinks.{SinkGoesOn};
+ghost use Rattle.px_base.specs.Sources.{SourceGoesOn};
+ghost use Rattle.px_templates.specs.declared.pages.Page as page;
+ghost use Rattle.px_pumps.specs.declared.dues.Due as due;
+ghost use Rattle.px_pumps.specs.Asking.{ask_of};
+ghost use Rattle.px_pumps.specs.Returning.{TalkCause};
+ghost use Rattle.px_exchange.specs.Causes.{TalkPageCause, TalkReadCause};
 ghost use Rattle.px_exchange.specs.Exchange.{TalksOn};
-ghost use Rattle.px_exchange.specs.Returning.{TalkCause, IsHeard};
+ghost use Rattle.px_exchange.specs.Forwarding.{no_name_page, not_reached_page};
 
-use crate::forwarding::send_over;
-use crate::judging::Plan;
-use crate::notes::{After, broken};
-use crate::pages::Page;
-use crate::talks::Talked;
-use px_base::{DialFault, Dialer, Sink};
+use crate::forwarding::talk_over;
+use px_base::{DialFault, Dialer, Sink, Source};
+use px_config::{Config, Warm};
+use px_decide::Route;
+use px_pumps::{After, Asked, Talked, broken};
+use px_sending::Message;
+use px_streams::Ahead;
+use px_templates::Page;
 use std::alloc::Global;
 
-/// Dials by a plan's route, sends its head, returns the answer to the client and hangs up.
-pub fn dial_and_send<D: Dialer, O: Sink>(
+/// The page of a dial whose host's name wasn't found.
+fn no_name_page(route: &Route) -> Page
+    ensures { result ≡ no_name_page route.now }
+{
+    if route.parent {
+        Page::ForwardingFailed
+    } else {
+        Page::NoSuchDomain
+    }
+}
+
+/// The page of a dial whose host wasn't reached.
+fn not_reached_page(route: &Route) -> Page
+    ensures { result ≡ not_reached_page route.now }
+{
+    if route.parent {
+        Page::ForwardingFailed
+    } else {
+        Page::ConnectFailed
+    }
+}
+
+/// Dials by a route, sends a request, returns the answer to the client and hangs up. The store lent is that of the configuration.
+pub fn dial_and_send<S: Source, D: Dialer, O: Sink>(
     alloc: Global,
-    plan: &Plan,
-    dialer: &mut D,
+    config: &Config,
+    warm: &mut Warm<'_>,
+    route: &Route,
+    message: &Message,
+    asked: Asked,
+    client_in: &mut S,
+    ahead: &mut Ahead,
     client_out: &mut O,
+    dialer: &mut D,
 ) -> Talked
-    ensures talks { IsTrue (D.state dialer.old).tells → IsTrue (O.state client_out.old).tells
-        → TalksOn plan.now (D.state dialer.old) (D.state dialer.new) (O.state client_out.old).taken (O.state client_out.new).taken result }
+    requires sections { warm.old.sections ≡ config.now.sections }
+    requires filters { warm.old.filters ≡ config.now.filters }
+    ensures talks { IsTrue (S.state client_in.old).tells → IsTrue (O.state client_out.old).tells → IsTrue (D.state dialer.old).tells
+        → (page_due : page.Page → due.Due)
+        → TalksOn (ask_of config.now asked page_due) route.now message.now
+        (record { stream = ahead.old ++ (S.state client_in.old).left; behind = ahead.new ++ (S.state client_in.new).left })
+        (D.state dialer.old) (D.state dialer.new) (O.state client_out.old).taken (O.state client_out.new).taken result }
+    ensures read_cause { TalkReadCause (S.state client_in.old) (S.state client_in.new) result }
     ensures write_cause { TalkCause (O.state client_out.old) (O.state client_out.new) result }
-    ensures connect_failed { IsHeard result ⊎ ConnectCause (D.state dialer.old) (D.state dialer.new) }
+    ensures page_cause { TalkPageCause (D.state dialer.old) (D.state dialer.new) result }
     ensures open { (O.state client_out.new).finished ≡ (O.state client_out.old).finished }
+    ensures in_goes_on { SourceGoesOn (S.state client_in.old) (S.state client_in.new) }
     ensures out_goes_on { SinkGoesOn (O.state client_out.old) (O.state client_out.new) }
     ensures goes_on { DialerGoesOn (D.state dialer.old) (D.state dialer.new) }
+    ensures same_sections { warm.new.sections ≡ warm.old.sections }
+    ensures same_filters { warm.new.filters ≡ warm.old.filters }
 {
-    match dialer.dial(plan.route.host.as_bytes(), plan.route.port) {
+    match dialer.dial(route.host.as_bytes(), route.port) {
         Ok((mut link_in, mut link_out)) => {
-            let talked = send_over(alloc, plan, &mut link_in, &mut link_out, client_out);
+            let talked = talk_over(
+                alloc,
+                config,
+                warm,
+                message,
+                asked,
+                client_in,
+                ahead,
+                &mut link_in,
+                &mut link_out,
+                client_out,
+            );
             dialer.hang_up(link_in, link_out);
             talked
         }
-        Err(DialFault::NoName) => Talked::Page(Page::ConnectFailed),
-        Err(DialFault::NotReached) => Talked::Page(Page::ConnectFailed),
+        Err(DialFault::NoName) => Talked::Page(no_name_page(route)),
+        Err(DialFault::NotReached) => Talked::Page(not_reached_page(route)),
         Err(DialFault::Mem) => Talked::Ended(broken(After::NoMemory)),
     }
 }

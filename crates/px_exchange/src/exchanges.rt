@@ -1,115 +1,207 @@
 // One exchange: a request, and all that follows from it.
-ghost use Rattle.std.specs.Prelude.{◌≡◌, ◌≢◌, List, ℕ, true, IsTrue, IfOk};
-ghost use Rattle.px_base.specs.Sinks.{SinkState, SinkGoesOn};
+ghost use Rattle.std.specs.Prelude.{◌≡◌, ◌≢◌, ◌++◌, IsTrue, IfOk};
 ghost use Rattle.px_base.specs.Dials.{DialerGoesOn};
-ghost use Rattle.px_exchange.specs.declared.pages.Page.{Page};
-ghost use Rattle.px_exchange.specs.declared.dues.Due.{Due};
-ghost use Rattle.px_exchange.specs.declared.notes.Conclusion.{Conclusion};
-ghost use Rattle.px_exchange.specs.declared.notes.Ending.{Ending};
-ghost use Rattle.px_exchange.specs.Answering.{page_due};
-ghost use Rattle.px_exchange.specs.Dialling.{ConnectCause};
-ghost use Rattle.px_exchange.specs.Judging.{Judged};
-ghost use Rattle.px_exchange.specs.Returning.{ReturnsSome, SaysDue, TalkCause, WriteCause, IsHeard};
-ghost use Rattle.px_exchange.specs.Exchange.{Answers};
+ghost use Rattle.px_base.specs.Sinks.{SinkGoesOn};
+ghost use Rattle.px_base.specs.Sources.{SourceGoesOn};
+ghost use Rattle.px_judging.specs.Judging.{Judged};
+ghost use Rattle.px_pumps.specs.Returning.{WriteCause};
+ghost use Rattle.px_exchange.specs.Causes.{EndingCause, ReadCause};
+ghost use Rattle.px_exchange.specs.Exchange.{Answers, ForwardsSome};
+ghost use Rattle.px_exchange.specs.Replies.{ReturnsSome, local_due, no_tunnel, page_due};
 
-use crate::configs::Config;
 use crate::dialling::dial_and_send;
-use crate::dues::{Due, page_due};
-use crate::judging::{Handed, HeadSeen, Judgement, judge, read_request};
-use crate::notes::{After, Conclusion, ExchangeNote, Exchanged, broken};
-use crate::pages::Page;
-use crate::talks::Talked;
-use px_base::{Dialer, Mem, Peer, Sink, SinkFault, Source, Text, write_all};
+use crate::notes::{ExchangeNote, Exchanged};
+use crate::replies::{no_tunnel, page_reply, return_reply};
+use px_base::{Dialer, Mem, Peer, Sink, Source, Text};
+use px_config::{Config, Warm};
+use px_decide::Route;
+use px_judging::{Handed, HeadSeen, Judgement, Plan, TunnelPlan, judge, read_request};
+use px_patterns::Url;
 use px_publish::Snapshot;
-use px_streams::Feed;
+use px_pumps::{After, Conclusion, Ending, Talked, broken};
+use px_streams::{Ahead, Feed};
+use px_templates::Page;
 use std::alloc::Global;
 
-/// Returns to the client what is due.
-fn return_due<O: Sink>(client_out: &mut O, due: &Due) -> Conclusion
-    ensures returns { IsTrue (O.state client_out.old).tells → ReturnsSome due.now (O.state client_out.old).taken (O.state client_out.new).taken result }
-    ensures cause { due.now.after ≡ After.Close → WriteCause (O.state client_out.old) (O.state client_out.new) result.after }
-    ensures page { (p : Page) → result.ending ≡ Ending.Page p → due.now.ending ≡ Ending.Page p }
-    ensures open { (O.state client_out.new).finished ≡ (O.state client_out.old).finished }
-    ensures goes_on { SinkGoesOn (O.state client_out.old) (O.state client_out.new) }
-{
-    match write_all(client_out, due.bytes.as_bytes()) {
-        Ok(()) => Conclusion {
-            ending: due.ending,
-            after: due.after,
-        },
-        Err(SinkFault::Failed) => broken(After::WriteFailed),
-        Err(SinkFault::Mem) => broken(After::NoMemory),
-    }
-}
-
-/// Returns a page to the client. `error` is as for its text.
-#[tactic(auto, unfolding(crate::specs::Answering::page_due))]
-fn return_page<O: Sink>(alloc: Global, client_out: &mut O, page: Page, error: &[u8]) -> Conclusion
-    ensures returns { IsTrue (O.state client_out.old).tells → ReturnsSome (page_due page error.now) (O.state client_out.old).taken (O.state client_out.new).taken result }
+/// Returns the page that is due in place of an answer.
+fn return_page<O: Sink>(
+    alloc: Global,
+    config: &Config,
+    url: &Url,
+    route: &Route,
+    bodiless: bool,
+    page: Page,
+    client_out: &mut O,
+) -> Conclusion
+    ensures returns { IsTrue (O.state client_out.old).tells
+        → ReturnsSome (page_due config.now url.now route.now bodiless page) (O.state client_out.old).taken (O.state client_out.new).taken result }
     ensures cause { WriteCause (O.state client_out.old) (O.state client_out.new) result.after }
+    ensures unread { result.after ≢ After.ReadFailed }
     ensures page { (p : Page) → result.ending ≡ Ending.Page p → p ≡ page }
     ensures open { (O.state client_out.new).finished ≡ (O.state client_out.old).finished }
     ensures goes_on { SinkGoesOn (O.state client_out.old) (O.state client_out.new) }
 {
-    match page_due(alloc, page, error) {
-        Ok(due) => return_due(client_out, &due),
+    match page_reply(alloc, url, route, bodiless, page) {
+        Ok(reply) => return_reply(alloc, config, &reply, client_out),
         Err(Mem) => broken(After::NoMemory),
     }
 }
 
-/// Returns what is still to be returned after a talk.
-fn return_rest<O: Sink>(alloc: Global, client_out: &mut O, talked: Talked) -> Conclusion
-    ensures returns { IsTrue (O.state client_out.old).tells → (due : Due) (taken : List ℕ)
-        → SaysDue due taken (O.state client_out.old).taken talked → ReturnsSome due taken (O.state client_out.new).taken result }
-    ensures ended { IsTrue (O.state client_out.old).tells → (x : Conclusion) → talked ≡ Talked.Ended x → (result ≡ x) × ((O.state client_out.new).taken ≡ (O.state client_out.old).taken) }
-    ensures cause { (old : SinkState) → TalkCause old (O.state client_out.old) talked → WriteCause old (O.state client_out.new) result.after }
-    ensures heard { IsHeard talked → result.ending ≢ Ending.Page Page.ConnectFailed }
+/// Sends a request on, and returns what is due.
+fn forward<S: Source, O: Sink, D: Dialer>(
+    alloc: Global,
+    config: &Config,
+    warm: &mut Warm<'_>,
+    plan: Plan,
+    client_in: &mut S,
+    ahead: &mut Ahead,
+    client_out: &mut O,
+    dialer: &mut D,
+) -> Conclusion
+    requires sections { warm.old.sections ≡ config.now.sections }
+    requires filters { warm.old.filters ≡ config.now.filters }
+    ensures forwards { IsTrue (S.state client_in.old).tells → IsTrue (O.state client_out.old).tells → IsTrue (D.state dialer.old).tells
+        → ForwardsSome config.now plan
+        (record { stream = ahead.old ++ (S.state client_in.old).left; behind = ahead.new ++ (S.state client_in.new).left })
+        (D.state dialer.old) (D.state dialer.new) (O.state client_out.old).taken (O.state client_out.new).taken result }
+    ensures read_cause { ReadCause (S.state client_in.old) (S.state client_in.new) result.after }
+    ensures write_cause { WriteCause (O.state client_out.old) (O.state client_out.new) result.after }
+    ensures page_cause { EndingCause (D.state dialer.old) (D.state dialer.new) result.ending }
     ensures open { (O.state client_out.new).finished ≡ (O.state client_out.old).finished }
-    ensures goes_on { SinkGoesOn (O.state client_out.old) (O.state client_out.new) }
+    ensures in_goes_on { SourceGoesOn (S.state client_in.old) (S.state client_in.new) }
+    ensures out_goes_on { SinkGoesOn (O.state client_out.old) (O.state client_out.new) }
+    ensures goes_on { DialerGoesOn (D.state dialer.old) (D.state dialer.new) }
+    ensures same_sections { warm.new.sections ≡ warm.old.sections }
+    ensures same_filters { warm.new.filters ≡ warm.old.filters }
 {
-    match talked {
-        Talked::Page(page) => return_page(alloc, client_out, page, &[]),
+    let Plan {
+        url,
+        route,
+        message,
+        asked,
+        bodiless,
+    } = plan;
+    match dial_and_send(
+        alloc, config, warm, &route, &message, asked, client_in, ahead, client_out, dialer,
+    ) {
+        Talked::Page(page) => {
+            return_page(alloc, config, &url, &route, bodiless, page, client_out)
+        }
         Talked::Ended(conclusion) => conclusion,
     }
 }
 
-/// What is done for a request.
-fn judge_seen(alloc: Global, handed: &Handed<'_>) -> Result<Judgement, Mem>
-    ensures { IfOk result (Judged handed.now) }
+/// Returns the page of a request for a tunnel.
+fn refuse_tunnel<O: Sink>(
+    alloc: Global,
+    config: &Config,
+    plan: &TunnelPlan,
+    client_out: &mut O,
+) -> Conclusion
+    ensures returns { IsTrue (O.state client_out.old).tells
+        → ReturnsSome (local_due config.now (no_tunnel plan.now)) (O.state client_out.old).taken (O.state client_out.new).taken result }
+    ensures cause { WriteCause (O.state client_out.old) (O.state client_out.new) result.after }
+    ensures unread { result.after ≢ After.ReadFailed }
+    ensures page { (p : Page) → result.ending ≡ Ending.Page p → p ≡ Page.InvalidRequest }
+    ensures open { (O.state client_out.new).finished ≡ (O.state client_out.old).finished }
+    ensures goes_on { SinkGoesOn (O.state client_out.old) (O.state client_out.new) }
 {
-    let reading = read_request(alloc, handed.seen)?;
-    judge(alloc, handed, &reading)
+    match no_tunnel(alloc, plan) {
+        Ok(reply) => return_reply(alloc, config, &reply, client_out),
+        Err(Mem) => broken(After::NoMemory),
+    }
 }
 
-/// Answers one request: judges it, dials, sends it on, and returns what is due.
-pub fn answer_request<O: Sink, D: Dialer>(
+/// What is done for a request. The store lent is that of the configuration.
+fn judge_seen(alloc: Global, handed: &Handed<'_>, warm: &mut Warm<'_>) -> Result<Judgement, Mem>
+    requires sections { warm.old.sections ≡ handed.now.config.sections }
+    requires filters { warm.old.filters ≡ handed.now.config.filters }
+    ensures judged { IfOk result (Judged handed.now) }
+    ensures same_sections { warm.new.sections ≡ warm.old.sections }
+    ensures same_filters { warm.new.filters ≡ warm.old.filters }
+{
+    let reading = read_request(alloc, handed.seen)?;
+    judge(alloc, handed, warm, reading)
+}
+
+/// Answers one request: judges it, dials, sends it on, and returns what is due. `client_in` and the bytes that were read ahead of it
+/// are the client's bytes behind the request's head. The store lent is that of the configuration; what is returned doesn't depend on
+/// what it keeps.
+pub fn answer_request<S: Source, O: Sink, D: Dialer>(
     alloc: Global,
     handed: &Handed<'_>,
+    warm: &mut Warm<'_>,
+    client_in: &mut S,
+    ahead: &mut Ahead,
     client_out: &mut O,
     dialer: &mut D,
 ) -> Conclusion
-    ensures answers { IsTrue (O.state client_out.old).tells → IsTrue (D.state dialer.old).tells
-        → Answers handed.now (D.state dialer.old) (D.state dialer.new) (O.state client_out.old).taken (O.state client_out.new).taken result }
+    requires sections { warm.old.sections ≡ handed.now.config.sections }
+    requires filters { warm.old.filters ≡ handed.now.config.filters }
+    ensures answers { IsTrue (S.state client_in.old).tells → IsTrue (O.state client_out.old).tells → IsTrue (D.state dialer.old).tells
+        → Answers handed.now
+        (record { stream = ahead.old ++ (S.state client_in.old).left; behind = ahead.new ++ (S.state client_in.new).left })
+        (D.state dialer.old) (D.state dialer.new) (O.state client_out.old).taken (O.state client_out.new).taken result }
+    ensures read_cause { ReadCause (S.state client_in.old) (S.state client_in.new) result.after }
     ensures write_cause { WriteCause (O.state client_out.old) (O.state client_out.new) result.after }
-    ensures connect_cause { result.ending ≡ Ending.Page Page.ConnectFailed → ConnectCause (D.state dialer.old) (D.state dialer.new) }
+    ensures page_cause { EndingCause (D.state dialer.old) (D.state dialer.new) result.ending }
     ensures open { (O.state client_out.new).finished ≡ (O.state client_out.old).finished }
+    ensures in_goes_on { SourceGoesOn (S.state client_in.old) (S.state client_in.new) }
+    ensures out_goes_on { SinkGoesOn (O.state client_out.old) (O.state client_out.new) }
+    ensures goes_on { DialerGoesOn (D.state dialer.old) (D.state dialer.new) }
+    ensures same_sections { warm.new.sections ≡ warm.old.sections }
+    ensures same_filters { warm.new.filters ≡ warm.old.filters }
+{
+    match judge_seen(alloc, handed, warm) {
+        Ok(Judgement::Local(reply)) => return_reply(alloc, handed.config, &reply, client_out),
+        Ok(Judgement::Tunnel(plan)) => refuse_tunnel(alloc, handed.config, &plan, client_out),
+        Ok(Judgement::Forward(plan)) => forward(
+            alloc,
+            handed.config,
+            warm,
+            plan,
+            client_in,
+            ahead,
+            client_out,
+            dialer,
+        ),
+        Err(Mem) => broken(After::NoMemory),
+    }
+}
+
+/// The same with a store of its own, which is made for this request.
+pub fn answer_cold<S: Source, O: Sink, D: Dialer>(
+    alloc: Global,
+    handed: &Handed<'_>,
+    client_in: &mut S,
+    ahead: &mut Ahead,
+    client_out: &mut O,
+    dialer: &mut D,
+) -> Conclusion
+    ensures answers { IsTrue (S.state client_in.old).tells → IsTrue (O.state client_out.old).tells → IsTrue (D.state dialer.old).tells
+        → Answers handed.now
+        (record { stream = ahead.old ++ (S.state client_in.old).left; behind = ahead.new ++ (S.state client_in.new).left })
+        (D.state dialer.old) (D.state dialer.new) (O.state client_out.old).taken (O.state client_out.new).taken result }
+    ensures read_cause { ReadCause (S.state client_in.old) (S.state client_in.new) result.after }
+    ensures write_cause { WriteCause (O.state client_out.old) (O.state client_out.new) result.after }
+    ensures page_cause { EndingCause (D.state dialer.old) (D.state dialer.new) result.ending }
+    ensures open { (O.state client_out.new).finished ≡ (O.state client_out.old).finished }
+    ensures in_goes_on { SourceGoesOn (S.state client_in.old) (S.state client_in.new) }
     ensures out_goes_on { SinkGoesOn (O.state client_out.old) (O.state client_out.new) }
     ensures goes_on { DialerGoesOn (D.state dialer.old) (D.state dialer.new) }
 {
-    match judge_seen(alloc, handed) {
-        Ok(Judgement::Local(reply)) => {
-            return_page(alloc, client_out, reply.page, reply.error.as_bytes())
-        }
-        Ok(Judgement::Forward(plan)) => {
-            let talked = dial_and_send(alloc, &plan, dialer, client_out);
-            return_rest(alloc, client_out, talked)
+    match handed.config.warm(alloc) {
+        Ok(mut warm) => {
+            answer_request(
+                alloc, handed, &mut warm, client_in, ahead, client_out, dialer,
+            )
         }
         Err(Mem) => broken(After::NoMemory),
     }
 }
 
-/// Answers one request, the first of its connection, of a client whose bytes behind the head are `client_in`. Of the request
-/// no body is read, and the client's tags and address have no effect yet.
+/// Answers one request of a client whose bytes behind the request's head are `client_in`. `last` is whether it is the last request
+/// that its connection may have; `moment` is in seconds since 1970.
 pub fn exchange<S: Source, O: Sink, D: Dialer>(
     alloc: Global,
     snapshot: &Snapshot<'_, Config>,
@@ -122,28 +214,30 @@ pub fn exchange<S: Source, O: Sink, D: Dialer>(
     tags: &[Text],
     peer: &Peer,
 ) -> Exchanged
-    ensures answers { IsTrue (O.state client_out.old).tells → IsTrue (D.state dialer.old).tells
-        → Answers (record { config = snapshot.now.config.now; seen = head; first = true; last = last; tags = tags.now; peer = peer.now.address; moment = moment })
+    ensures answers { IsTrue (S.state client_in.old.source).tells → IsTrue (O.state client_out.old).tells → IsTrue (D.state dialer.old).tells
+        → Answers (record { config = snapshot.now.config.now; seen = head; last = last; tags = tags.now; peer = peer.now.address; moment = moment })
+        (record { stream = client_in.old.ahead ++ (S.state client_in.old.source).left; behind = client_in.new.ahead ++ (S.state client_in.new.source).left })
         (D.state dialer.old) (D.state dialer.new) (O.state client_out.old).taken (O.state client_out.new).taken (record { ending = result.note.ending; after = result.after }) }
     ensures config { result.note.config ≡ snapshot.now.number }
     ensures moment { result.note.moment ≡ moment }
+    ensures read_cause { ReadCause (S.state client_in.old.source) (S.state client_in.new.source) result.after }
     ensures write_cause { WriteCause (O.state client_out.old) (O.state client_out.new) result.after }
-    ensures connect_cause { result.note.ending ≡ Ending.Page Page.ConnectFailed → ConnectCause (D.state dialer.old) (D.state dialer.new) }
-    ensures unread { client_in.new ≡ client_in.old }
+    ensures page_cause { EndingCause (D.state dialer.old) (D.state dialer.new) result.note.ending }
     ensures open { (O.state client_out.new).finished ≡ (O.state client_out.old).finished }
+    ensures in_goes_on { SourceGoesOn (S.state client_in.old.source) (S.state client_in.new.source) }
     ensures out_goes_on { SinkGoesOn (O.state client_out.old) (O.state client_out.new) }
     ensures goes_on { DialerGoesOn (D.state dialer.old) (D.state dialer.new) }
 {
     let handed = Handed {
         config: snapshot.config,
         seen: &head,
-        first: true,
         last,
         tags,
         peer,
         moment,
     };
-    let concluded = answer_request(alloc, &handed, client_out, dialer);
+    let Feed { source, ahead } = client_in;
+    let concluded = answer_cold(alloc, &handed, source, ahead, client_out, dialer);
     Exchanged {
         note: ExchangeNote {
             config: snapshot.number,

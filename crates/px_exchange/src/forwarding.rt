@@ -1,42 +1,75 @@
 // Forwarding: sends a request over a link, and returns its answer.
-ghost use Rattle.std.specs.Prelude.{◌≡◌, ◌⊎◌, IsTrue};
-ghost use Rattle.px_base.specs.Causes.{Rose};
-ghost use Rattle.px_base.specs.Sources.{SourceGoesOn};
-ghost use Rattle.px_base.specs.Sinks.{SinkGoesOn};
+ghost use Rattle.std.specs.Prelude.{◌≡◌, ◌++◌, IsTrue};
 ghost use Rattle.px_base.specs.Dials.{IsFresh};
-ghost use Rattle.px_exchange.specs.Forwarding.{TalksOverLink, link_seen};
-ghost use Rattle.px_exchange.specs.Returning.{TalkCause, IsHeard};
+ghost use Rattle.px_base.specs.Sinks.{SinkGoesOn};
+ghost use Rattle.px_base.specs.Sources.{SourceGoesOn};
+ghost use Rattle.px_templates.specs.declared.pages.Page as page;
+ghost use Rattle.px_pumps.specs.declared.dues.Due as due;
+ghost use Rattle.px_pumps.specs.Asking.{ask_of};
+ghost use Rattle.px_pumps.specs.Returning.{TalkCause};
+ghost use Rattle.px_exchange.specs.Causes.{TalkLinkCause, TalkReadCause};
+ghost use Rattle.px_exchange.specs.Forwarding.{TalksOverLink, link_seen, stopped};
 
-use crate::answering::return_answer;
-use crate::judging::Plan;
-use crate::notes::{After, broken};
-use crate::pages::Page;
-use crate::talks::Talked;
-use px_base::{Sink, SinkFault, Source, write_all};
+use px_base::{Sink, Source};
+use px_config::{Config, Warm};
+use px_pumps::{After, Asked, Talked, broken, return_answer};
+use px_sending::{Message, Sent, send};
+use px_streams::Ahead;
+use px_templates::Page;
 use std::alloc::Global;
 
-/// Sends a request over a link, and returns its answer to the client.
-pub fn send_over<I: Source, P: Sink, O: Sink>(
+/// What came of a request that wasn't sent on whole, and nothing where it was.
+fn stopped(sent: Sent) -> Option<Talked>
+    ensures { result ≡ stopped sent }
+{
+    match sent {
+        Sent::Whole => None,
+        Sent::LinkFailed => Some(Talked::Page(Page::SendFailed)),
+        Sent::Misframed => Some(Talked::Page(Page::InvalidRequest)),
+        Sent::Cut => Some(Talked::Ended(broken(After::Cut))),
+        Sent::ReadFailed => Some(Talked::Ended(broken(After::ReadFailed))),
+        Sent::WriteFailed => Some(Talked::Ended(broken(After::WriteFailed))),
+        Sent::NoMemory => Some(Talked::Ended(broken(After::NoMemory))),
+    }
+}
+
+/// Sends a request over a link, its body as it comes from the client, and returns the answer to the client. The store lent is that
+/// of the configuration.
+pub fn talk_over<S: Source, I: Source, P: Sink, O: Sink>(
     alloc: Global,
-    plan: &Plan,
+    config: &Config,
+    warm: &mut Warm<'_>,
+    message: &Message,
+    asked: Asked,
+    client_in: &mut S,
+    ahead: &mut Ahead,
     link_in: &mut I,
     link_out: &mut P,
     client_out: &mut O,
 ) -> Talked
-    ensures talks { IsTrue (I.state link_in.old).tells → IsTrue (P.state link_out.old).tells → IsTrue (O.state client_out.old).tells
+    requires sections { warm.old.sections ≡ config.now.sections }
+    requires filters { warm.old.filters ≡ config.now.filters }
+    ensures talks { IsTrue (S.state client_in.old).tells → IsTrue (I.state link_in.old).tells → IsTrue (P.state link_out.old).tells → IsTrue (O.state client_out.old).tells
         → IsFresh (record { link_in = I.state link_in.old; link_out = P.state link_out.old })
-        → TalksOverLink plan.now (O.state client_out.old).taken (O.state client_out.new).taken result (link_seen (I.state link_in.new) (P.state link_out.new)) }
+        → (page_due : page.Page → due.Due)
+        → TalksOverLink (ask_of config.now asked page_due) message.now
+        (record { stream = ahead.old ++ (S.state client_in.old).left; behind = ahead.new ++ (S.state client_in.new).left })
+        (O.state client_out.old).taken (O.state client_out.new).taken result (link_seen (I.state link_in.new) (P.state link_out.new)) }
+    ensures read_cause { TalkReadCause (S.state client_in.old) (S.state client_in.new) result }
     ensures write_cause { TalkCause (O.state client_out.old) (O.state client_out.new) result }
-    ensures connect_failed { IsHeard result ⊎ Rose (P.state link_out.old).faults (P.state link_out.new).faults }
+    ensures page_cause { TalkLinkCause (P.state link_out.old) (P.state link_out.new) result }
     ensures link_open { (P.state link_out.new).finished ≡ (P.state link_out.old).finished }
     ensures open { (O.state client_out.new).finished ≡ (O.state client_out.old).finished }
+    ensures client_goes_on { SourceGoesOn (S.state client_in.old) (S.state client_in.new) }
     ensures in_goes_on { SourceGoesOn (I.state link_in.old) (I.state link_in.new) }
     ensures out_goes_on { SinkGoesOn (P.state link_out.old) (P.state link_out.new) }
-    ensures client_goes_on { SinkGoesOn (O.state client_out.old) (O.state client_out.new) }
+    ensures goes_on { SinkGoesOn (O.state client_out.old) (O.state client_out.new) }
+    ensures same_sections { warm.new.sections ≡ warm.old.sections }
+    ensures same_filters { warm.new.filters ≡ warm.old.filters }
 {
-    match write_all(link_out, plan.head.as_bytes()) {
-        Ok(()) => return_answer(alloc, plan.asked, link_in, client_out),
-        Err(SinkFault::Failed) => Talked::Page(Page::ConnectFailed),
-        Err(SinkFault::Mem) => Talked::Ended(broken(After::NoMemory)),
+    let sent = send(alloc, message, client_in, ahead, link_out, client_out);
+    match stopped(sent) {
+        Some(talked) => talked,
+        None => return_answer(alloc, config, warm, asked, link_in, client_out),
     }
 }

@@ -1,9 +1,32 @@
 //! Exchanges over objects in memory.
 use crate::{After, Config, Ending, Feed, HeadSeen, Page, exchange};
-use px_base::{Answer, List, MemDialer, Peer, TapeIn, TapeOut, Text};
+use px_base::{Answer, List, MemDialer, MemFiles, Peer, Source, TapeIn, TapeOut, Text};
+use px_config::load;
 use px_publish::Snapshot;
 use std::alloc::Global;
 use std::process::Abort;
+use std::test::Fail;
+
+/// A request, the lines of the main file and of the actions file, and the client's calls that fail.
+#[derive(Clone, Copy)]
+struct Row<'a> {
+    main: &'a [u8],
+    actions: &'a [u8],
+    head: &'a [u8],
+    /// The client's bytes behind the head.
+    rest: &'a [u8],
+    read_fails: &'a [u64],
+}
+
+const fn get(head: &'static [u8]) -> Row<'static> {
+    Row {
+        main: b"",
+        actions: b"",
+        head,
+        rest: b"",
+        read_fails: &[],
+    }
+}
 
 /// What came of an exchange.
 #[derive(Drop)]
@@ -11,58 +34,87 @@ struct Outcome {
     ending: Ending,
     after: After,
     returned: Text,
-    links: usize,
-    /// Of the one link, and empty or 0 where there is none.
-    host: Text,
-    port: u16,
-    sent: Text,
+    /// Host and port of each link, and what was sent over it.
+    links: Text,
+    /// What is left of the client's bytes.
+    behind: Text,
 }
 
-fn link(rt: &impl Abort, alloc: Global, bytes: &[u8]) -> Answer {
-    Answer::Link {
-        bytes: Text::from_bytes(alloc, bytes).expect(rt, "memory"),
+fn text(alloc: Global, bytes: &[u8]) -> Result<Text, Fail> {
+    Ok(Text::from_bytes(alloc, bytes)?)
+}
+
+fn config_of(rt: &impl Abort, alloc: Global, main: &[u8], actions: &[u8]) -> Result<Config, Fail> {
+    let mut lines = text(alloc, main)?;
+    lines.push_all(b"actionsfile u.action\n")?;
+    let mut state = List::new(alloc);
+    state.add((text(alloc, b"c")?, lines))?;
+    state.add((text(alloc, b"u.action")?, text(alloc, actions)?))?;
+    let mut states = List::new(alloc);
+    states.add(state)?;
+    let mut files = MemFiles::new(alloc, states, &[])?;
+    match load(alloc, &mut files, "c") {
+        Ok(config) => Ok(config),
+        Err(_) => panic!(rt; "the files don't load"),
+    }
+}
+
+fn link(alloc: Global, bytes: &[u8]) -> Result<Answer, Fail> {
+    Ok(Answer::Link {
+        bytes: text(alloc, bytes)?,
         cuts: List::new(alloc),
         read_fails: List::new(alloc),
         write_fails: List::new(alloc),
-    }
+    })
 }
 
-/// An answer of which a call of an end fails, and each read before gives 40 bytes.
-fn failing_link(rt: &impl Abort, alloc: Global, reads: bool, call: u64) -> Answer {
+/// A link whose first write, or whose first read, fails.
+fn failing_link(alloc: Global, reads: bool) -> Result<Answer, Fail> {
     let mut fails = List::new(alloc);
-    let mut cuts = List::new(alloc);
-    assert!(rt; fails.push(call).is_ok());
-    assert!(rt; cuts.push(40).is_ok());
+    fails.add(0u64)?;
     let none = List::new(alloc);
     let (read_fails, write_fails) = if reads { (fails, none) } else { (none, fails) };
-    Answer::Link {
-        bytes: Text::from_bytes(alloc, ANSWER).expect(rt, "memory"),
-        cuts,
+    Ok(Answer::Link {
+        bytes: text(alloc, ANSWER)?,
+        cuts: List::new(alloc),
         read_fails,
         write_fails,
-    }
+    })
 }
 
-/// Answers a request head, the dial giving that answer.
-fn answer(rt: &impl Abort, alloc: Global, head: HeadSeen, answer: Answer) -> Outcome {
+/// The dialer's links, each by a line with host and port and by what was sent.
+fn links_of(alloc: Global, dialer: &MemDialer) -> Result<Text, Fail> {
+    let mut links = Text::new(alloc);
+    for link in dialer.links() {
+        links.push_all(link.host.as_bytes())?;
+        links.push(b' ')?;
+        links.push_all(itoa::Buffer::new().format(link.port).as_bytes())?;
+        links.push(b'\n')?;
+        links.push_all(link.sent.as_bytes())?;
+    }
+    Ok(links)
+}
+
+/// Answers a request, the dial giving that answer.
+fn answer(rt: &impl Abort, alloc: Global, row: &Row<'_>, answer: Answer) -> Result<Outcome, Fail> {
     let mut answers = List::new(alloc);
-    assert!(rt; answers.push(answer).is_ok());
-    let config = Config {};
+    answers.add(answer)?;
+    let config = config_of(rt, alloc, row.main, row.actions)?;
     let snapshot = Snapshot {
         number: 7,
         config: &config,
     };
-    let source = TapeIn::new(alloc, &[], &[], &[]).expect(rt, "memory");
-    let mut client_in = Feed::new(alloc, source).expect(rt, "memory");
-    let mut client_out = TapeOut::new(alloc, &[], &[]).expect(rt, "memory");
-    let mut dialer = MemDialer::new(alloc, answers).expect(rt, "memory");
+    let source = TapeIn::new(alloc, row.rest, &[], row.read_fails)?;
+    let mut client_in = Feed::new(alloc, source)?;
+    let mut client_out = TapeOut::new(alloc, &[], &[])?;
+    let mut dialer = MemDialer::new(alloc, answers)?;
     let peer = Peer {
-        address: Text::from_bytes(alloc, b"127.0.0.1").expect(rt, "memory"),
+        address: text(alloc, b"127.0.0.1")?,
     };
     let exchanged = exchange(
         alloc,
         &snapshot,
-        head,
+        HeadSeen::Block(text(alloc, row.head)?),
         false,
         &mut client_in,
         &mut client_out,
@@ -73,268 +125,169 @@ fn answer(rt: &impl Abort, alloc: Global, head: HeadSeen, answer: Answer) -> Out
     );
     assert_eq!(rt; exchanged.note.config, 7);
     assert_eq!(rt; exchanged.note.moment, 9);
-    assert!(rt; !client_out.finished());
-    let mut outcome = Outcome {
+    let mut buf = [0u8; 64];
+    let left = client_in.read(&mut buf).unwrap_or(0);
+    Ok(Outcome {
         ending: exchanged.note.ending,
         after: exchanged.after,
-        returned: Text::from_bytes(alloc, client_out.taken()).expect(rt, "memory"),
-        links: dialer.links().len(),
-        host: Text::new(alloc),
-        port: 0,
-        sent: Text::new(alloc),
-    };
-    for link in dialer.links() {
-        outcome
-            .host
-            .push_all(link.host.as_bytes())
-            .expect(rt, "memory");
-        outcome.port = link.port;
-        outcome
-            .sent
-            .push_all(link.sent.as_bytes())
-            .expect(rt, "memory");
-    }
-    outcome
-}
-
-fn block(rt: &impl Abort, alloc: Global, bytes: &[u8]) -> HeadSeen {
-    HeadSeen::Block(Text::from_bytes(alloc, bytes).expect(rt, "memory"))
+        returned: text(alloc, client_out.taken())?,
+        links: links_of(alloc, &dialer)?,
+        behind: text(alloc, &buf[..left])?,
+    })
 }
 
 const GET: &[u8] = b"GET http://a.test/x HTTP/1.1\r\nHost: a.test\r\n\r\n";
 
 const ANSWER: &[u8] = b"HTTP/1.1 200 OK\r\nContent-Length: 2\r\n\r\nhi";
 
-const NO_DATA: &[u8] =
-    b"HTTP/1.1 502 Bad Gateway\r\nContent-Type: text/html\r\nContent-Length: 41\r\nCache-Control: no-cache\r\nConnection: close\r\n\r\n<html><body>no-server-data</body></html>\n";
-
-const UNREACHED: &[u8] =
-    b"HTTP/1.1 503 Service Unavailable\r\nContent-Type: text/html\r\nContent-Length: 41\r\nCache-Control: no-cache\r\nConnection: close\r\n\r\n<html><body>connect-failed</body></html>\n";
+const RETURNED: &[u8] = b"HTTP/1.1 200 OK\r\nContent-Length: 2\r\nConnection: keep-alive\r\n\r\nhi";
 
 #[test]
-fn held_back_fields_are_taken_out_both_ways(rt: HostRuntime) {
-    let head =
-        b"GET http://A.test/p?q#r HTTP/1.1\r\nhOST: other.test\r\nAccept: */*\r\nconnection: x-one , Close\r\nX-One: 1\r\nTE: trailers\r\nKeep-Alive: 5\r\nX-Two: a:b\r\nproxy-authorization: z\r\nUpgrade: h2c\r\nProxy-Connection: keep-alive\r\nTrailer: x\r\n\r\n";
+fn a_request_is_sent_on_and_its_answer_is_returned(rt: HostRuntime) -> Result<(), Fail> {
+    let alloc = rt.alloc();
+    let row = get(
+        b"GET http://A.test:8081/p?q#r HTTP/1.1\r\nhOST: other.test\r\nAccept: */*\r\nconnection: x-one\r\nX-One: 1\r\nTE: trailers\r\n\r\n",
+    );
     let bytes =
-        b"HTTP/1.0 404 Not Here\r\nServer: o\r\nConnection: x-one\r\nContent-length: 003\r\nX-ONE: 1\r\nKeep-Alive: 5\r\nTrailer: x\r\nHost: h\r\nproxy-connection: keep-alive\r\nTE: x\r\nUpgrade: h2c\r\n\r\nabcdef";
-    let outcome = answer(
-        &rt,
-        rt.alloc(),
-        block(&rt, rt.alloc(), head),
-        link(&rt, rt.alloc(), bytes),
-    );
-    assert_eq!(rt;
-        outcome.sent.as_bytes(),
-        b"GET /p?q#r HTTP/1.1\r\nHost: A.test\r\nAccept: */*\r\nX-Two: a:b\r\nConnection: close\r\n\r\n" as &[u8]
-    );
-    assert_eq!(rt;
-        outcome.returned.as_bytes(),
-        b"HTTP/1.1 404 Not Here\r\nServer: o\r\nHost: h\r\nContent-Length: 3\r\nConnection: close\r\n\r\nabc" as &[u8]
-    );
+        b"HTTP/1.0 404 Not Here\r\nServer: o\r\nConnection: x-one\r\nContent-length: 003\r\nX-ONE: 1\r\nKeep-Alive: 5\r\n\r\nabcdef";
+    let outcome = answer(&rt, alloc, &row, link(alloc, bytes)?)?;
+    let sent: &[u8] =
+        b"A.test 8081\nGET /p?q#r HTTP/1.1\r\nHost: A.test:8081\r\nAccept: */*\r\nConnection: close\r\n\r\n";
+    assert_eq!(rt; outcome.links.as_bytes(), sent);
+    let returned: &[u8] =
+        b"HTTP/1.1 404 Not Here\r\nServer: o\r\nContent-Length: 3\r\nConnection: keep-alive\r\n\r\nabc";
+    assert_eq!(rt; outcome.returned.as_bytes(), returned);
     assert_eq!(rt; outcome.ending, Ending::Passed);
+    assert_eq!(rt; outcome.after, After::Keep);
+    Ok(())
+}
+
+/// What is returned of a page behind its status line.
+fn page_ends(rt: &impl Abort, outcome: &Outcome, page: Page, end: &[u8]) {
+    assert_eq!(rt; outcome.ending, Ending::Page(page));
     assert_eq!(rt; outcome.after, After::Close);
-}
-
-/// The page of a refused request, by the length of its body and the refusal's name.
-fn refusal(rt: &impl Abort, alloc: Global, len: &[u8], name: &[u8]) -> Text {
-    let mut page = Text::new(alloc);
-    for part in [
-        b"HTTP/1.1 400 Bad Request\r\nContent-Type: text/html\r\nContent-Length: " as &[u8],
-        len,
-        b"\r\nCache-Control: no-cache\r\nConnection: close\r\n\r\n<html><body>invalid-request: ",
-        name,
-        b"</body></html>\n",
-    ] {
-        page.push_all(part).expect(rt, "memory");
-    }
-    page
-}
-
-/// Answers a request that is refused.
-fn refuse(rt: &impl Abort, alloc: Global, head: HeadSeen, len: &[u8], name: &[u8]) {
-    let outcome = answer(rt, alloc, head, link(rt, alloc, ANSWER));
-    let page = refusal(rt, alloc, len, name);
-    assert_eq!(rt; outcome.returned.as_bytes(), page.as_bytes());
-    assert_eq!(rt; outcome.ending, Ending::Page(Page::InvalidRequest));
-    assert_eq!(rt; outcome.after, After::Close);
-    assert_eq!(rt; outcome.links, 0);
+    assert!(rt; outcome.returned.as_bytes().ends_with(end));
 }
 
 #[test]
-fn a_request_of_another_form_is_refused_and_nothing_is_dialled(rt: HostRuntime) {
-    let rows: [&'static [u8]; 8] = [
-        b"POST http://a.test/ HTTP/1.1\r\n\r\n",
-        b"GETS http://a.test/ HTTP/1.1\r\n\r\n",
-        b"GET http://a.test/ HTTP/1.0\r\n\r\n",
-        b"GET http://a.test/ HTTP/1.1\r\nContent-length: 0\r\n\r\n",
-        b"GET http://a.test/ HTTP/1.1\r\nTransfer-Encoding: chunked\r\n\r\n",
-        b"GET http://a.test/ HTTP/1.1\r\nexpect: 100-continue\r\n\r\n",
-        b"GET http://a.test/ HTTP/1.1\r\nA B\r\n\r\n",
-        b"GET http://a.test/\r\n\r\n",
+fn a_dial_or_a_link_that_fails_has_its_page(rt: HostRuntime) -> Result<(), Fail> {
+    let alloc = rt.alloc();
+    let rows: [(Answer, &'static [u8], Page, &'static [u8]); 6] = [
+        (
+            Answer::NoName,
+            b"",
+            Page::NoSuchDomain,
+            b"<html><body>no-such-domain</body></html>\n",
+        ),
+        (
+            Answer::NotReached,
+            b"",
+            Page::ConnectFailed,
+            b"<html><body>connect-failed</body></html>\n",
+        ),
+        (
+            Answer::NoName,
+            b"forward / p.test:8080\n",
+            Page::ForwardingFailed,
+            b"<html><body>forwarding-failed</body></html>\n",
+        ),
+        (
+            Answer::NotReached,
+            b"forward / p.test:8080\n",
+            Page::ForwardingFailed,
+            b"<html><body>forwarding-failed</body></html>\n",
+        ),
+        (
+            failing_link(alloc, false)?,
+            b"",
+            Page::SendFailed,
+            b"<html><body>send-failed</body></html>\n",
+        ),
+        (
+            failing_link(alloc, true)?,
+            b"",
+            Page::NoServerData,
+            b"<html><body>no-server-data</body></html>\n",
+        ),
     ];
-    for head in rows {
-        let head = block(&rt, rt.alloc(), head);
-        refuse(&rt, rt.alloc(), head, b"52", b"NotBuilt");
+    for (given, main, page, end) in rows {
+        let row = Row { main, ..get(GET) };
+        let outcome = answer(&rt, alloc, &row, given)?;
+        page_ends(&rt, &outcome, page, end);
     }
-    refuse(&rt, rt.alloc(), HeadSeen::Over, b"52", b"NotBuilt");
+    Ok(())
 }
 
-/// A request with a target that is refused, the length of the page and the refusal's name.
-const TARGETS: [(&[u8], &[u8], &[u8]); 5] = [
-    (b"GET /x HTTP/1.1\r\n\r\n", b"51", b"NotHttp"),
-    (b"GET https://a.test/ HTTP/1.1\r\n\r\n", b"51", b"NotHttp"),
-    (b"GET http:///x HTTP/1.1\r\n\r\n", b"50", b"NoHost"),
-    (b"GET http://u@a.test/ HTTP/1.1\r\n\r\n", b"51", b"HasUser"),
-    (b"GET http://a.test:0/ HTTP/1.1\r\n\r\n", b"51", b"BadPort"),
-];
+const POST: &[u8] =
+    b"POST http://a.test/x HTTP/1.1\r\nContent-Length: 3\r\nExpect: 100-continue\r\n\r\n";
 
 #[test]
-fn a_target_that_is_no_url_is_refused_by_its_name(rt: HostRuntime) {
-    for (head, len, name) in TARGETS {
-        let head = block(&rt, rt.alloc(), head);
-        refuse(&rt, rt.alloc(), head, len, name);
-    }
+fn a_body_is_sent_on_and_what_is_behind_it_is_left(rt: HostRuntime) -> Result<(), Fail> {
+    let alloc = rt.alloc();
+    let row = Row {
+        rest: b"abcGET",
+        ..get(POST)
+    };
+    let outcome = answer(&rt, alloc, &row, link(alloc, ANSWER)?)?;
+    let sent: &[u8] =
+        b"a.test 80\nPOST /x HTTP/1.1\r\nHost: a.test\r\nContent-Length: 3\r\nConnection: close\r\n\r\nabc";
+    assert_eq!(rt; outcome.links.as_bytes(), sent);
+    let mut returned = text(alloc, b"HTTP/1.1 100 Continue\r\n\r\n")?;
+    returned.push_all(RETURNED)?;
+    assert_eq!(rt; outcome.returned.as_bytes(), returned.as_bytes());
+    assert_eq!(rt; outcome.ending, Ending::Passed);
+    assert_eq!(rt; outcome.after, After::Keep);
+    assert_eq!(rt; outcome.behind.as_bytes(), b"GET" as &[u8]);
+    Ok(())
 }
 
-/// A request, the host and the port that are dialled, and the head that is sent on.
-const DIALS: [(&[u8], &[u8], u16, &[u8]); 3] = [
-    (
-        b"GET HTTP://a_b HTTP/1.1\r\n\r\n",
-        b"a_b",
-        80,
-        b"GET / HTTP/1.1\r\nHost: a_b\r\nConnection: close\r\n\r\n",
-    ),
-    (
-        b"GET http://a.test:8081/x HTTP/1.1\r\n\r\n",
-        b"a.test",
-        8081,
-        b"GET /x HTTP/1.1\r\nHost: a.test:8081\r\nConnection: close\r\n\r\n",
-    ),
-    (
-        b"GET http://[::1]:81/ HTTP/1.1\r\n\r\n",
-        b"::1",
-        81,
-        b"GET / HTTP/1.1\r\nHost: [::1]:81\r\nConnection: close\r\n\r\n",
-    ),
-];
+const CHUNKED: &[u8] = b"POST http://a.test/x HTTP/1.1\r\nTransfer-Encoding: chunked\r\n\r\n";
 
 #[test]
-fn the_host_and_the_port_of_the_url_are_dialled(rt: HostRuntime) {
-    for (head, host, port, sent) in DIALS {
-        let head = block(&rt, rt.alloc(), head);
-        let outcome = answer(&rt, rt.alloc(), head, link(&rt, rt.alloc(), ANSWER));
-        assert_eq!(rt; outcome.host.as_bytes(), host);
-        assert_eq!(rt; outcome.port, port);
-        assert_eq!(rt; outcome.sent.as_bytes(), sent);
-        assert_eq!(rt; outcome.ending, Ending::Passed);
-    }
-}
-
-#[test]
-fn an_answer_of_another_form_gives_the_page_no_server_data(rt: HostRuntime) {
-    let rows: [&'static [u8]; 8] = [
-        b"",
-        b"HTTP/1.1 200 OK\r\nContent-Length: 2\r\n",
-        b"HTTP/1.1 200 OK\r\nContent-Length: +2\r\n\r\nhi",
-        b"HTTP/1.1 200 OK\r\nContent-Length: 2\r\ncontent-length: 2\r\n\r\nhi",
-        b"HTTP/1.1 200 OK\r\nContent-Length: 9223372036854775808\r\n\r\nhi",
-        b"HTTP/1.1 200 OK\r\nTransfer-Encoding: chunked\r\nContent-Length: 2\r\n\r\nhi",
-        b"HTTP/1.1 204 No Content\r\nContent-Length: 0\r\n\r\n",
-        b"HTTP/1.1 100 Continue\r\nContent-Length: 0\r\n\r\n",
-    ];
-    for bytes in rows {
-        let outcome = answer(
-            &rt,
-            rt.alloc(),
-            block(&rt, rt.alloc(), GET),
-            link(&rt, rt.alloc(), bytes),
-        );
-        assert_eq!(rt; outcome.returned.as_bytes(), NO_DATA);
-        assert_eq!(rt; outcome.ending, Ending::Page(Page::NoServerData));
-        assert_eq!(rt; outcome.after, After::Close);
-        assert_eq!(rt; outcome.links, 1);
-    }
-    let outcome = answer(
-        &rt,
-        rt.alloc(),
-        block(&rt, rt.alloc(), GET),
-        failing_link(&rt, rt.alloc(), true, 0),
-    );
-    assert_eq!(rt; outcome.returned.as_bytes(), NO_DATA);
-}
-
-/// An answer whose body ends by the close, or too early, what is returned of it, and its ending.
-const FRONTS: [(&[u8], &[u8], Ending); 5] = [
-    (
-        b"HTTP/1.1 200 OK\r\n\r\nhi",
-        b"HTTP/1.1 200 OK\r\nConnection: close\r\n\r\nhi",
-        Ending::Passed,
-    ),
-    (
-        b"HTTP/1.1 200 OK\r\n\r\n",
-        b"HTTP/1.1 200 OK\r\nConnection: close\r\n\r\n",
-        Ending::Passed,
-    ),
-    (
-        b"HTTP/1.0 500 No\r\nConnection: a, keep-alive\r\nA: 1\r\nB: 2\r\n\r\n\r\n",
-        b"HTTP/1.1 500 No\r\nB: 2\r\nConnection: close\r\n\r\n\r\n",
-        Ending::Passed,
-    ),
-    (
-        b"HTTP/1.1 200 OK\r\nContent-Length: 20\r\n\r\n0123456789",
-        b"HTTP/1.1 200 OK\r\nContent-Length: 20\r\nConnection: keep-alive\r\n\r\n0123456789",
-        Ending::CutFront,
-    ),
-    (
-        b"HTTP/1.1 200 OK\r\nContent-Length: 2\r\n\r\n",
-        b"HTTP/1.1 200 OK\r\nContent-Length: 2\r\nConnection: keep-alive\r\n\r\n",
-        Ending::CutFront,
-    ),
-];
-
-#[test]
-fn a_body_to_the_close_is_returned_and_one_that_ends_early_is_cut(rt: HostRuntime) {
-    for (bytes, returned, ending) in FRONTS {
-        let outcome = answer(
-            &rt,
-            rt.alloc(),
-            block(&rt, rt.alloc(), GET),
-            link(&rt, rt.alloc(), bytes),
-        );
-        assert_eq!(rt; outcome.returned.as_bytes(), returned);
-        assert_eq!(rt; outcome.ending, ending);
-        assert_eq!(rt; outcome.after, After::Close);
-    }
+fn a_body_that_is_not_whole_stops_the_exchange(rt: HostRuntime) -> Result<(), Fail> {
+    let alloc = rt.alloc();
+    let cut = Row {
+        rest: b"3\r\nab",
+        ..get(CHUNKED)
+    };
+    let outcome = answer(&rt, alloc, &cut, link(alloc, ANSWER)?)?;
+    assert_eq!(rt; outcome.ending, Ending::Broken);
+    assert_eq!(rt; outcome.after, After::Cut);
+    assert!(rt; outcome.returned.is_empty());
+    let failed = Row {
+        read_fails: &[0],
+        ..cut
+    };
+    let outcome = answer(&rt, alloc, &failed, link(alloc, ANSWER)?)?;
+    assert_eq!(rt; outcome.ending, Ending::Broken);
+    assert_eq!(rt; outcome.after, After::ReadFailed);
+    let misframed = Row {
+        rest: b"3\r\nabcdef",
+        ..get(CHUNKED)
+    };
+    let outcome = answer(&rt, alloc, &misframed, link(alloc, ANSWER)?)?;
+    let end: &[u8] = b"<html><body>invalid-request: Misframed</body></html>\n";
+    page_ends(&rt, &outcome, Page::InvalidRequest, end);
+    Ok(())
 }
 
 #[test]
-fn a_read_fault_in_a_body_gives_a_cut_front(rt: HostRuntime) {
-    let bytes: &[u8] = b"HTTP/1.1 200 OK\r\nContent-Length: 20\r\n\r\n0123456789abcdefghij";
-    let mut given = failing_link(&rt, rt.alloc(), true, 1);
-    if let Answer::Link { bytes: text, .. } = &mut given {
-        text.clear();
-        text.push_all(bytes).expect(&rt, "memory");
-    }
-    let outcome = answer(&rt, rt.alloc(), block(&rt, rt.alloc(), GET), given);
-    assert_eq!(rt;
-        outcome.returned.as_bytes(),
-        b"HTTP/1.1 200 OK\r\nContent-Length: 20\r\nConnection: keep-alive\r\n\r\n0" as &[u8]
-    );
-    assert_eq!(rt; outcome.ending, Ending::CutFront);
-    assert_eq!(rt; outcome.after, After::Close);
-}
-
-#[test]
-fn an_origin_that_is_not_reached_gives_the_page_connect_failed(rt: HostRuntime) {
-    let rows = [
-        (Answer::NoName, 0),
-        (Answer::NotReached, 0),
-        (failing_link(&rt, rt.alloc(), false, 0), 1),
-    ];
-    for (given, links) in rows {
-        let outcome = answer(&rt, rt.alloc(), block(&rt, rt.alloc(), GET), given);
-        assert_eq!(rt; outcome.returned.as_bytes(), UNREACHED);
-        assert_eq!(rt; outcome.ending, Ending::Page(Page::ConnectFailed));
-        assert_eq!(rt; outcome.links, links);
-    }
+fn a_request_is_answered_without_a_dial(rt: HostRuntime) -> Result<(), Fail> {
+    let alloc = rt.alloc();
+    let blocked = Row {
+        actions: b"{+block{ads}}\n.a.test\n",
+        ..get(GET)
+    };
+    let outcome = answer(&rt, alloc, &blocked, link(alloc, ANSWER)?)?;
+    assert_eq!(rt; outcome.ending, Ending::Page(Page::Blocked));
+    assert_eq!(rt; outcome.after, After::Keep);
+    let end: &[u8] = b"<html><body>blocked: ads</body></html>\n";
+    assert!(rt; outcome.returned.as_bytes().ends_with(end));
+    assert!(rt; outcome.links.is_empty());
+    let tunnel = get(b"CONNECT a.test:443 HTTP/1.1\r\n\r\n");
+    let outcome = answer(&rt, alloc, &tunnel, link(alloc, ANSWER)?)?;
+    let end: &[u8] = b"<html><body>invalid-request: NotBuilt</body></html>\n";
+    page_ends(&rt, &outcome, Page::InvalidRequest, end);
+    assert!(rt; outcome.links.is_empty());
+    Ok(())
 }

@@ -1,29 +1,10 @@
 // What is done for a request.
 use crate::replies::LocalReply;
-use px_actions::ActionSet;
-use px_base::{List, Text};
+use px_answers::Asked;
+use px_base::Text;
 use px_decide::Route;
 use px_patterns::Url;
 use px_sending::Message;
-use px_subst::Vars;
-
-/// What an answer becomes depends on this alone, beside the configuration and the answer.
-#[derive(Drop)]
-pub struct Asked {
-    pub method: Text,
-    /// The minor number of the client's version.
-    pub minor: u8,
-    /// Whether the connection may be kept.
-    pub keep: bool,
-    /// What is set for the request.
-    pub set: ActionSet,
-    /// The request's tags.
-    pub tags: List<Text>,
-    /// The values of a job's words.
-    pub vars: Vars,
-    /// In seconds since 1970.
-    pub moment: u64,
-}
 
 /// A request that is sent on: its destination, where to, what is sent, and what was asked.
 #[derive(Drop)]

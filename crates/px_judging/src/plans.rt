@@ -5,9 +5,10 @@ ghost use Rattle.px_judging.specs.Sending.{next_target, sent_head};
 
 use crate::connects::{greeting, tunnel_head};
 use crate::handed::Handed;
-use crate::judgements::{Asked, Plan, TunnelPlan};
+use crate::judgements::{Plan, TunnelPlan};
 use crate::requests::{Request, Tags};
 use px_actions::Kind;
+use px_answers::Asked;
 use px_base::{Mem, Text};
 use px_decide::route;
 use px_framing::BodyRule;

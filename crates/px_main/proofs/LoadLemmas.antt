@@ -18,6 +18,7 @@ use Rattle.px_main.specs.declared.statuses.Status.{Status}
 use Rattle.px_main.specs.declared.statuses.Status.TheVariants as status
 use Rattle.px_main.specs.Loads.{Checks, FailsToLoad, Loads, Prints, RefusesUrl, ReportsOrWants, RunsCheck, RunsShow, ShowsBy, ShowsUrl, load_status, url_fault_line}
 use Rattle.px_main.specs.Passes.{GivesUp, Outside, ReportCause, Reports, ReportsOn}
+use Rattle.px_main.specs.Passing.{RunsPass}
 
 -- nothing but a text was printed on the error output
 reports_by : (f f' : FilesState) (i : SourceState) (o e e' : SinkState) (t : ClockState) (text : List ℕ) (whole s : Status)
@@ -50,6 +51,15 @@ fails_by : (config : List ℕ) (f f' : FilesState) (i : SourceState) (o e e' : S
     → FailsToLoad config (record { files = f; input = i; out = o; errors = e; clock = t }) (record { files = f'; input = i; out = o; errors = e'; clock = t }) s
 fails_by config f f' i o e e' t fault s same is cause reported report_cause =
     record { fault = fault; is_fault = is; load_cause = cause; reports = reports_by f f' i o e e' t (fault_text fault) (load_status fault) s same reported report_cause }
+
+-- `pass` of a configuration that doesn't load
+pub pass_fails : (config origin sent : List ℕ) (tags : List (List ℕ)) (f f' : FilesState) (i : SourceState) (o e e' : SinkState) (t : ClockState) (fault : LoadFault) (s : Status)
+    → (IsTrue f.tells → Unchanged f.contents f'.contents)
+    → (IsTrue f.tells → IsLoadFault (spelled (gathered f.contents config)) fault) → LoadCause f.read_faults f'.read_faults fault
+    → ReportsOrWants e e' (fault_text fault) (load_status fault) s
+    → RunsPass config origin sent tags (record { files = f; input = i; out = o; errors = e; clock = t }) (record { files = f'; input = i; out = o; errors = e'; clock = t }) s
+pass_fails config origin sent tags f f' i o e e' t fault s same is cause (inl reported) = inl (fails_by config f f' i o e e' t fault s same is cause reported.0 reported.1)
+pass_fails config origin sent tags f f' i o e e' t fault s same is cause (inr wants) = inr (inr (gives_up f f' i o e e' t s same wants.0 wants.1))
 
 -- `check` of a configuration that doesn't load
 pub check_fails : (config : List ℕ) (f f' : FilesState) (i : SourceState) (o e e' : SinkState) (t : ClockState) (fault : LoadFault) (s : Status)

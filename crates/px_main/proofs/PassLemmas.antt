@@ -8,7 +8,9 @@ use Rattle.px_base.specs.Moments.{ClockState, ClockGoesOn}
 use Rattle.px_base.specs.declared.dials.Answer.{Answer}
 use Rattle.px_base.specs.declared.faults.FilesFault.{FilesFault}
 use Rattle.px_base.specs.Dials.{DialerState, fresh_dialer, finished_links}
-use Rattle.px_exchange.specs.declared.configs.Config.{Config}
+use Rattle.px_config.specs.declared.configs.Config.{Config}
+use Rattle.px_main.specs.Loads.{Loads}
+use Rattle.px_main.specs.Passing.{RunsPass}
 use Rattle.px_exchange.specs.declared.notes.ExchangeNote.{ExchangeNote}
 use Rattle.px_serve.specs.declared.ends.SessionEnd.{SessionEnd}
 use Rattle.px_serve.specs.Ends.{ReadEndCause, WriteEndCause}
@@ -50,12 +52,12 @@ moved_back : (a b : Contents) (name : List ℕ) (answers : List Answer) → Unch
 moved_back a b name answers same h = subst (λ (held : Option (List ℕ)). HasAnswers held answers) (sym (same name)) h
 
 -- a session, and SENT put behind it
-pub passes_by : (origin sent : List ℕ) (tags : List (List ℕ)) (f f1 f2 : FilesState) (i i' : SourceState) (o o' errors : SinkState) (t t' : ClockState) (answers : List Answer) (e : SessionEnd) (made : Option (List ℕ)) (s : Status)
+pub passes_by : (config : Config) (origin sent : List ℕ) (tags : List (List ℕ)) (f f1 f2 : FilesState) (i i' : SourceState) (o o' errors : SinkState) (t t' : ClockState) (answers : List Answer) (e : SessionEnd) (made : Option (List ℕ)) (s : Status)
     → OnlyRead f f1 → (IsTrue f.tells → HasAnswers (f.contents origin) answers)
-    → HasServed tags answers i i' o o' t t' e made
+    → HasServed config tags answers i i' o o' t t' e made
     → ((text : List ℕ) → ((x : List ℕ) → made ≡ Some x → x ≡ text) → PutsAfter f1 f2 sent text e s)
-    → Passes origin sent tags (record { files = f; input = i; out = o; errors = errors; clock = t }) (record { files = f2; input = i'; out = o'; errors = errors; clock = t' }) s
-passes_by origin sent tags f f1 f2 i i' o o' errors t t' answers e made s read has h puts = record {
+    → Passes config origin sent tags (record { files = f; input = i; out = o; errors = errors; clock = t }) (record { files = f2; input = i'; out = o'; errors = errors; clock = t' }) s
+passes_by config origin sent tags f f1 f2 i i' o o' errors t t' answers e made s read has h puts = record {
   answers = answers;
   has_answers = has;
   session_end = e;
@@ -79,14 +81,14 @@ same_behind f f1 i o errors t new h same = record {
 }
 
 -- what is done with files that were only read is done with those before
-pub loaded_behind : (origin sent : List ℕ) (tags : List (List ℕ)) (f f1 : FilesState) (i : SourceState) (o errors : SinkState) (t : ClockState) (new : Outside) (s : Status) → OnlyRead f f1
-    → RunsLoaded origin sent tags (record { files = f1; input = i; out = o; errors = errors; clock = t }) new s
-    → RunsLoaded origin sent tags (record { files = f; input = i; out = o; errors = errors; clock = t }) new s
-loaded_behind origin sent tags f f1 i o errors t new s h (inl fails) =
+pub loaded_behind : (config : Config) (origin sent : List ℕ) (tags : List (List ℕ)) (f f1 : FilesState) (i : SourceState) (o errors : SinkState) (t : ClockState) (new : Outside) (s : Status) → OnlyRead f f1
+    → RunsLoaded config origin sent tags (record { files = f1; input = i; out = o; errors = errors; clock = t }) new s
+    → RunsLoaded config origin sent tags (record { files = f; input = i; out = o; errors = errors; clock = t }) new s
+loaded_behind config origin sent tags f f1 i o errors t new s h (inl fails) =
     inl (record { failed = fails.failed; cause = rw h.reads_same at fails.cause; same = same_behind f f1 i o errors t new h fails.same })
-loaded_behind origin sent tags f f1 i o errors t new s h (inr (inl r)) =
+loaded_behind config origin sent tags f f1 i o errors t new s h (inr (inl r)) =
     inr (inl (record { refused = r.refused; none = λ u answers k. r.none (h.tells_same ∙ u) answers (moved_back f.contents f1.contents origin answers (h.unchanged u) k); same = same_behind f f1 i o errors t new h r.same }))
-loaded_behind origin sent tags f f1 i o errors t new s h (inr (inr (inl p))) =
+loaded_behind config origin sent tags f f1 i o errors t new s h (inr (inr (inl p))) =
     inr (inr (inl (record {
       answers = p.answers;
       has_answers = λ u. moved_answers f.contents f1.contents origin p.answers (h.unchanged u) (p.has_answers (h.tells_same ∙ u));
@@ -96,7 +98,7 @@ loaded_behind origin sent tags f f1 i o errors t new s h (inr (inr (inl p))) =
       put = put_behind f f1 new.files sent p.text p.session_end s h p.put;
       unprinted = p.unprinted;
     })))
-loaded_behind origin sent tags f f1 i o errors t new s h (inr (inr (inr w))) =
+loaded_behind config origin sent tags f f1 i o errors t new s h (inr (inr (inr w))) =
     inr (inr (inr (record { wanting = w.wanting; same = same_behind f f1 i o errors t new h w.same })))
 
 pub files_go_on : {a b c : FilesState} → FilesGoOn a b → FilesGoOn b c → FilesGoOn a c
@@ -121,13 +123,12 @@ pub has_served : {tags : List (List ℕ)} {answers : List Answer} {i i' : Source
     → caller ≡ caller_of tags → d ≡ fresh_dialer answers → IsFixed looks config
     → ReadEndCause i i' e → WriteEndCause o o' e
     → ((x : List ℕ) → made ≡ Some x → x ≡ sent_text (finished_links d'.dials))
-    → HasServed tags answers i i' o o' t t' e made
-has_served {looks = looks} {looks' = looks'} {config = config} {d' = d'} {notes = notes} serves client fresh fixed read write made_is = record {
+    → HasServed config tags answers i i' o o' t t' e made
+has_served {looks = looks} {looks' = looks'} {d' = d'} {notes = notes} serves client fresh fixed read write made_is = record {
   text = sent_text (finished_links d'.dials);
   served = record {
     looks = looks;
     looks_after = looks';
-    config = config;
     fixed = fixed;
     dialer = d';
     notes = notes;
@@ -138,3 +139,8 @@ has_served {looks = looks} {looks' = looks'} {config = config} {d' = d'} {notes 
   };
   made_is = made_is;
 }
+
+-- the configuration loads
+pub pass_loaded : (config origin sent : List ℕ) (tags : List (List ℕ)) (old new : Outside) (loaded : Config) (s : Status)
+    → Loads config old.files loaded → RunsLoaded loaded origin sent tags old new s → RunsPass config origin sent tags old new s
+pass_loaded config origin sent tags old new loaded s loads runs = inr (inl (record { loaded = loaded; loads = loads; runs = runs }))

@@ -1,14 +1,12 @@
 -- What a file holds, by what reading it gave.
 use Rattle.std.proofs.Common.{◌≡◌, ℕ, ◌≤◌, ◌<◌, Bool, true, false, cond, List, [], ◌∷◌, length, Option, None, Some, refl, sym, ap, ◌∙◌, arith, leb}
-use Rattle.std.specs.Prelude.{codes}
 use Rattle.std.proofs.lemmas.Bool.{leb-true, leb-false}
 use Rattle.px_base.specs.declared.files.Content.{Content}
 use Rattle.px_base.specs.declared.files.Content.TheVariants as content
 use Rattle.px_base.specs.declared.dials.Answer.{Answer}
 use Rattle.px_base.specs.Contents.{content_of}
-use Rattle.px_config.specs.FaultLines.{fault_line}
 use Rattle.px_main.specs.Origins.{IsOrigin}
-use Rattle.px_main.specs.Passes.{refusal, HasAnswers}
+use Rattle.px_main.specs.Passes.{HasAnswers}
 
 pub missing : (limit : ℕ) (held : Option (List ℕ)) → content.Missing ≡ content_of limit held → held ≡ None
 missing limit None e = refl
@@ -33,29 +31,6 @@ over limit (Some bytes) e = by (leb (length bytes) limit) refl e
     by : (b : Bool) → leb (length bytes) limit ≡ b → content.Over ≡ cond b (content.Found bytes) content.Over → (xs : List ℕ) × (Some bytes ≡ Some xs) × (limit < length xs)
     by true h k = (cc)
     by false h k = (bytes, refl, leb-false _ _ h)
-
--- ---- CONFIG
-
-some_refused : (name : List ℕ) (bytes : List ℕ) → 0 < length bytes → refusal name (Some bytes) ≡ Some (fault_line name 1 45 (codes "NotBuilt"))
-some_refused name [] h = absurd (omega arith)
-some_refused name (b ∷ bytes) h = refl
-
-pub missing_refused : (limit : ℕ) (name : List ℕ) (held : Option (List ℕ)) → content.Missing ≡ content_of limit held → refusal name held ≡ Some (fault_line name 0 32 (codes "Missing"))
-missing_refused limit name held e = ap (refusal name) (missing limit held e)
-
-pub over_refused : (limit : ℕ) (name : List ℕ) (held : Option (List ℕ)) → content.Over ≡ content_of limit held → refusal name held ≡ Some (fault_line name 1 45 (codes "NotBuilt"))
-over_refused limit name held e = let p = over limit held e in ap (refusal name) p.1 ∙ some_refused name p.0 (omega (arith, p.2))
-
-pub found_refused : (limit : ℕ) (name : List ℕ) (held : Option (List ℕ)) (text : List ℕ) → content.Found text ≡ content_of limit held → 0 < length text → refusal name held ≡ Some (fault_line name 1 45 (codes "NotBuilt"))
-found_refused limit name held text e some = ap (refusal name) (found limit held text e).0 ∙ some_refused name text some
-
-pub found_empty : (limit : ℕ) (held : Option (List ℕ)) (text : List ℕ) → content.Found text ≡ content_of limit held → length text ≡ 0 → held ≡ Some []
-found_empty limit held [] e none = (found limit held [] e).0
-found_empty limit held (b ∷ text) e none = absurd (omega arith)
-
-pub ruleset config_rules = (missing_refused, over_refused, found_refused, found_empty)
-
--- ---- ORIGIN
 
 pub missing_answers : (limit : ℕ) (held : Option (List ℕ)) (answers : List Answer) → content.Missing ≡ content_of limit held → HasAnswers held answers → ⊥
 missing_answers limit None answers e h = h

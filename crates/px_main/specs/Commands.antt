@@ -4,7 +4,8 @@ use Rattle.px_main.specs.declared.statuses.Status.{Status}
 use Rattle.px_main.specs.declared.statuses.Status.TheVariants as status
 use Rattle.px_main.specs.declared.statuses.TheConstants.{USAGE}
 use Rattle.px_main.specs.Loads.{RunsCheck, RunsShow}
-use Rattle.px_main.specs.Passes.{Outside, Reports, RunsPass}
+use Rattle.px_main.specs.Passes.{Outside, Reports}
+use Rattle.px_main.specs.Passing.{RunsPass}
 use Rattle.px_main.specs.Statuses.{code_of}
 use Rattle.px_main.specs.Words.{IsPass, IsCheck, IsShow}
 

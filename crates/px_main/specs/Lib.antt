@@ -6,4 +6,5 @@ pub mod Statuses
 pub mod Passes
 pub mod Reads
 pub mod Loads
+pub mod Passing
 pub mod Commands

@@ -8,7 +8,7 @@ use Rattle.px_base.specs.Moments.{ClockState, ClockGoesOn}
 use Rattle.px_base.specs.Dials.{DialerState, fresh_dialer, finished_links}
 use Rattle.px_base.specs.declared.dials.Answer.{Answer}
 use Rattle.px_base.specs.declared.faults.FilesFault.{FilesFault}
-use Rattle.px_exchange.specs.declared.configs.Config.{Config}
+use Rattle.px_config.specs.declared.configs.Config.{Config}
 use Rattle.px_exchange.specs.declared.notes.ExchangeNote.{ExchangeNote}
 use Rattle.px_serve.specs.declared.ends.SessionEnd.{SessionEnd}
 use Rattle.px_serve.specs.Ends.{ReadEndCause, WriteEndCause}
@@ -16,7 +16,6 @@ use Rattle.px_serve.specs.Histories.{Looks}
 use Rattle.px_serve.specs.Sessions.{Caller, Serves}
 use Rattle.px_main.specs.declared.statuses.Status.{Status}
 use Rattle.px_main.specs.declared.statuses.Status.TheVariants as status
-use Rattle.px_config.specs.FaultLines.{fault_line}
 use Rattle.px_main.specs.Origins.{IsOrigin}
 use Rattle.px_main.specs.Sents.{sent_text}
 use Rattle.px_main.specs.Statuses.{is_wanting, status_after}
@@ -70,12 +69,6 @@ pub record GivesUp (old new : Outside) (s : Status) : Type 0 where
   pub wanting : s ≡ status.NoMemory
   pub same : IsSame old new
 
--- what is printed of a CONFIG that isn't built: only an empty one is
-abbrev pub refusal : List ℕ → Option (List ℕ) → Option (List ℕ)
-refusal config None = Some (fault_line config 0 32 (codes "Missing"))
-refusal config (Some []) = None
-refusal config (Some (b ∷ bytes)) = Some (fault_line config 1 45 (codes "NotBuilt"))
-
 -- a file holds ORIGIN with these answers
 abbrev pub HasAnswers : Option (List ℕ) → List Answer → Type 0
 HasAnswers None answers = ⊥
@@ -108,11 +101,10 @@ pub record IsFixed (looks : Looks) (config : Config) : Type 0 where
   pub view : looks.view ≡ config ∷ []
   pub coming : (k : ℕ) → looks.coming k ≡ record { number = 0; config = config }
 
--- a session over the input and the answers, with one configuration, and the text of SENT
-pub record IsServed (tags : List (List ℕ)) (answers : List Answer) (i i' : SourceState) (o o' : SinkState) (t t' : ClockState) (e : SessionEnd) (text : List ℕ) : Type 0 where
+-- a session over the input and the answers, with that configuration, and the text of SENT
+pub record IsServed (config : Config) (tags : List (List ℕ)) (answers : List Answer) (i i' : SourceState) (o o' : SinkState) (t t' : ClockState) (e : SessionEnd) (text : List ℕ) : Type 0 where
   pub looks : Looks
   pub looks_after : Looks
-  pub config : Config
   pub fixed : IsFixed looks config
   pub dialer : DialerState
   pub notes : List ExchangeNote
@@ -125,9 +117,9 @@ pub record IsServed (tags : List (List ℕ)) (answers : List Answer) (i i' : Sou
   pub write_cause : WriteEndCause o o' e
 
 -- the same with the text that was made, if memory was there for it
-pub record HasServed (tags : List (List ℕ)) (answers : List Answer) (i i' : SourceState) (o o' : SinkState) (t t' : ClockState) (e : SessionEnd) (made : Option (List ℕ)) : Type 0 where
+pub record HasServed (config : Config) (tags : List (List ℕ)) (answers : List Answer) (i i' : SourceState) (o o' : SinkState) (t t' : ClockState) (e : SessionEnd) (made : Option (List ℕ)) : Type 0 where
   pub text : List ℕ
-  pub served : IsServed tags answers i i' o o' t t' e text
+  pub served : IsServed config tags answers i i' o o' t t' e text
   pub made_is : (x : List ℕ) → made ≡ Some x → x ≡ text
 
 -- ORIGIN couldn't be read
@@ -143,39 +135,16 @@ pub record RefusesOrigin (origin : List ℕ) (old new : Outside) (s : Status) : 
   pub same : IsSame old new
 
 -- a session was served, behind which SENT was put
-pub record Passes (origin sent : List ℕ) (tags : List (List ℕ)) (old new : Outside) (s : Status) : Type 0 where
+pub record Passes (config : Config) (origin sent : List ℕ) (tags : List (List ℕ)) (old new : Outside) (s : Status) : Type 0 where
   pub answers : List Answer
   pub has_answers : IsTrue old.files.tells → HasAnswers (old.files.contents origin) answers
   pub session_end : SessionEnd
   pub text : List ℕ
-  pub served : IsServed tags answers old.input new.input old.out new.out old.clock new.clock session_end text
+  pub served : IsServed config tags answers old.input new.input old.out new.out old.clock new.clock session_end text
   pub put : PutsAfter old.files new.files sent text session_end s
   pub unprinted : new.errors ≡ old.errors
 
--- from a built CONFIG on
-abbrev pub RunsLoaded : List ℕ → List ℕ → List (List ℕ) → Outside → Outside → Status → Type 0
-RunsLoaded origin sent tags old new s =
-    FailsOnOrigin old new s ⊎ (RefusesOrigin origin old new s ⊎ (Passes origin sent tags old new s ⊎ GivesUp old new s))
-
--- CONFIG couldn't be read
-pub record FailsOnConfig (config : List ℕ) (old new : Outside) (s : Status) : Type 0 where
-  pub cause : Rose old.files.read_faults new.files.read_faults
-  pub text : List ℕ
-  pub text_is : IsTrue old.files.tells → text ≡ fault_line config 0 33 (codes "ReadFault")
-  pub reports : Reports old new text status.ReadFailed s
-
--- CONFIG isn't built
-pub record RefusesConfig (config : List ℕ) (old new : Outside) (s : Status) : Type 0 where
-  pub text : List ℕ
-  pub refused : IsTrue old.files.tells → refusal config (old.files.contents config) ≡ Some text
-  pub reports : Reports old new text status.NotLoaded s
-
--- CONFIG is the empty one
-pub record Loads (config origin sent : List ℕ) (tags : List (List ℕ)) (old new : Outside) (s : Status) : Type 0 where
-  pub empty : IsTrue old.files.tells → old.files.contents config ≡ Some []
-  pub runs : RunsLoaded origin sent tags old new s
-
--- with the words of `pass`
-abbrev pub RunsPass : List ℕ → List ℕ → List ℕ → List (List ℕ) → Outside → Outside → Status → Type 0
-RunsPass config origin sent tags old new s =
-    FailsOnConfig config old new s ⊎ (RefusesConfig config old new s ⊎ (Loads config origin sent tags old new s ⊎ GivesUp old new s))
+-- with a configuration
+abbrev pub RunsLoaded : Config → List ℕ → List ℕ → List (List ℕ) → Outside → Outside → Status → Type 0
+RunsLoaded config origin sent tags old new s =
+    FailsOnOrigin old new s ⊎ (RefusesOrigin origin old new s ⊎ (Passes config origin sent tags old new s ⊎ GivesUp old new s))

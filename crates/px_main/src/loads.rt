@@ -20,7 +20,7 @@ use px_show::{check, show};
 use std::alloc::Global;
 
 /// Prints why a configuration doesn't load, and gives the status. Where memory is wanting for the text nothing is printed.
-fn report_load<E: Sink>(alloc: Global, err: &mut E, fault: &LoadFault) -> Status
+pub fn report_load<E: Sink>(alloc: Global, err: &mut E, fault: &LoadFault) -> Status
     ensures reports { ReportsOrWants (E.state err.old) (E.state err.new) (fault_text fault.now) (load_status fault.now) result }
     ensures goes_on { SinkGoesOn (E.state err.old) (E.state err.new) }
 {

@@ -3,8 +3,6 @@
 
 mod answers;
 mod commands;
-mod configs;
-mod faults;
 mod loads;
 mod origins;
 mod passes;

@@ -4,17 +4,17 @@ ghost use Rattle.px_base.specs.Contents.{FilesGoOn};
 ghost use Rattle.px_base.specs.Sources.{SourceGoesOn};
 ghost use Rattle.px_base.specs.Sinks.{SinkState, SinkGoesOn};
 ghost use Rattle.px_base.specs.Moments.{ClockGoesOn};
-ghost use Rattle.px_main.specs.Passes.{Outside, OutsideGoesOn, RunsPass, RunsLoaded, HasServed, PutsAfter};
+ghost use Rattle.px_main.specs.Passes.{Outside, OutsideGoesOn, RunsLoaded, HasServed, PutsAfter};
+ghost use Rattle.px_main.specs.Passing.{RunsPass};
 
 use crate::answers::{OriginRead, read_answers};
-use crate::configs::{ConfigRead, read_config};
-use crate::reports::report;
+use crate::loads::report_load;
 use crate::sents::made_sent;
 use crate::statuses::{Status, is_wanting, status_after};
 use crate::texts::tag_texts;
 use crate::words::PassWords;
 use px_base::{Answer, Clock, Files, List, Mem, MemDialer, Peer, Sink, Source, Text};
-use px_exchange::Config;
+use px_config::{Config, load};
 use px_publish::FixedConfig;
 use px_serve::{SessionEnd, serve_connection};
 use std::alloc::Global;
@@ -23,7 +23,7 @@ use std::sync::Arc;
 /// The address of the one client of `pass`.
 const CLIENT: &[u8] = b"127.0.0.1";
 
-/// Runs `pass`: reads CONFIG and ORIGIN, serves the input as one client, and puts SENT last.
+/// Runs `pass`: loads CONFIG, reads ORIGIN, serves the input as one client, and puts SENT last.
 pub fn run_pass<F: Files, S: Source, O: Sink, E: Sink, T: Clock>(
     alloc: Global,
     pass: PassWords<'_>,
@@ -40,24 +40,23 @@ pub fn run_pass<F: Files, S: Source, O: Sink, E: Sink, T: Clock>(
         (record { files = F.state files.old; input = S.state input.old; out = O.state out.old; errors = E.state err.old; clock = T.state clock.old })
         (record { files = F.state files.new; input = S.state input.new; out = O.state out.new; errors = E.state err.new; clock = T.state clock.new }) }
 {
-    match read_config(alloc, files, pass.config) {
-        ConfigRead::Empty => run_loaded(alloc, pass, files, input, out, clock),
-        ConfigRead::Refused(text) => report(err, text.as_bytes(), Status::NotLoaded),
-        ConfigRead::Failed(text) => report(err, text.as_bytes(), Status::ReadFailed),
-        ConfigRead::NoMemory => Status::NoMemory,
+    match load(alloc, files, pass.config) {
+        Ok(loaded) => run_loaded(alloc, loaded, pass, files, input, out, clock),
+        Err(fault) => report_load(alloc, err, &fault),
     }
 }
 
-/// Goes on with the empty configuration.
+/// Goes on with a configuration.
 fn run_loaded<F: Files, S: Source, O: Sink, T: Clock>(
     alloc: Global,
+    loaded: Config,
     pass: PassWords<'_>,
     files: &mut F,
     input: &mut S,
     out: &mut O,
     clock: &mut T,
 ) -> Status
-    ensures runs { (errors : SinkState) → RunsLoaded pass.entry.origin.now pass.entry.sent.now (map string_bytes pass.entry.tags.now)
+    ensures runs { (errors : SinkState) → RunsLoaded loaded pass.entry.origin.now pass.entry.sent.now (map string_bytes pass.entry.tags.now)
         (record { files = F.state files.old; input = S.state input.old; out = O.state out.old; errors = errors; clock = T.state clock.old })
         (record { files = F.state files.new; input = S.state input.new; out = O.state out.new; errors = errors; clock = T.state clock.new }) result }
     ensures files_go_on { FilesGoOn (F.state files.old) (F.state files.new) }
@@ -67,7 +66,7 @@ fn run_loaded<F: Files, S: Source, O: Sink, T: Clock>(
 {
     match read_answers(alloc, files, pass.origin) {
         OriginRead::Answers(answers) => match serve_input(
-            alloc, pass.tags, answers, input, out, clock,
+            alloc, loaded, pass.tags, answers, input, out, clock,
         ) {
             Ok(served) => put_served(files, pass.sent, served),
             Err(Mem) => Status::NoMemory,
@@ -88,13 +87,14 @@ pub struct Served {
 /// Serves the input as one client, whose dials have the answers. After `Mem` nothing was read, asked or returned.
 fn serve_input<S: Source, O: Sink, T: Clock>(
     alloc: Global,
+    loaded: Config,
     tags: &[String],
     answers: List<Answer>,
     input: &mut S,
     out: &mut O,
     clock: &mut T,
 ) -> Result<Served, Mem>
-    ensures served { IfOk result (λ s. HasServed (map string_bytes tags.now) answers (S.state input.old) (S.state input.new) (O.state out.old) (O.state out.new) (T.state clock.old) (T.state clock.new) s.end s.sent) }
+    ensures served { IfOk result (λ s. HasServed loaded (map string_bytes tags.now) answers (S.state input.old) (S.state input.new) (O.state out.old) (O.state out.new) (T.state clock.old) (T.state clock.new) s.end s.sent) }
     ensures unused { OnErr result ((S.state input.new ≡ S.state input.old) × (O.state out.new ≡ O.state out.old) × (T.state clock.new ≡ T.state clock.old)) }
     ensures input_goes_on { SourceGoesOn (S.state input.old) (S.state input.new) }
     ensures out_goes_on { SinkGoesOn (O.state out.old) (O.state out.new) }
@@ -104,7 +104,7 @@ fn serve_input<S: Source, O: Sink, T: Clock>(
     let peer = Peer {
         address: Text::from_bytes(alloc, CLIENT)?,
     };
-    let mut configs = FixedConfig::new(Arc::new(alloc, Config {})?);
+    let mut configs = FixedConfig::new(Arc::new(alloc, loaded)?);
     let mut dialer = MemDialer::new(alloc, answers)?;
     let session = serve_connection(
         alloc,

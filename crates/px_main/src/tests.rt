@@ -237,10 +237,10 @@ const REFUSALS: &[(&[&str], Option<&str>, Option<&str>, u8, &str)] = &[
     ),
     (
         &["pass", "c", "o", "s"],
-        Some("\n"),
+        Some("\ntoggle 2\n"),
         Some(ANSWER),
         1,
-        "c:1: 45 NotBuilt\n",
+        "c:2: 29 BadValue\n",
     ),
     (&["pass", "c", "o", "s"], Some(""), None, 8, ""),
     (&["pass", "c", "o", "s"], Some(""), Some("3\nhi"), 8, ""),
@@ -277,8 +277,9 @@ fn pass_refuses_other_words_and_files(rt: HostRuntime) -> Result<(), Fail> {
 fn a_failing_call_of_the_files_gives_its_status(rt: HostRuntime) -> Result<(), Fail> {
     let rows = [
         (0, 3, "c:0: 33 ReadFault\n", ""),
-        (1, 3, "", ""),
-        (2, 4, "", REPLY),
+        (1, 3, "blocked:0: 33 ReadFault\n", ""),
+        (14, 3, "", ""),
+        (15, 4, "", REPLY),
     ];
     for (call, status, err, out) in rows {
         let fails = [call];

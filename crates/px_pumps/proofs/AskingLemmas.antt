@@ -4,7 +4,7 @@ use Rattle.px_head.specs.declared.responses.ResponseHead.{ResponseHead}
 use Rattle.px_framing.specs.declared.rules.BodyRule.{BodyRule}
 use Rattle.px_config.specs.declared.configs.Config.{Config}
 use Rattle.px_answers.specs.Framings as answers
-use Rattle.px_pumps.specs.declared.asked.Asked.{Asked}
+use Rattle.px_answers.specs.declared.asked.Asked.{Asked}
 use Rattle.px_pumps.specs.Asking.{framed_of}
 
 -- its body's rule is the head's

@@ -27,7 +27,7 @@ use Rattle.px_pumps.specs.declared.notes.Ending.{Ending}
 use Rattle.px_pumps.specs.declared.notes.Ending.TheVariants as ending
 use Rattle.px_pumps.specs.declared.flows.Flow.{Flow}
 use Rattle.px_pumps.specs.declared.flows.Flow.TheVariants as flow
-use Rattle.px_pumps.specs.declared.asked.Asked.{Asked}
+use Rattle.px_answers.specs.declared.asked.Asked.{Asked}
 use Rattle.px_pumps.specs.declared.pumps.Heading.{Heading}
 use Rattle.px_pumps.specs.declared.pumps.Stage.{Stage}
 use Rattle.px_pumps.specs.declared.pumps.Stage.TheVariants as stage

@@ -19,7 +19,7 @@ use Rattle.px_answers.specs.Framings as answers
 use Rattle.px_answers.specs.declared.forms.Framed.{Framed}
 use Rattle.px_answers.specs.declared.framings.Terms.{Terms}
 use Rattle.px_answers.specs.declared.framings.HeaderLines.{HeaderLines}
-use Rattle.px_pumps.specs.declared.asked.Asked.{Asked}
+use Rattle.px_answers.specs.declared.asked.Asked.{Asked}
 use Rattle.px_pumps.specs.declared.dues.Due.{Due}
 use Rattle.px_pumps.specs.Answering.{Ask}
 

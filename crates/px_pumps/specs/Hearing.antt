@@ -6,7 +6,7 @@ use Rattle.px_base.specs.Sinks.{SinkState, SinkGoesOn, AddsFront}
 use Rattle.px_base.specs.declared.faults.SinkFault.{SinkFault}
 use Rattle.px_base.specs.declared.faults.SinkFault.TheVariants as fault
 use Rattle.px_streams.specs.Streams.{IsStream}
-use Rattle.px_filter_files.specs.FilterFiles.{FiltersOfFiles}
+use Rattle.px_config.specs.declared.warm.Warm.{Warm}
 use Rattle.px_pumps.specs.declared.flows.Flow.{Flow}
 use Rattle.px_pumps.specs.declared.notes.After.TheVariants as after
 use Rattle.px_pumps.specs.declared.talks.Talked.{Talked}
@@ -76,12 +76,14 @@ pub record Flows (ask : Ask) (left left' taken taken' : List ℕ) (p : Pumping) 
   pub after : PumpAfter ask fed put p
 
 -- what the loop of the answering part keeps, that began at a pump that was fed nothing; w is the store lent
-pub record Flowing (first : Pumping) (i i' : SourceState) (o o' : SinkState) (w w' : FiltersOfFiles) (p : Pumping) : Type 0 where
+pub record Flowing (first : Pumping) (i i' : SourceState) (o o' : SinkState) (w w' : Warm) (p : Pumping) : Type 0 where
   pub flows : (ask : Ask) → PumpAfter ask [] [] first → IsTrue i.tells → IsTrue o.tells → Flows ask i.left i'.left o.taken o'.taken p
   pub in_faults_same : i'.faults ≡ i.faults
   pub out_faults_same : o'.faults ≡ o.faults
   pub open_ : o'.finished ≡ o.finished
   pub in_goes_on : SourceGoesOn i i'
   pub out_goes_on : SinkGoesOn o o'
-  pub warm_same : w' ≡ w
-  pub lent : w' ≡ p.config.filters
+  pub sections_same : w'.sections ≡ w.sections
+  pub filters_same : w'.filters ≡ w.filters
+  pub sections_lent : w'.sections ≡ p.config.sections
+  pub filters_lent : w'.filters ≡ p.config.filters

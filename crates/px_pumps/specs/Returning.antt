@@ -85,7 +85,16 @@ IsAnswerEnding ending.CutFront = Unit {0}
 IsAnswerEnding ending.Tunnel = ⊥
 IsAnswerEnding ending.Broken = Unit {0}
 
+-- what comes after an answer, whole or not: the client's bytes aren't read
+abbrev pub IsAnswerAfter : After → Type 0
+IsAnswerAfter after.Keep = Unit {0}
+IsAnswerAfter after.Close = Unit {0}
+IsAnswerAfter after.Cut = ⊥
+IsAnswerAfter after.ReadFailed = ⊥
+IsAnswerAfter after.WriteFailed = Unit {0}
+IsAnswerAfter after.NoMemory = Unit {0}
+
 -- what came of it is of an answer
 abbrev pub IsHeard : Talked → Type 0
 IsHeard (talked.Page p) = IsAnswerPage p
-IsHeard (talked.Ended x) = IsAnswerEnding x.ending
+IsHeard (talked.Ended x) = IsAnswerEnding x.ending × IsAnswerAfter x.after

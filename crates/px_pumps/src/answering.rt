@@ -10,26 +10,26 @@ ghost use Rattle.px_pumps.specs.Pumps.{PumpAfter, IsOfAnswer, pieces_left, EndsT
 ghost use Rattle.px_pumps.specs.Hearing.{AnswerGives, Hears, FedOn, Stopped, FeedCause, talk_refused};
 ghost use Rattle.px_pumps.specs.Returning.{TalkCause, IsHeard};
 
-use crate::asked::Asked;
 use crate::flows::Flow;
 use crate::notes::{After, Conclusion, after_whole, broken};
 use crate::pumps::Pump;
 use crate::talks::Talked;
+use px_answers::Asked;
 use px_base::{Failed, Mem, Sink, SinkFault, Source, Text, write_all};
-use px_config::Config;
-use px_filter_files::WarmFilters;
+use px_config::{Config, Warm};
 use px_streams::PIECE;
 use std::alloc::Global;
 
 /// Feeds a piece, and writes what comes out.
 fn feed_on<O: Sink>(
     pump: &mut Pump<'_>,
-    warm: &mut WarmFilters<'_>,
+    warm: &mut Warm<'_>,
     piece: &[u8],
     out: &mut Text,
     client_out: &mut O,
 ) -> Result<Flow, SinkFault>
-    requires { warm.old ≡ pump.old.config.filters }
+    requires sections { warm.old.sections ≡ pump.old.config.sections }
+    requires filters { warm.old.filters ≡ pump.old.config.filters }
     ensures fed { IsTrue (O.state client_out.old).tells → (ask : Ask) (fed put : List ℕ) → PumpAfter ask fed put pump.old
         → MatchResult result (λ f. FedOn ask (fed ++ piece.now) put (O.state client_out.old).taken (O.state client_out.new).taken f pump.new)
         (λ e. Stopped ask fed piece.now put (O.state client_out.old).taken (O.state client_out.new).taken e) }
@@ -39,7 +39,8 @@ fn feed_on<O: Sink>(
     ensures open { (O.state client_out.new).finished ≡ (O.state client_out.old).finished }
     ensures goes_on { SinkGoesOn (O.state client_out.old) (O.state client_out.new) }
     ensures config { pump.new.config ≡ pump.old.config }
-    ensures same { warm.new ≡ warm.old }
+    ensures same_sections { warm.new.sections ≡ warm.old.sections }
+    ensures same_filters { warm.new.filters ≡ warm.old.filters }
 {
     out.clear();
     match pump.feed(warm, piece, out) {
@@ -81,19 +82,21 @@ fn end_refused(fault: SinkFault) -> Talked
 /// Ends the answer, and writes what comes out.
 fn end_on<O: Sink>(
     pump: &mut Pump<'_>,
-    warm: &mut WarmFilters<'_>,
+    warm: &mut Warm<'_>,
     failed: bool,
     out: &mut Text,
     client_out: &mut O,
 ) -> Talked
-    requires { warm.old ≡ pump.old.config.filters }
+    requires sections { warm.old.sections ≡ pump.old.config.sections }
+    requires filters { warm.old.filters ≡ pump.old.config.filters }
     ensures ended { IsTrue (O.state client_out.old).tells → (ask : Ask) (fed put taken : List ℕ) → PumpAfter ask fed put pump.old → (O.state client_out.old).taken ≡ taken ++ put
         → AnswerGives ask fed failed taken (O.state client_out.new).taken result }
     ensures cause { TalkCause (O.state client_out.old) (O.state client_out.new) result }
     ensures heard { IsHeard result }
     ensures open { (O.state client_out.new).finished ≡ (O.state client_out.old).finished }
     ensures goes_on { SinkGoesOn (O.state client_out.old) (O.state client_out.new) }
-    ensures same { warm.new ≡ warm.old }
+    ensures same_sections { warm.new.sections ≡ warm.old.sections }
+    ensures same_filters { warm.new.filters ≡ warm.old.filters }
 {
     out.clear();
     match pump.end(warm, failed, out) {
@@ -109,18 +112,20 @@ fn end_on<O: Sink>(
 fn pass_on<I: Source, O: Sink>(
     alloc: Global,
     pump: &mut Pump<'_>,
-    warm: &mut WarmFilters<'_>,
+    warm: &mut Warm<'_>,
     link_in: &mut I,
     client_out: &mut O,
 ) -> Talked
-    requires { warm.old ≡ pump.old.config.filters }
+    requires sections { warm.old.sections ≡ pump.old.config.sections }
+    requires filters { warm.old.filters ≡ pump.old.config.filters }
     ensures hears { (ask : Ask) → PumpAfter ask [] [] pump.old → Hears ask (I.state link_in.old) (I.state link_in.new) (O.state client_out.old) (O.state client_out.new) result }
     ensures cause { TalkCause (O.state client_out.old) (O.state client_out.new) result }
     ensures heard { IsHeard result }
     ensures open { (O.state client_out.new).finished ≡ (O.state client_out.old).finished }
     ensures in_goes_on { SourceGoesOn (I.state link_in.old) (I.state link_in.new) }
     ensures out_goes_on { SinkGoesOn (O.state client_out.old) (O.state client_out.new) }
-    ensures same { warm.new ≡ warm.old }
+    ensures same_sections { warm.new.sections ≡ warm.old.sections }
+    ensures same_filters { warm.new.filters ≡ warm.old.filters }
 {
     let mut buf = [0u8; PIECE];
     let mut out = Text::new(alloc);
@@ -154,19 +159,21 @@ fn pass_on<I: Source, O: Sink>(
 pub fn return_answer<I: Source, O: Sink>(
     alloc: Global,
     config: &Config,
-    warm: &mut WarmFilters<'_>,
+    warm: &mut Warm<'_>,
     asked: Asked,
     link_in: &mut I,
     client_out: &mut O,
 ) -> Talked
-    requires { warm.old ≡ config.now.filters }
+    requires sections { warm.old.sections ≡ config.now.sections }
+    requires filters { warm.old.filters ≡ config.now.filters }
     ensures hears { (page_due : page.Page → due.Due) → Hears (ask_of config.now asked page_due) (I.state link_in.old) (I.state link_in.new) (O.state client_out.old) (O.state client_out.new) result }
     ensures cause { TalkCause (O.state client_out.old) (O.state client_out.new) result }
     ensures heard { IsHeard result }
     ensures open { (O.state client_out.new).finished ≡ (O.state client_out.old).finished }
     ensures in_goes_on { SourceGoesOn (I.state link_in.old) (I.state link_in.new) }
     ensures out_goes_on { SinkGoesOn (O.state client_out.old) (O.state client_out.new) }
-    ensures same { warm.new ≡ warm.old }
+    ensures same_sections { warm.new.sections ≡ warm.old.sections }
+    ensures same_filters { warm.new.filters ≡ warm.old.filters }
 {
     let mut pump = Pump::new(alloc, config, asked);
     pass_on(alloc, &mut pump, warm, link_in, client_out)

@@ -2,18 +2,16 @@
 ghost use Rattle.std.specs.Prelude.{◌≡◌, ◌++◌, codes, drop, IfOk, OnOk};
 ghost use Rattle.px_pumps.specs.Asking.{as_version_1_1, framed_by, framed_of, received_lines, response_set, returned_lines, terms_of};
 
-use crate::asked::Asked;
 use px_actions::{ActionSet, Kind};
-use px_answers::{Framed, HeaderLines, Terms, frame};
+use px_answers::{Asked, Framed, HeaderLines, Terms, frame};
 use px_base::{List, Mem, Text};
-use px_config::Config;
-use px_filter_files::WarmFilters;
+use px_config::{Config, Warm};
 use px_framing::BodyRule;
 use px_head::{Field, ResponseHead};
 use px_headers::{ServerOut, is_text, server_headers};
 use px_merge::Side;
 use px_subst::Vars;
-use px_taggers::tag_headers;
+use px_taggers::tag_headers_with;
 use std::alloc::Global;
 
 /// The version of a returned head.
@@ -38,17 +36,22 @@ fn received_lines(alloc: Global, head: &ResponseHead) -> Result<List<Text>, Mem>
     Ok(lines)
 }
 
-/// The action set of an answer, from the request's set and tags.
+/// The action set of an answer, from the request's set and tags. The store lent is that of the configuration.
 #[tactic(auto, unfolding(crate::specs::Asking::response_set))]
 fn response_set(
     alloc: Global,
     config: &Config,
+    warm: &mut Warm<'_>,
     set: ActionSet,
     tags: List<Text>,
     head: &ResponseHead,
     vars: &Vars,
 ) -> Result<ActionSet, Mem>
-    ensures { IfOk result (λ answer. answer ≡ response_set config.now set tags vars.now head.now) }
+    requires sections { warm.old.sections ≡ config.now.sections }
+    requires filters { warm.old.filters ≡ config.now.filters }
+    ensures value { IfOk result (λ answer. answer ≡ response_set config.now set tags vars.now head.now) }
+    ensures same_sections { warm.new.sections ≡ warm.old.sections }
+    ensures same_filters { warm.new.filters ≡ warm.old.filters }
 {
     if !config.settings.toggle {
         return Ok(set);
@@ -56,10 +59,11 @@ fn response_set(
     let mut set = set;
     let mut tags = tags;
     let lines = received_lines(alloc, head)?;
-    tag_headers(
+    let Warm { sections, filters } = warm;
+    tag_headers_with(
         alloc,
-        &config.sections,
-        &config.filters,
+        sections,
+        filters,
         &mut set,
         &mut tags,
         lines.as_slice(),
@@ -126,15 +130,17 @@ fn copy_head(alloc: Global, head: &ResponseHead) -> Result<ResponseHead, Mem>
 pub fn settle(
     alloc: Global,
     config: &Config,
-    warm: &mut WarmFilters<'_>,
+    warm: &mut Warm<'_>,
     asked: Asked,
     head: &ResponseHead,
     rule: BodyRule,
 ) -> Result<Settled, Mem>
-    requires { warm.old ≡ config.now.filters }
+    requires sections { warm.old.sections ≡ config.now.sections }
+    requires filters { warm.old.filters ≡ config.now.filters }
     ensures framed { IfOk result (λ settled. settled.framed ≡ framed_of config.now asked head.now rule) }
     ensures vars { IfOk result (λ settled. settled.vars ≡ asked.vars) }
-    ensures same { warm.new ≡ warm.old }
+    ensures same_sections { warm.new.sections ≡ warm.old.sections }
+    ensures same_filters { warm.new.filters ≡ warm.old.filters }
 {
     let Asked {
         method: _,
@@ -145,9 +151,17 @@ pub fn settle(
         vars,
         moment,
     } = asked;
-    let set = response_set(alloc, config, set, tags, head, &vars)?;
+    let set = response_set(alloc, config, warm, set, tags, head, &vars)?;
     let mut copy = copy_head(alloc, head)?;
-    let out = server_headers(alloc, &mut copy, &set, &config.filters, warm, &vars, moment)?;
+    let out = server_headers(
+        alloc,
+        &mut copy,
+        &set,
+        &config.filters,
+        &mut warm.filters,
+        &vars,
+        moment,
+    )?;
     let lines = returned_lines(alloc, out)?;
     let terms = Terms {
         minor,

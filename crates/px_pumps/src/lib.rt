@@ -2,7 +2,6 @@
 #![tactic(auto)]
 
 mod answering;
-mod asked;
 mod dues;
 mod flows;
 mod framings;
@@ -13,11 +12,11 @@ mod pumps;
 mod talks;
 
 pub use answering::return_answer;
-pub use asked::Asked;
 pub use dues::Due;
 pub use flows::Flow;
 pub use notes::{After, Conclusion, Ending, after_whole, broken};
 pub use pumps::Pump;
+pub use px_answers::Asked;
 pub use talks::Talked;
 
 #[cfg(test)]

@@ -1,7 +1,7 @@
 // How an exchange ends.
 ghost use Rattle.std.specs.Prelude.{◌≡◌};
 ghost use Rattle.px_pumps.specs.Answering.{after_whole, ending_of};
-ghost use Rattle.px_pumps.specs.Returning.{broken};
+ghost use Rattle.px_pumps.specs.Returning.{IsAnswerAfter, broken};
 
 use px_answers::Returned;
 use px_templates::Page;
@@ -65,7 +65,8 @@ pub fn broken(after: After) -> Conclusion
 
 /// What comes after a reply that is returned whole.
 pub fn after_whole(keep: bool) -> After
-    ensures { result ≡ after_whole keep }
+    ensures value { result ≡ after_whole keep }
+    ensures answer { IsAnswerAfter result }
 {
     if keep { After::Keep } else { After::Close }
 }

@@ -11,15 +11,14 @@ ghost use Rattle.px_pumps.specs.Asking.{ask_of};
 ghost use Rattle.px_pumps.specs.Heads.{Leads, heads_room};
 ghost use Rattle.px_pumps.specs.Pumps.{added, EndsAnswer, flow_at, flow_by, held_at, IsOfAnswer, IsSettled, keeps_at, keeps_by, PassageAfter, pieces_left, PumpAfter, Pumped, SoFar, StageAfter, StaysAtEnd};
 
-use crate::asked::Asked;
 use crate::flows::Flow;
 use crate::framings::{Settled, settle};
 use crate::heads::{HeadsRead, read_heads};
 use crate::laws::passage_tells;
 use crate::notes::ending_of;
-use px_answers::{Outcome, Passage};
+use px_answers::{Asked, Outcome, Passage};
 use px_base::{Mem, Text};
-use px_config::Config;
+use px_config::{Config, Warm};
 use px_filter_files::WarmFilters;
 use px_head::{HEAD_LIMIT, HeadSearch};
 use px_templates::Page;
@@ -130,19 +129,21 @@ fn begin_behind(
 fn pass_heads(
     alloc: Global,
     config: &Config,
-    warm: &mut WarmFilters<'_>,
+    warm: &mut Warm<'_>,
     heading: Heading,
     out: &mut Text,
 ) -> Result<Stage, Mem>
     requires begins { BeginsSearched HEAD_LIMIT heading.held heading.search }
-    requires lent { warm.old ≡ config.now.filters }
+    requires sections { warm.old.sections ≡ config.now.sections }
+    requires filters { warm.old.filters ≡ config.now.filters }
     ensures after { IfOk result (λ next. (ask : Ask) (fed : List ℕ) → ask ≡ ask_of config.now heading.asked ask.page_due → Leads most_heads ask.method fed heading.left heading.held
         → StageAfter ask fed (added out.old out.new) config.now next) }
     ensures grows { IfOk result (λ _. out.new ≡ out.old ++ added out.old out.new) }
     ensures settled { IfOk result (IsSettled config.now) }
     ensures pieces { IfOk result (λ next. (count : ℕ) → count < length heading.held → count < HEAD_LIMIT → flow_at next ≡ Flow.More
         → pieces_left next < 2 ^ 64 + heads_room heading.left count) }
-    ensures same { warm.new ≡ warm.old }
+    ensures same_sections { warm.new.sections ≡ warm.old.sections }
+    ensures same_filters { warm.new.filters ≡ warm.old.filters }
 {
     let Heading {
         asked,
@@ -169,7 +170,13 @@ fn pass_heads(
         HeadsRead::Refused => Ok(Stage::Refused(Page::BadReply)),
         HeadsRead::Final { head, rule, from } => {
             let settled = settle(alloc, config, warm, asked, &head, rule)?;
-            let passage = begin_behind(alloc, warm, settled, &held.as_bytes()[from..], out)?;
+            let passage = begin_behind(
+                alloc,
+                &mut warm.filters,
+                settled,
+                &held.as_bytes()[from..],
+                out,
+            )?;
             Ok(Stage::Behind(passage))
         }
     }
@@ -179,20 +186,22 @@ fn pass_heads(
 fn advance(
     alloc: Global,
     config: &Config,
-    warm: &mut WarmFilters<'_>,
+    warm: &mut Warm<'_>,
     stage: Stage,
     piece: &[u8],
     out: &mut Text,
 ) -> Result<Stage, Mem>
     requires settled { IsSettled config.now stage }
-    requires lent { warm.old ≡ config.now.filters }
+    requires sections { warm.old.sections ≡ config.now.sections }
+    requires filters { warm.old.filters ≡ config.now.filters }
     ensures after { IfOk result (λ next. (ask : Ask) (fed put : List ℕ) → StageAfter ask fed put config.now stage → StageAfter ask (fed ++ piece.now) (put ++ added out.old out.new) config.now next) }
     ensures grows { IfOk result (λ _. out.new ≡ out.old ++ added out.old out.new) }
     ensures settled { IfOk result (IsSettled config.now) }
     ensures repeats { IfOk result (λ next. StaysAtEnd stage next out.old out.new) }
     ensures live { IfOk result (λ _. stage ≢ Stage.Wanting) }
     ensures pieces { IfOk result (λ next. flow_at next ≡ Flow.More → 0 < length piece.now → pieces_left next < pieces_left stage) }
-    ensures same { warm.new ≡ warm.old }
+    ensures same_sections { warm.new.sections ≡ warm.old.sections }
+    ensures same_filters { warm.new.filters ≡ warm.old.filters }
 {
     match stage {
         Stage::Heading(heading) => {
@@ -215,7 +224,7 @@ fn advance(
         }
         Stage::Behind(passage) => {
             let mut passage = passage;
-            passage.feed(warm, piece, out)?;
+            passage.feed(&mut warm.filters, piece, out)?;
             Ok(Stage::Behind(passage))
         }
         Stage::Refused(page) => Ok(Stage::Refused(page)),
@@ -226,13 +235,14 @@ fn advance(
 /// Ends the bytes.
 fn finish(
     config: &Config,
-    warm: &mut WarmFilters<'_>,
+    warm: &mut Warm<'_>,
     stage: Stage,
     failed: bool,
     out: &mut Text,
 ) -> Result<Stage, Mem>
     requires settled { IsSettled config.now stage }
-    requires lent { warm.old ≡ config.now.filters }
+    requires sections { warm.old.sections ≡ config.now.sections }
+    requires filters { warm.old.filters ≡ config.now.filters }
     ensures ended { IfOk result (λ next. (ask : Ask) (fed put : List ℕ) → StageAfter ask fed put config.now stage
         → EndsAnswer ask (flow_at next) (keeps_at next) fed failed (put ++ added out.old out.new)) }
     ensures grows { IfOk result (λ _. out.new ≡ out.old ++ added out.old out.new) }
@@ -240,13 +250,14 @@ fn finish(
     ensures repeats { IfOk result (λ next. StaysAtEnd stage next out.old out.new) }
     ensures over { IfOk result (λ next. flow_at next ≢ Flow.More) }
     ensures live { IfOk result (λ _. stage ≢ Stage.Wanting) }
-    ensures same { warm.new ≡ warm.old }
+    ensures same_sections { warm.new.sections ≡ warm.old.sections }
+    ensures same_filters { warm.new.filters ≡ warm.old.filters }
 {
     match stage {
         Stage::Heading(_) => Ok(Stage::Refused(Page::NoServerData)),
         Stage::Behind(passage) => {
             let mut passage = passage;
-            passage.end(warm, failed, out)?;
+            passage.end(&mut warm.filters, failed, out)?;
             Ok(Stage::Behind(passage))
         }
         Stage::Refused(page) => Ok(Stage::Refused(page)),
@@ -293,13 +304,9 @@ impl<'a> Pump<'a> {
 
     /// Feeds a piece, and adds what it puts out. The store lent is that of the configuration. Once the flow isn't `More` it
     /// stays, and nothing is put out. After `Mem` each further call gives `Mem`.
-    pub fn feed(
-        &mut self,
-        warm: &mut WarmFilters<'_>,
-        piece: &[u8],
-        out: &mut Text,
-    ) -> Result<Flow, Mem>
-        requires { warm.old ≡ self.old.config.filters }
+    pub fn feed(&mut self, warm: &mut Warm<'_>, piece: &[u8], out: &mut Text) -> Result<Flow, Mem>
+        requires sections { warm.old.sections ≡ self.old.config.sections }
+        requires filters { warm.old.filters ≡ self.old.config.filters }
         ensures after { IfOk result (λ _. (ask : Ask) (fed put : List ℕ) → PumpAfter ask fed put self.old → PumpAfter ask (fed ++ piece.now) (put ++ added out.old out.new) self.new) }
         ensures pumped { IfOk result (λ f. (ask : Ask) (fed put : List ℕ) → PumpAfter ask fed put self.old → Pumped ask (fed ++ piece.now) (put ++ added out.old out.new) f (keeps_at self.new.stage)) }
         ensures grows { IfOk result (λ _. out.new ≡ out.old ++ added out.old out.new) }
@@ -311,7 +318,8 @@ impl<'a> Pump<'a> {
         ensures live { IfOk result (λ _. self.old.stage ≢ Stage.Wanting) }
         ensures wanting { OnErr result (self.new.stage ≡ Stage.Wanting) }
         ensures config { self.new.config ≡ self.old.config }
-        ensures same { warm.new ≡ warm.old }
+        ensures same_sections { warm.new.sections ≡ warm.old.sections }
+        ensures same_filters { warm.new.filters ≡ warm.old.filters }
     {
         passage_tells();
         let stage = replace(&mut self.stage, Stage::Wanting);
@@ -323,13 +331,9 @@ impl<'a> Pump<'a> {
 
     /// Ends the answer, and adds what it puts out. `failed` says that its source failed. The flow is then at its end. The store
     /// lent is that of the configuration. After `Mem` each further call gives `Mem`.
-    pub fn end(
-        &mut self,
-        warm: &mut WarmFilters<'_>,
-        failed: bool,
-        out: &mut Text,
-    ) -> Result<Flow, Mem>
-        requires { warm.old ≡ self.old.config.filters }
+    pub fn end(&mut self, warm: &mut Warm<'_>, failed: bool, out: &mut Text) -> Result<Flow, Mem>
+        requires sections { warm.old.sections ≡ self.old.config.sections }
+        requires filters { warm.old.filters ≡ self.old.config.filters }
         ensures ended { IfOk result (λ f. (ask : Ask) (fed put : List ℕ) → PumpAfter ask fed put self.old → EndsAnswer ask f (keeps_at self.new.stage) fed failed (put ++ added out.old out.new)) }
         ensures grows { IfOk result (λ _. out.new ≡ out.old ++ added out.old out.new) }
         ensures shows { IfOk result (λ f. f ≡ flow_at self.new.stage) }
@@ -340,7 +344,8 @@ impl<'a> Pump<'a> {
         ensures live { IfOk result (λ _. self.old.stage ≢ Stage.Wanting) }
         ensures wanting { OnErr result (self.new.stage ≡ Stage.Wanting) }
         ensures config { self.new.config ≡ self.old.config }
-        ensures same { warm.new ≡ warm.old }
+        ensures same_sections { warm.new.sections ≡ warm.old.sections }
+        ensures same_filters { warm.new.filters ≡ warm.old.filters }
     {
         passage_tells();
         let stage = replace(&mut self.stage, Stage::Wanting);

@@ -2,8 +2,7 @@
 use crate::{After, Asked, Conclusion, Ending, Flow, Pump, Talked, return_answer};
 use px_actions::{ActionSet, Update};
 use px_base::{List, MemFiles, TapeIn, TapeOut, Text};
-use px_config::{Config, load};
-use px_filter_files::WarmFilters;
+use px_config::{Config, Warm, load};
 use px_subst::Vars;
 use px_templates::Page;
 use std::alloc::Global;
@@ -128,7 +127,7 @@ fn asked(rt: &impl Abort, alloc: Global, request: Request) -> Asked {
 }
 
 fn check(rt: &impl Abort, alloc: Global, config: &Config, row: Row, size: usize) {
-    let mut warm = config.filters.warm(alloc).expect(rt, "memory");
+    let mut warm = config.warm(alloc).expect(rt, "memory");
     let mut pump = Pump::new(alloc, config, asked(rt, alloc, row.asked));
     let mut out = Text::new(alloc);
     for piece in row.answer.chunks(size) {
@@ -255,7 +254,7 @@ fn eight_interim_heads_are_dropped_and_a_ninth_is_refused(rt: HostRuntime) -> Re
     for (count, returned, last) in rows {
         let answer = behind_interim(&rt, rt.alloc(), count);
         for size in [1, 5, 4096] {
-            let mut warm = config.filters.warm(rt.alloc())?;
+            let mut warm = config.warm(rt.alloc())?;
             let mut pump = Pump::new(rt.alloc(), &config, asked(&rt, rt.alloc(), GET));
             let mut out = Text::new(rt.alloc());
             let mut flow = Flow::More;
@@ -331,7 +330,7 @@ fn an_answer_without_a_head_of_its_own_is_refused(rt: HostRuntime) -> Result<(),
 #[test]
 fn a_head_of_more_than_its_limit_is_refused(rt: HostRuntime) -> Result<(), Fail> {
     let config = configured(&rt, rt.alloc(), "");
-    let mut warm = config.filters.warm(rt.alloc())?;
+    let mut warm = config.warm(rt.alloc())?;
     let mut pump = Pump::new(rt.alloc(), &config, asked(&rt, rt.alloc(), GET));
     let mut out = Text::new(rt.alloc());
     let piece = [b'x'; 8192];
@@ -459,7 +458,7 @@ fn a_body_is_filtered_up_to_the_limit(rt: HostRuntime) -> Result<(), Fail> {
     let config = configured(&rt, rt.alloc(), "");
     for (len, ending, returned) in [(1024, Ending::Filtered, 2048), (1025, Ending::Passed, 1025)] {
         let answer = of_length(&rt, rt.alloc(), len);
-        let mut warm = config.filters.warm(rt.alloc())?;
+        let mut warm = config.warm(rt.alloc())?;
         let mut pump = Pump::new(rt.alloc(), &config, asked(&rt, rt.alloc(), FILTERED));
         let mut out = Text::new(rt.alloc());
         let mut flow = Flow::More;
@@ -476,7 +475,7 @@ fn a_body_is_filtered_up_to_the_limit(rt: HostRuntime) -> Result<(), Fail> {
 #[test]
 fn an_answer_without_a_filter_is_put_out_as_it_comes(rt: HostRuntime) -> Result<(), Fail> {
     let config = configured(&rt, rt.alloc(), "");
-    let mut warm = config.filters.warm(rt.alloc())?;
+    let mut warm = config.warm(rt.alloc())?;
     let mut pump = Pump::new(rt.alloc(), &config, asked(&rt, rt.alloc(), GET));
     let mut out = Text::new(rt.alloc());
     for byte in &ANSWER[..37] {
@@ -509,7 +508,7 @@ fn talk(
     writes: &[u64],
 ) -> (Talked, Text) {
     let config = configured(rt, alloc, "");
-    let mut warm: WarmFilters<'_> = config.filters.warm(alloc).expect(rt, "memory");
+    let mut warm: Warm<'_> = config.warm(alloc).expect(rt, "memory");
     let mut link = TapeIn::new(alloc, answer, &[], reads).expect(rt, "memory");
     let mut client = TapeOut::new(alloc, &[], writes).expect(rt, "memory");
     let talked = return_answer(

@@ -4,7 +4,7 @@ use Rattle.std.proofs.Common.{◌≡◌, ℕ, rules, ◌+◌, ◌≤◌, suc, Is
 use Rattle.std.proofs.lemmas.List.{map-append, append-nil, append_assoc}
 use Rattle.std.proofs.lemmas.List.Elements.{All-nil, All-push, All-weaker}
 use Rattle.px_base.specs.Moments.{ClockState}
-use Rattle.px_exchange.specs.declared.configs.Config.{Config}
+use Rattle.px_config.specs.declared.configs.Config.{Config}
 use Rattle.px_publish.specs.Views.{Entry, EndsIn, GoesOn}
 use Rattle.px_serve.specs.Histories.{Begun, Looks, UsesOf, firsts, Take, NoneOlder, Noted, TakesOne, entry_of, held_number, moment_of}
 

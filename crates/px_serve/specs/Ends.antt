@@ -3,8 +3,8 @@ use Rattle.std.specs.Prelude.{◌≡◌, ℕ, Bool, true, false, ◌&&◌, ◌==
 use Rattle.px_base.specs.Causes.{Rose}
 use Rattle.px_base.specs.Sources.{SourceState}
 use Rattle.px_base.specs.Sinks.{SinkState}
-use Rattle.px_exchange.specs.declared.notes.After.{After}
-use Rattle.px_exchange.specs.declared.notes.After.TheVariants as after
+use Rattle.px_pumps.specs.declared.notes.After.{After}
+use Rattle.px_pumps.specs.declared.notes.After.TheVariants as after
 use Rattle.px_serve.specs.declared.ends.SessionEnd.{SessionEnd}
 use Rattle.px_serve.specs.declared.ends.SessionEnd.TheVariants as end
 
@@ -22,6 +22,8 @@ end_of_bytes bytes = if only_empty bytes then end.Ended else end.Cut
 abbrev pub end_after : Bool → After → Option SessionEnd
 end_after last after.Keep = if last then Some end.Spent else None
 end_after last after.Close = Some (if last then end.Spent else end.Closed)
+end_after last after.Cut = Some end.Cut
+end_after last after.ReadFailed = Some end.ReadFailed
 end_after last after.WriteFailed = Some end.WriteFailed
 end_after last after.NoMemory = Some end.NoMemory
 

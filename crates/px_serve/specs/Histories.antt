@@ -1,9 +1,9 @@
 -- The exchanges that a session began: the configuration and the moment of each.
 use Rattle.std.specs.Prelude.{◌≡◌, ℕ, ◌+◌, ◌-◌, ◌≤◌, zero, suc, Bool, IsTrue, List, [], ◌∷◌, ◌++◌, length, map, slice_get, Option, Some, All}
 use Rattle.px_base.specs.Moments.{ClockState}
-use Rattle.px_exchange.specs.declared.configs.Config.{Config}
+use Rattle.px_config.specs.declared.configs.Config.{Config}
 use Rattle.px_exchange.specs.declared.notes.ExchangeNote.{ExchangeNote}
-use Rattle.px_exchange.specs.declared.notes.Conclusion.{Conclusion}
+use Rattle.px_pumps.specs.declared.notes.Conclusion.{Conclusion}
 use Rattle.px_publish.specs.Views.{Entry, EndsIn, GoesOn, Pair}
 
 -- an exchange that was begun: the configuration that it used with that one's number, its moment, and how it was concluded

@@ -7,10 +7,10 @@ use Rattle.px_base.specs.Moments.{ClockState, ClockGoesOn}
 use Rattle.px_head.specs.declared.TheConstants.{HEAD_LIMIT}
 use Rattle.px_head.specs.Blocks.{head_end}
 use Rattle.px_head.specs.declared.blocks.HeadEnd.TheVariants as head
-use Rattle.px_exchange.specs.declared.judging.HeadSeen.{HeadSeen}
-use Rattle.px_exchange.specs.declared.judging.HeadSeen.TheVariants as seen
+use Rattle.px_judging.specs.declared.readings.HeadSeen.{HeadSeen}
+use Rattle.px_judging.specs.declared.readings.HeadSeen.TheVariants as seen
 use Rattle.px_exchange.specs.declared.notes.ExchangeNote.{ExchangeNote}
-use Rattle.px_exchange.specs.Judging.{Given}
+use Rattle.px_judging.specs.Given.{Given}
 use Rattle.px_exchange.specs.Exchange.{Answers}
 use Rattle.px_serve.specs.declared.ends.SessionEnd.{SessionEnd}
 use Rattle.px_serve.specs.declared.ends.SessionEnd.TheVariants as end
@@ -36,10 +36,7 @@ abbrev pub HeadOf : List ℕ → HeadSeen → List ℕ → Type 0
 HeadOf stream (seen.Block block) rest = (head_end HEAD_LIMIT stream ≡ head.At (length block)) × (stream ≡ block ++ rest)
 HeadOf stream seen.Over rest = (head_end HEAD_LIMIT stream ≡ head.Over) × (rest ≡ stream)
 
--- the request of that number, from 0, is the first, or the last that a connection may have
-abbrev pub is_first : ℕ → Bool
-is_first n = n == 0
-
+-- the request of that number, from 0, is the last that a connection may have
 abbrev pub is_last : ℕ → Bool
 is_last n = n + 1 == REQUEST_LIMIT
 
@@ -48,19 +45,19 @@ abbrev pub given_of : Caller → ℕ → HeadSeen → Begun → Given
 given_of caller n seen b = record {
   config = b.config;
   seen = seen;
-  first = is_first n;
   last = is_last n;
   tags = caller.tags;
   peer = caller.peer;
   moment = b.moment;
 }
 
--- the exchange of that number: its head stands at the front of the stream
+-- the exchange of that number: its head stands at the front of the stream, and it is given what is left behind that
 pub record Step (caller : Caller) (n : ℕ) (s t : State) (b : Begun) : Type 0 where
   pub seen : HeadSeen
-  pub head : HeadOf s.stream seen t.stream
+  pub rest : List ℕ
+  pub head : HeadOf s.stream seen rest
   pub noted : t.begun ≡ s.begun ++ b ∷ []
-  pub answers : Answers (given_of caller n seen b) s.dialer t.dialer s.taken t.taken b.concluded
+  pub answers : Answers (given_of caller n seen b) (record { stream = rest; behind = t.stream }) s.dialer t.dialer s.taken t.taken b.concluded
 
 -- an exchange behind which the session goes on
 pub record Keeps (caller : Caller) (n : ℕ) (s t : State) : Type 0 where
@@ -136,13 +133,14 @@ pub record Tell (i : SourceState) (o : Objects) : Type 0 where
   pub client_out : IsTrue o.client_out.tells
   pub dialer : IsTrue o.dialer.tells
 
--- the exchange of that number, for that head: what was noted of it, and how the session ends behind it, if it does
-pub record Begins (caller : Caller) (n : ℕ) (seen : HeadSeen) (looks looks' : Looks) (old new : Objects) (notes notes' : List ExchangeNote) (e : Option SessionEnd) : Type 0 where
+-- the exchange of that number, for that head and the client's bytes behind it: what was noted of it, and how the session ends
+-- behind it, if it does; i is the client's source
+pub record Begins (caller : Caller) (n : ℕ) (seen : HeadSeen) (i : SourceState) (rest rest' : List ℕ) (looks looks' : Looks) (old new : Objects) (notes notes' : List ExchangeNote) (e : Option SessionEnd) : Type 0 where
   pub begun : Begun
   pub noted : notes' ≡ notes ++ note_of begun ∷ []
   pub takes : TakesOne looks looks' old.clock new.clock begun
-  pub answers : IsTrue old.client_out.tells → IsTrue old.dialer.tells
-      → Answers (given_of caller n seen begun) old.dialer new.dialer old.client_out.taken new.client_out.taken begun.concluded
+  pub answers : IsTrue i.tells → IsTrue old.client_out.tells → IsTrue old.dialer.tells
+      → Answers (given_of caller n seen begun) (record { stream = rest; behind = rest' }) old.dialer new.dialer old.client_out.taken new.client_out.taken begun.concluded
   pub ends : e ≡ end_after (is_last n) begun.concluded.after
 
 -- between two requests, with that stream left, and behind the exchanges that were begun

@@ -12,13 +12,13 @@ pub const REQUEST_LIMIT: u64 = 100;
 pub enum SessionEnd {
     /// The client's bytes ended, and nothing but empty lines stood behind the last request.
     Ended,
-    /// The client's bytes ended elsewhere in a head.
+    /// The client's bytes ended elsewhere in a head, or in the body of a request.
     Cut,
     /// A reply closed the connection.
     Closed,
     /// The last request that a connection may have was answered.
     Spent,
-    /// The client's source failed in a head.
+    /// The client's source failed.
     ReadFailed,
     /// The client's sink failed.
     WriteFailed,
@@ -51,6 +51,8 @@ pub fn end_after(last: bool, after: After) -> Option<SessionEnd>
         } else {
             SessionEnd::Closed
         }),
+        After::Cut => Some(SessionEnd::Cut),
+        After::ReadFailed => Some(SessionEnd::ReadFailed),
         After::WriteFailed => Some(SessionEnd::WriteFailed),
         After::NoMemory => Some(SessionEnd::NoMemory),
     }

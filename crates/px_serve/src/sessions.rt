@@ -8,7 +8,7 @@ ghost use Rattle.px_serve.specs.Sessions.{Caller, Objects, Lasts, Begins, Turned
 
 use crate::ends::{REQUEST_LIMIT, SessionEnd, end_after, is_empty_lines};
 use px_base::{Clock, Dialer, List, Peer, Sink, Source, Text};
-use px_exchange::{Config, ExchangeNote, Handed, HeadSeen, answer_request};
+use px_exchange::{Config, ExchangeNote, Handed, HeadSeen, answer_cold};
 use px_head::HEAD_LIMIT;
 use px_publish::Configs;
 use px_streams::{Ahead, Front, ReadFault, read_front};
@@ -41,12 +41,14 @@ fn add_note(notes: &mut Vec<ExchangeNote>, note: ExchangeNote)
 }
 
 /// Answers the request of that number, from 0, with one look at the configurations and one moment.
-fn serve_request<K, O, D, T>(
+fn serve_request<K, S, O, D, T>(
     alloc: Global,
     client: &Client<'_>,
     number: u64,
     configs: &mut K,
     seen: &HeadSeen,
+    client_in: &mut S,
+    ahead: &mut Ahead,
     client_out: &mut O,
     dialer: &mut D,
     clock: &mut T,
@@ -54,12 +56,13 @@ fn serve_request<K, O, D, T>(
 ) -> Option<SessionEnd>
 where
     K: Configs<Held = Config>,
+    S: Source,
     O: Sink,
     D: Dialer,
     T: Clock,
     requires number { number < REQUEST_LIMIT }
     requires room { vec_len notes.old < vec_capacity notes.old }
-    ensures begins { Begins (record { tags = client.now.tags.now; peer = client.now.peer.now.address }) number seen.now
+    ensures begins { Begins (record { tags = client.now.tags.now; peer = client.now.peer.now.address }) number seen.now (S.state client_in.old) (ahead.old ++ (S.state client_in.old).left) (ahead.new ++ (S.state client_in.new).left)
         (record { tells = K.tells; view = K.view configs.old; pair = K.pair configs.old; coming = K.coming configs.old })
         (record { tells = K.tells; view = K.view configs.new; pair = K.pair configs.new; coming = K.coming configs.new })
         (record { client_out = O.state client_out.old; dialer = D.state dialer.old; clock = T.state clock.old })
@@ -68,9 +71,10 @@ where
     ensures one_more { length notes.new.items ≡ length notes.old.items + 1 }
     ensures room { vec_capacity notes.old ≤ vec_capacity notes.new }
     ensures goes_on_below { result ≡ None → number + 1 < REQUEST_LIMIT }
+    ensures read_cause { ReadTurnCause (S.state client_in.old) (S.state client_in.new) result }
     ensures write_cause { WriteTurnCause (O.state client_out.old) (O.state client_out.new) result }
-    ensures not_read { result ≢ Some SessionEnd.ReadFailed }
     ensures open { (O.state client_out.new).finished ≡ (O.state client_out.old).finished }
+    ensures in_goes_on { SourceGoesOn (S.state client_in.old) (S.state client_in.new) }
     ensures lasts { Lasts
         (record { client_out = O.state client_out.old; dialer = D.state dialer.old; clock = T.state clock.old })
         (record { client_out = O.state client_out.new; dialer = D.state dialer.new; clock = T.state clock.new }) }
@@ -82,13 +86,12 @@ where
     let handed = Handed {
         config: snapshot.config,
         seen,
-        first: number == 0,
         last,
         tags: client.tags,
         peer: client.peer,
         moment,
     };
-    let concluded = answer_request(alloc, &handed, client_out, dialer);
+    let concluded = answer_cold(alloc, &handed, client_in, ahead, client_out, dialer);
     let note = ExchangeNote {
         config: snapshot.number,
         moment,
@@ -155,6 +158,8 @@ where
             number,
             configs,
             &HeadSeen::Block(block),
+            client_in,
+            ahead,
             client_out,
             dialer,
             clock,
@@ -166,6 +171,8 @@ where
             number,
             configs,
             &HeadSeen::Over,
+            client_in,
+            ahead,
             client_out,
             dialer,
             clock,
@@ -272,7 +279,7 @@ where
 }
 
 /// Serves one connection: its requests one after the other, up to `REQUEST_LIMIT`. Before anything is read, room for the notes
-/// is taken. Whatever the end, the client's sink is finished behind it. The client's address and tags have no effect yet.
+/// is taken. Whatever the end, the client's sink is finished behind it.
 pub fn serve_connection<K, S, O, D, T>(
     alloc: Global,
     configs: &mut K,

@@ -1,20 +1,21 @@
 //! Sessions over objects in memory.
 use crate::ends::end_after;
 use crate::{SessionEnd, serve_connection};
-use px_base::{Answer, FixedClock, List, MemDialer, Peer, TapeIn, TapeOut, Text};
+use px_base::{Answer, FixedClock, List, MemDialer, MemFiles, Peer, TapeIn, TapeOut, Text};
+use px_config::load;
 use px_exchange::{After, Config, Ending, Page};
 use px_publish::{Configs, FixedConfig, StepConfig};
 use std::alloc::Global;
 use std::process::Abort;
 use std::sync::Arc;
 
-/// A client's bytes and how they are cut, an origin's answer, and the calls of the two ends that fail.
+/// A client's bytes and how they are cut, how often the origin answers, and the calls of the two ends that fail.
 struct Row<'a> {
     input: &'a [u8],
     cuts: &'static [usize],
     read_fails: &'static [u64],
     write_fails: &'static [u64],
-    answer: Option<Answer>,
+    answers: u64,
 }
 
 /// What came of a session.
@@ -34,9 +35,23 @@ struct Outcome {
 /// The moments of the clock, in order.
 const MOMENTS: [u64; 2] = [1_000_000_000, 1_000_000_007];
 
+/// The configuration of an empty file.
+fn no_config(rt: &impl Abort, alloc: Global) -> Config {
+    let mut state = List::new(alloc);
+    let name = Text::from_bytes(alloc, b"c").expect(rt, "memory");
+    assert!(rt; state.push((name, Text::new(alloc))).is_ok());
+    let mut states = List::new(alloc);
+    assert!(rt; states.push(state).is_ok());
+    let mut files = MemFiles::new(alloc, states, &[]).expect(rt, "memory");
+    match load(alloc, &mut files, "c") {
+        Ok(config) => config,
+        Err(_) => panic!(rt; "an empty file loads"),
+    }
+}
+
 /// Serves a row with one configuration.
 fn serve(rt: &impl Abort, alloc: Global, row: Row<'_>) -> Outcome {
-    let config = Arc::new(alloc, Config {}).expect(rt, "memory");
+    let config = Arc::new(alloc, no_config(rt, alloc)).expect(rt, "memory");
     let mut configs = FixedConfig::new(config);
     let outcome = serve_with(rt, alloc, &mut configs, row);
     for number in outcome.numbers.as_slice() {
@@ -57,11 +72,11 @@ fn serve_with<K: Configs<Held = Config>>(
         cuts,
         read_fails,
         write_fails,
-        answer,
+        answers: count,
     } = row;
     let mut answers = List::new(alloc);
-    if let Some(answer) = answer {
-        assert!(rt; answers.push(answer).is_ok());
+    for _ in 0..count {
+        assert!(rt; answers.push(link(rt, alloc, ANSWER)).is_ok());
     }
     let mut moments = List::new(alloc);
     for moment in MOMENTS {
@@ -117,13 +132,13 @@ fn serve_with<K: Configs<Held = Config>>(
 }
 
 /// An answer that is read without a fault.
-fn link(rt: &impl Abort, alloc: Global, bytes: &[u8]) -> Option<Answer> {
-    Some(Answer::Link {
+fn link(rt: &impl Abort, alloc: Global, bytes: &[u8]) -> Answer {
+    Answer::Link {
         bytes: Text::from_bytes(alloc, bytes).expect(rt, "memory"),
         cuts: List::new(alloc),
         read_fails: List::new(alloc),
         write_fails: List::new(alloc),
-    })
+    }
 }
 
 const ONE_GET: &[u8] = b"GET http://a.test/x HTTP/1.1\r\nHost: a.test\r\n\r\n";
@@ -137,8 +152,8 @@ const SENT: &[u8] = b"GET /x HTTP/1.1\r\nHost: a.test\r\nConnection: close\r\n\r
 
 const RETURNED: &[u8] = b"HTTP/1.1 200 OK\r\nContent-Length: 2\r\nConnection: keep-alive\r\n\r\nhi";
 
-const REFUSED: &[u8] =
-    b"HTTP/1.1 400 Bad Request\r\nContent-Type: text/html\r\nContent-Length: 52\r\nCache-Control: no-cache\r\nConnection: close\r\n\r\n<html><body>invalid-request: NotBuilt</body></html>\n";
+const TOO_LONG: &[u8] =
+    b"HTTP/1.1 431 Request Header Fields Too Large\r\nContent-Type: text/html\r\nContent-Length: 40\r\nCache-Control: no-cache\r\nConnection: close\r\n\r\n<html><body>head-too-long</body></html>\n";
 
 #[test]
 fn a_get_is_sent_on_in_origin_form_and_its_answer_returned(rt: HostRuntime) {
@@ -149,7 +164,7 @@ fn a_get_is_sent_on_in_origin_form_and_its_answer_returned(rt: HostRuntime) {
             cuts: cut,
             read_fails: &[],
             write_fails: &[],
-            answer: link(&rt, rt.alloc(), ANSWER),
+            answers: 1,
         };
         let outcome = serve(&rt, rt.alloc(), row);
         assert_eq!(rt; outcome.end, SessionEnd::Ended);
@@ -178,7 +193,7 @@ fn a_stream_that_ends_before_a_head_is_whole_is_answered_by_nothing(rt: HostRunt
             cuts: &[3],
             read_fails: &[],
             write_fails: &[],
-            answer: link(&rt, rt.alloc(), ANSWER),
+            answers: 1,
         };
         let outcome = serve(&rt, rt.alloc(), row);
         assert_eq!(rt; outcome.end, end);
@@ -190,24 +205,24 @@ fn a_stream_that_ends_before_a_head_is_whole_is_answered_by_nothing(rt: HostRunt
 }
 
 #[test]
-fn a_second_request_is_refused_and_the_connection_closes(rt: HostRuntime) {
+fn requests_follow_one_another(rt: HostRuntime) {
     let row = Row {
         input: TWO_GETS,
         cuts: &[],
         read_fails: &[],
         write_fails: &[],
-        answer: link(&rt, rt.alloc(), ANSWER),
+        answers: 2,
     };
     let outcome = serve(&rt, rt.alloc(), row);
-    assert_eq!(rt; outcome.end, SessionEnd::Closed);
+    assert_eq!(rt; outcome.end, SessionEnd::Cut);
     assert_eq!(rt;
         outcome.endings.as_slice(),
-        [Ending::Passed, Ending::Page(Page::InvalidRequest)].as_slice()
+        [Ending::Passed, Ending::Passed].as_slice()
     );
-    let mut replies = Text::from_bytes(rt.alloc(), RETURNED).expect(&rt, "memory");
-    replies.push_all(REFUSED).expect(&rt, "memory");
-    assert_eq!(rt; outcome.returned.as_bytes(), replies.as_bytes());
-    assert_eq!(rt; outcome.links, 1);
+    assert_eq!(rt; outcome.returned.len(), 2 * RETURNED.len());
+    assert!(rt; outcome.returned.as_bytes().starts_with(RETURNED));
+    assert!(rt; outcome.returned.as_bytes().ends_with(RETURNED));
+    assert_eq!(rt; outcome.links, 2);
 }
 
 #[test]
@@ -215,7 +230,7 @@ fn each_request_is_noted_with_the_number_of_its_own_look(rt: HostRuntime) {
     let alloc = rt.alloc();
     let mut list = List::new(alloc);
     for _ in 0..2 {
-        let config = Arc::new(alloc, Config {}).expect(&rt, "memory");
+        let config = Arc::new(alloc, no_config(&rt, alloc)).expect(&rt, "memory");
         assert!(rt; list.push(config).is_ok());
     }
     if list.is_empty() {
@@ -227,7 +242,7 @@ fn each_request_is_noted_with_the_number_of_its_own_look(rt: HostRuntime) {
         cuts: &[],
         read_fails: &[],
         write_fails: &[],
-        answer: link(&rt, alloc, ANSWER),
+        answers: 2,
     };
     let outcome = serve_with(&rt, alloc, &mut configs, row);
     assert_eq!(rt; outcome.numbers.as_slice(), [0, 1].as_slice());
@@ -240,7 +255,7 @@ fn a_failing_call_of_the_client_ends_the_session_with_its_own_fault(rt: HostRunt
         cuts: &[20],
         read_fails: &[1],
         write_fails: &[],
-        answer: link(&rt, rt.alloc(), ANSWER),
+        answers: 1,
     };
     let outcome = serve(&rt, rt.alloc(), row);
     assert_eq!(rt; outcome.end, SessionEnd::ReadFailed);
@@ -251,7 +266,7 @@ fn a_failing_call_of_the_client_ends_the_session_with_its_own_fault(rt: HostRunt
         cuts: &[50],
         read_fails: &[],
         write_fails: &[1],
-        answer: link(&rt, rt.alloc(), ANSWER),
+        answers: 1,
     };
     let outcome = serve(&rt, rt.alloc(), row);
     assert_eq!(rt; outcome.end, SessionEnd::WriteFailed);
@@ -279,7 +294,7 @@ fn long_get(rt: &impl Abort, alloc: Global, len: usize) -> Text {
 fn a_head_of_65_536_bytes_is_sent_on_and_a_longer_one_refused(rt: HostRuntime) {
     let rows: [(usize, SessionEnd, &'static [u8], usize); 2] = [
         (65_536, SessionEnd::Ended, RETURNED, 1),
-        (65_537, SessionEnd::Closed, REFUSED, 0),
+        (65_537, SessionEnd::Closed, TOO_LONG, 0),
     ];
     for (len, end, returned, links) in rows {
         let head = long_get(&rt, rt.alloc(), len);
@@ -288,7 +303,7 @@ fn a_head_of_65_536_bytes_is_sent_on_and_a_longer_one_refused(rt: HostRuntime) {
             cuts: &[],
             read_fails: &[],
             write_fails: &[],
-            answer: link(&rt, rt.alloc(), ANSWER),
+            answers: 1,
         };
         let outcome = serve(&rt, rt.alloc(), row);
         assert_eq!(rt; outcome.end, end);
@@ -298,9 +313,59 @@ fn a_head_of_65_536_bytes_is_sent_on_and_a_longer_one_refused(rt: HostRuntime) {
 }
 
 #[test]
-fn the_hundredth_request_ends_a_session_however_its_reply_ends(rt: HostRuntime) {
-    assert_eq!(rt; end_after(true, After::Keep), Some(SessionEnd::Spent));
+fn the_hundredth_request_ends_a_session(rt: HostRuntime) {
     assert_eq!(rt; end_after(true, After::Close), Some(SessionEnd::Spent));
-    assert_eq!(rt; end_after(false, After::Keep), None);
     assert_eq!(rt; end_after(false, After::Close), Some(SessionEnd::Closed));
+    let mut input = Text::new(rt.alloc());
+    for _ in 0..101 {
+        input.push_all(ONE_GET).expect(&rt, "memory");
+    }
+    let row = Row {
+        input: input.as_bytes(),
+        cuts: &[],
+        read_fails: &[],
+        write_fails: &[],
+        answers: 101,
+    };
+    let outcome = serve(&rt, rt.alloc(), row);
+    assert_eq!(rt; outcome.end, SessionEnd::Spent);
+    assert_eq!(rt; outcome.links, 100);
+    let last: &[u8] = b"HTTP/1.1 200 OK\r\nContent-Length: 2\r\nConnection: close\r\n\r\nhi";
+    assert!(rt; outcome.returned.as_bytes().ends_with(last));
+    assert_eq!(rt; outcome.returned.len(), 99 * RETURNED.len() + last.len());
+}
+
+/// A client's bytes, how it ends, and the endings.
+const BODIES: [(&[u8], SessionEnd, &[Ending]); 3] = [
+    (
+        b"POST http://a.test/x HTTP/1.1\r\nContent-Length: 3\r\n\r\nabcGET http://a.test/x HTTP/1.1\r\n\r\n",
+        SessionEnd::Ended,
+        &[Ending::Passed, Ending::Passed],
+    ),
+    (
+        b"POST http://a.test/x HTTP/1.1\r\nContent-Length: 3\r\n\r\nab",
+        SessionEnd::Cut,
+        &[Ending::Broken],
+    ),
+    (
+        b"POST http://a.test/x HTTP/1.1\r\nTransfer-Encoding: chunked\r\n\r\nx",
+        SessionEnd::Closed,
+        &[Ending::Page(Page::InvalidRequest)],
+    ),
+];
+
+#[test]
+fn a_body_is_read_up_to_the_next_request(rt: HostRuntime) {
+    for (input, end, endings) in BODIES {
+        let row = Row {
+            input,
+            cuts: &[],
+            read_fails: &[],
+            write_fails: &[],
+            answers: 2,
+        };
+        let outcome = serve(&rt, rt.alloc(), row);
+        assert_eq!(rt; outcome.end, end);
+        assert_eq!(rt; outcome.endings.as_slice(), endings);
+    }
 }

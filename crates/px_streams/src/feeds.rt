@@ -8,8 +8,8 @@ use std::alloc::Global;
 /// A source with the bytes that were read ahead of it, which come first.
 #[derive(Drop)]
 pub struct Feed<S: Source> {
-    source: S,
-    ahead: Ahead,
+    pub source: S,
+    pub ahead: Ahead,
 }
 
 impl<S: Source> Feed<S> {

@@ -13,8 +13,10 @@ pieces-preserved g c =
       open_ = c.feed_on.ensures.open ∙ i.open_;
       in_goes_on = in_goes_on i.in_goes_on c.read.ensures.goes_on;
       out_goes_on = out_goes_on i.out_goes_on c.feed_on.ensures.goes_on;
-      warm_same = c.feed_on.ensures.same ∙ i.warm_same;
-      lent = c.feed_on.ensures.same ∙ i.lent ∙ ap (λ (x : Config). x.filters) (sym c.feed_on.ensures.config);
+      sections_same = c.feed_on.ensures.same_sections ∙ i.sections_same;
+      filters_same = c.feed_on.ensures.same_filters ∙ i.filters_same;
+      sections_lent = c.feed_on.ensures.same_sections ∙ i.sections_lent ∙ ap (λ (x : Config). x.sections) (sym c.feed_on.ensures.config);
+      filters_lent = c.feed_on.ensures.same_filters ∙ i.filters_lent ∙ ap (λ (x : Config). x.filters) (sym c.feed_on.ensures.config);
     }
 
 pub returns-in-Err-clause-hears : goal.returns-in-Err-clause-hears
@@ -50,7 +52,7 @@ returns-in-Done-clause-hears g c ask h =
     record {
       failed = false;
       cause = c.in-Ok.ensures.cause.ok ∙ i.in_faults_same;
-      stream = λ t u. hears_settled ask _ _ _ _ _ _ _ _ _ _ _ (i.flows ask h t u) (c.in-Ok.ensures.bytes.moved (i.in_goes_on.tells_same ∙ t)) (rw (c.in-Done.is) at (c.in-Ok-feed_on.ensures.fed (i.out_goes_on.tells_same ∙ u) ask)) (λ e. cc) (rw (c.after_whole.ensures, c.keeps.ensures) refl);
+      stream = λ t u. hears_settled ask _ _ _ _ _ _ _ _ _ _ _ (i.flows ask h t u) (c.in-Ok.ensures.bytes.moved (i.in_goes_on.tells_same ∙ t)) (rw (c.in-Done.is) at (c.in-Ok-feed_on.ensures.fed (i.out_goes_on.tells_same ∙ u) ask)) (λ e. cc) (rw (c.after_whole.ensures.value, c.keeps.ensures) refl);
     }
 
 pub returns-in-Refused-clause-hears : goal.returns-in-Refused-clause-hears
@@ -62,17 +64,32 @@ returns-in-Refused-clause-hears g c ask h =
       stream = λ t u. hears_settled ask _ _ _ _ _ _ _ _ _ _ _ (i.flows ask h t u) (c.in-Ok.ensures.bytes.moved (i.in_goes_on.tells_same ∙ t)) (rw (c.in-Refused.is) at (c.in-Ok-feed_on.ensures.fed (i.out_goes_on.tells_same ∙ u) ask)) (λ e. cc) refl;
     }
 
-pub returns-in-Err-clause-same : goal.returns-in-Err-clause-same
-returns-in-Err-clause-same g c = c.end_on.ensures.same ∙ c.pieces.invariant.warm_same
+pub returns-in-Err-clause-same_sections : goal.returns-in-Err-clause-same_sections
+returns-in-Err-clause-same_sections g c = c.end_on.ensures.same_sections ∙ c.pieces.invariant.sections_same
 
-pub returns-then-count-eq0-clause-same : goal.returns-then-count-eq0-clause-same
-returns-then-count-eq0-clause-same g c = c.end_on-then-count-eq0.ensures.same ∙ c.pieces.invariant.warm_same
+pub returns-then-count-eq0-clause-same_sections : goal.returns-then-count-eq0-clause-same_sections
+returns-then-count-eq0-clause-same_sections g c = c.end_on-then-count-eq0.ensures.same_sections ∙ c.pieces.invariant.sections_same
 
-pub returns-in-Err-feed_on-clause-same : goal.returns-in-Err-feed_on-clause-same
-returns-in-Err-feed_on-clause-same g c = c.feed_on.ensures.same ∙ c.pieces.invariant.warm_same
+pub returns-in-Err-feed_on-clause-same_sections : goal.returns-in-Err-feed_on-clause-same_sections
+returns-in-Err-feed_on-clause-same_sections g c = c.feed_on.ensures.same_sections ∙ c.pieces.invariant.sections_same
 
-pub returns-in-Done-clause-same : goal.returns-in-Done-clause-same
-returns-in-Done-clause-same g c = c.feed_on.ensures.same ∙ c.pieces.invariant.warm_same
+pub returns-in-Done-clause-same_sections : goal.returns-in-Done-clause-same_sections
+returns-in-Done-clause-same_sections g c = c.feed_on.ensures.same_sections ∙ c.pieces.invariant.sections_same
 
-pub returns-in-Refused-clause-same : goal.returns-in-Refused-clause-same
-returns-in-Refused-clause-same g c = c.feed_on.ensures.same ∙ c.pieces.invariant.warm_same
+pub returns-in-Refused-clause-same_sections : goal.returns-in-Refused-clause-same_sections
+returns-in-Refused-clause-same_sections g c = c.feed_on.ensures.same_sections ∙ c.pieces.invariant.sections_same
+
+pub returns-in-Err-clause-same_filters : goal.returns-in-Err-clause-same_filters
+returns-in-Err-clause-same_filters g c = c.end_on.ensures.same_filters ∙ c.pieces.invariant.filters_same
+
+pub returns-then-count-eq0-clause-same_filters : goal.returns-then-count-eq0-clause-same_filters
+returns-then-count-eq0-clause-same_filters g c = c.end_on-then-count-eq0.ensures.same_filters ∙ c.pieces.invariant.filters_same
+
+pub returns-in-Err-feed_on-clause-same_filters : goal.returns-in-Err-feed_on-clause-same_filters
+returns-in-Err-feed_on-clause-same_filters g c = c.feed_on.ensures.same_filters ∙ c.pieces.invariant.filters_same
+
+pub returns-in-Done-clause-same_filters : goal.returns-in-Done-clause-same_filters
+returns-in-Done-clause-same_filters g c = c.feed_on.ensures.same_filters ∙ c.pieces.invariant.filters_same
+
+pub returns-in-Refused-clause-same_filters : goal.returns-in-Refused-clause-same_filters
+returns-in-Refused-clause-same_filters g c = c.feed_on.ensures.same_filters ∙ c.pieces.invariant.filters_same

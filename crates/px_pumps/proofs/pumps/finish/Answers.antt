@@ -10,7 +10,7 @@ returns-in-Heading-clause-ended c ask fed put h =
 
 pub returns-in-Behind-clause-ended : goal.returns-in-Behind-clause-ended
 returns-in-Behind-clause-ended c ask fed put h =
-    ends_behind ask fed put _ c.args.failed c.args.config.now c.in-Behind.passage c.end.new.self.course c.args.warm.now (rw c.in-Behind.is at h) c.requires.lent c.in_ok-end-in-Behind.ensures.ended
+    ends_behind ask fed put _ c.args.failed c.args.config.now c.in-Behind.passage c.end.new.self.course c.args.warm.now.filters (rw c.in-Behind.is at h) c.requires.filters c.in_ok-end-in-Behind.ensures.ended
 
 pub returns-in-Refused-clause-ended : goal.returns-in-Refused-clause-ended
 returns-in-Refused-clause-ended c ask fed put h = ends_refused ask fed put c.args.out.now c.args.failed c.in-Refused.page (rw c.in-Refused.is at h)
@@ -20,11 +20,11 @@ returns-in-Behind-clause-settled c =
     let of = rw c.in-Behind.is at c.requires.settled in
     record {
       limit_is = ap (λ (f : Framed). f.limit) c.in_ok-end-in-Behind.ensures.framed ∙ of.limit_is;
-      fed = inr (ended_all c.args.config.now c.args.warm.now c.args.failed c.args.out.now c.end.new.out c.in-Behind.passage c.end.new.self c.requires.lent of
+      fed = inr (ended_all c.args.config.now c.args.warm.now.filters c.args.failed c.args.out.now c.end.new.out c.in-Behind.passage c.end.new.self c.requires.filters of
           c.in_ok-end-in-Behind.ensures.ended c.in_ok-end-in-Behind.ensures.repeats);
     }
 
 pub returns-in-Behind-clause-over : goal.returns-in-Behind-clause-over
 returns-in-Behind-clause-over c =
-    ended_over _ (ended_all c.args.config.now c.args.warm.now c.args.failed c.args.out.now c.end.new.out c.in-Behind.passage c.end.new.self c.requires.lent (rw c.in-Behind.is at c.requires.settled)
+    ended_over _ (ended_all c.args.config.now c.args.warm.now.filters c.args.failed c.args.out.now c.end.new.out c.in-Behind.passage c.end.new.self c.requires.filters (rw c.in-Behind.is at c.requires.settled)
     c.in_ok-end-in-Behind.ensures.ended c.in_ok-end-in-Behind.ensures.repeats)

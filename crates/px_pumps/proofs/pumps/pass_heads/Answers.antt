@@ -21,12 +21,12 @@ returns-in_ok-passage-in-Final-clause-after c ask fed asks leads =
     let read = rw (c.as_bytes-2.ensures, c.as_bytes.ensures) at (rw c.in-Final.is at c.in_ok-left.ensures) in
     heads_end ask fed _ c.args.heading.held (drop c.in-Final.from c.args.heading.held) c.args.heading.left c.args.config.now c.args.heading.asked c.in-Final.head c.in-Final.rule
     _ c.in_ok-settled-in-Final.settled.vars c.in_ok-settled-in-Final.settled.framed c.in_ok-passage-in-Final.passage
-    asks (c.settle.ensures.same ∙ c.requires.lent) c.in_ok-settled-in-Final.ensures.vars c.in_ok-settled-in-Final.ensures.framed leads read.1
+    asks (c.settle.ensures.same_filters ∙ c.requires.filters) c.in_ok-settled-in-Final.ensures.vars c.in_ok-settled-in-Final.ensures.framed leads read.1
     (rw (c.as_bytes-in-Final.ensures, take_rest c.args.heading.held c.in-Final.from) at c.in_ok-passage-in-Final.ensures.after)
 
 pub returns-in_ok-passage-in-Final-clause-settled : goal.returns-in_ok-passage-in-Final-clause-settled
 returns-in_ok-passage-in-Final-clause-settled c = record {
   limit_is = ap (λ (f : Framed). f.limit) (c.in_ok-passage-in-Final.ensures.framed ∙ c.in_ok-settled-in-Final.ensures.framed)
       ∙ framed_limit c.args.config.now c.args.heading.asked c.in-Final.head c.in-Final.rule;
-  fed = inl (was_fed c.args.config.now _ _ _ _ _ _ (c.settle.ensures.same ∙ c.requires.lent) c.in_ok-passage-in-Final.ensures.after);
+  fed = inl (was_fed c.args.config.now _ _ _ _ _ _ (c.settle.ensures.same_filters ∙ c.requires.filters) c.in_ok-passage-in-Final.ensures.after);
 }

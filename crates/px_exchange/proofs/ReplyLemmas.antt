@@ -1,0 +1,137 @@
+-- Replies without a dial.
+use Rattle.std.proofs.Common.{◌≡◌, ℕ, Bool, true, false, cond, List, Option, None, Some, Result, Ok, Err, refl, ap, inl, inr}
+use Rattle.px_base.specs.Dials.{DialerState}
+use Rattle.px_head.specs.declared.requests.RequestHead.{RequestHead}
+use Rattle.px_patterns.specs.declared.faults.UrlFault.{UrlFault}
+use Rattle.px_patterns.specs.declared.urls.Url.{Url}
+use Rattle.px_framing.specs.declared.rules.BodyFault.{BodyFault}
+use Rattle.px_framing.specs.declared.rules.BodyRule.{BodyRule}
+use Rattle.px_decide.specs.Decisions.{decision_of}
+use Rattle.px_decide.specs.declared.decisions.Decision.{Decision}
+use Rattle.px_decide.specs.declared.decisions.Decision.TheVariants as decision
+use Rattle.px_headers.specs.ClientRows.{client_out}
+use Rattle.px_headers.specs.declared.client.ClientOut.{ClientOut}
+use Rattle.px_templates.specs.declared.pages.Page.{Page}
+use Rattle.px_judging.specs.Given.{Given}
+use Rattle.px_judging.specs.Judging.{Judged, by_decision, by_headers, by_method, by_rule, by_url, image_or_page, judged, tunnel_of}
+use Rattle.px_judging.specs.Requests.{body_read, is_connect, tagged, target_read, vars_of}
+use Rattle.px_judging.specs.declared.judgements.Judgement.{Judgement}
+use Rattle.px_judging.specs.declared.judgements.Judgement.TheVariants as judgement
+use Rattle.px_judging.specs.declared.readings.Reading.{Reading}
+use Rattle.px_judging.specs.declared.readings.Reading.TheVariants.{Overlong, Malformed, TooManyFields, Head}
+use Rattle.px_judging.specs.declared.replies.LocalReply.{LocalReply}
+use Rattle.px_judging.specs.declared.replies.ReplyKind.{ReplyKind}
+use Rattle.px_judging.specs.declared.replies.ReplyKind.TheVariants as kind
+use Rattle.px_judging.specs.declared.requests.Request.{Request}
+use Rattle.px_judging.specs.declared.requests.Tags.{Tags}
+use Rattle.px_pumps.specs.Returning.{IsAnswerEnding}
+use Rattle.px_pumps.specs.declared.notes.Conclusion.{Conclusion}
+use Rattle.px_pumps.specs.declared.notes.Ending.{Ending}
+use Rattle.px_pumps.specs.declared.notes.Ending.TheVariants as ending
+use Rattle.px_exchange.specs.Causes.{EndingCause, PageCause}
+use Rattle.px_exchange.specs.Exchange.{Answers}
+use Rattle.px_exchange.specs.Forwarding.{Client}
+use Rattle.px_exchange.specs.Replies.{ReturnsSome, ending_of, local_due, no_tunnel}
+
+-- a reply without a dial
+pub local_answers : (g : Given) (reply : LocalReply) (c : Client) (d : DialerState) (taken taken' : List ℕ) (x : Conclusion)
+    → Judged g (judgement.Local reply) → c.behind ≡ c.stream → ReturnsSome (local_due g.config reply) taken taken' x → Answers g c d d taken taken' x
+local_answers g reply c d taken taken' x j u (inl whole) = inl (record { judgement = judgement.Local reply; judged = j; does = (refl, u, whole) })
+local_answers g reply c d taken taken' x j u (inr wants) = inr (record { judgement = Some (judgement.Local reply); judged = j; wants = (refl, u, wants.0); concluded = wants.1 })
+
+pub tunnel_answers : (g : Given) (plan : _) (c : Client) (d : DialerState) (taken taken' : List ℕ) (x : Conclusion)
+    → Judged g (judgement.Tunnel plan) → c.behind ≡ c.stream → ReturnsSome (local_due g.config (no_tunnel plan)) taken taken' x → Answers g c d d taken taken' x
+tunnel_answers g plan c d taken taken' x j u (inl whole) = inl (record { judgement = judgement.Tunnel plan; judged = j; does = (refl, u, whole) })
+tunnel_answers g plan c d taken taken' x j u (inr wants) = inr (record { judgement = Some (judgement.Tunnel plan); judged = j; wants = (refl, u, wants.0); concluded = wants.1 })
+
+-- ---- no reply without a dial is a page that speaks of one
+
+abbrev IsQuiet : Judgement → Type 0
+IsQuiet (judgement.Local reply) = (old new : DialerState) → EndingCause old new (ending_of reply.kind)
+IsQuiet (judgement.Forward plan) = Unit {0}
+IsQuiet (judgement.Tunnel plan) = Unit {0}
+
+headers_quiet : (g : Given) (r : Request) (t : Tags) (o : Option ClientOut) → IsQuiet (by_headers g r t o)
+headers_quiet g r t (Some out) = tt
+headers_quiet g r t None = λ old new. tt
+
+method_quiet : (g : Given) (r : Request) (t : Tags) → IsQuiet (by_method g r t)
+method_quiet g r t = by (is_connect r.head)
+  where
+    by : (b : Bool) → IsQuiet (cond b (judgement.Tunnel (tunnel_of g r t)) (by_headers g r t (client_out t.set g.config.filters (vars_of g.peer r.url) r.url g.peer r.head)))
+    by true = tt
+    by false = headers_quiet g r t (client_out t.set g.config.filters (vars_of g.peer r.url) r.url g.peer r.head)
+
+image_quiet : (g : Given) (r : Request) (t : Tags) (image : Option (List ℕ)) (k : ReplyKind) → ((old new : DialerState) → EndingCause old new (ending_of k)) → IsQuiet (image_or_page g r t image k)
+image_quiet g r t (Some bytes) k q = q
+image_quiet g r t None k q = λ old new. tt
+
+decision_quiet : (g : Given) (r : Request) (t : Tags) (d : Decision) → IsQuiet (by_decision g r t d)
+decision_quiet g r t decision.Pass = method_quiet g r t
+decision_quiet g r t (decision.Blocked reason) = λ old new. tt
+decision_quiet g r t decision.ImageBlank = image_quiet g r t g.config.image_blank kind.BlankImage (λ old new. tt)
+decision_quiet g r t decision.ImagePattern = image_quiet g r t g.config.image_pattern kind.PatternImage (λ old new. tt)
+decision_quiet g r t decision.Empty = λ old new. tt
+decision_quiet g r t (decision.Redirect target) = λ old new. tt
+decision_quiet g r t decision.ConnectDenied = λ old new. tt
+
+rule_quiet : (g : Given) (head : RequestHead) (url : Url) (rule : Result BodyRule BodyFault) → IsQuiet (by_rule g head url rule)
+rule_quiet g head url (Ok rule) =
+    let t = tagged g head url in
+    decision_quiet g (record { head = head; url = url; rule = rule }) t (decision_of url (is_connect head) t.set (vars_of g.peer url))
+rule_quiet g head url (Err fault) = λ old new. tt
+
+url_quiet : (g : Given) (head : RequestHead) (url : Result Url UrlFault) → IsQuiet (by_url g head url)
+url_quiet g head (Ok url) = rule_quiet g head url (body_read head)
+url_quiet g head (Err fault) = λ old new. tt
+
+judged_quiet : (g : Given) (r : Reading) → IsQuiet (judged g r)
+judged_quiet g Overlong = λ old new. tt
+judged_quiet g Malformed = λ old new. tt
+judged_quiet g TooManyFields = λ old new. tt
+judged_quiet g (Head head) = url_quiet g head (target_read head)
+
+-- an ending that is a page only where that other one is the same page
+same_page : (old new : DialerState) (e e' : Ending) → ((p : Page) → e ≡ ending.Page p → e' ≡ ending.Page p) → EndingCause old new e' → EndingCause old new e
+same_page old new (ending.Page p) e' same h = rw (same p refl) at h
+same_page old new ending.Image e' same h = tt
+same_page old new ending.Empty e' same h = tt
+same_page old new ending.Redirect e' same h = tt
+same_page old new ending.Passed e' same h = tt
+same_page old new ending.Filtered e' same h = tt
+same_page old new ending.Bodiless e' same h = tt
+same_page old new ending.CutFront e' same h = tt
+same_page old new ending.Tunnel e' same h = tt
+same_page old new ending.Broken e' same h = tt
+
+pub local_cause : (g : Given) (reply : LocalReply) (old new : DialerState) (e : Ending) → Judged g (judgement.Local reply)
+    → ((p : Page) → e ≡ ending.Page p → ending_of reply.kind ≡ ending.Page p) → EndingCause old new e
+local_cause g reply old new e j same =
+    let quiet : IsQuiet (judgement.Local reply) = rw j.is (judged_quiet g j.reading) in
+    same_page old new e (ending_of reply.kind) same (quiet old new)
+
+-- the page that was to be returned, or nothing that is a page
+pub page_returned : (old new : DialerState) (p : Page) (e : Ending) → ((q : Page) → e ≡ ending.Page q → q ≡ p) → PageCause old new p → EndingCause old new e
+page_returned old new p (ending.Page q) same h = rw (← same q refl) at h
+page_returned old new p ending.Image same h = tt
+page_returned old new p ending.Empty same h = tt
+page_returned old new p ending.Redirect same h = tt
+page_returned old new p ending.Passed same h = tt
+page_returned old new p ending.Filtered same h = tt
+page_returned old new p ending.Bodiless same h = tt
+page_returned old new p ending.CutFront same h = tt
+page_returned old new p ending.Tunnel same h = tt
+page_returned old new p ending.Broken same h = tt
+
+-- the ending of an answer has no cause at the dialer
+pub answer_cause : (old new : DialerState) (e : Ending) → IsAnswerEnding e → EndingCause old new e
+answer_cause old new (ending.Page p) h = absurd h
+answer_cause old new ending.Image h = tt
+answer_cause old new ending.Empty h = tt
+answer_cause old new ending.Redirect h = tt
+answer_cause old new ending.Passed h = tt
+answer_cause old new ending.Filtered h = tt
+answer_cause old new ending.Bodiless h = tt
+answer_cause old new ending.CutFront h = tt
+answer_cause old new ending.Tunnel h = tt
+answer_cause old new ending.Broken h = tt

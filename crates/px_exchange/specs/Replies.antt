@@ -1,0 +1,89 @@
+-- What is due to the client without an origin's answer, and what was returned of it.
+use Rattle.std.specs.Prelude.{◌≡◌, ◌⊎◌, ℕ, Bool, true, false, not, List, [], ◌++◌, codes}
+use Rattle.std.specs.Fmt.{decimal}
+use Rattle.px_patterns.specs.declared.urls.Url.{Url}
+use Rattle.px_decide.specs.declared.routes.Route.{Route}
+use Rattle.px_templates.specs.declared.pages.Page.{Page}
+use Rattle.px_templates.specs.declared.pages.Page.TheVariants as page
+use Rattle.px_config.specs.declared.configs.Config.{Config}
+use Rattle.px_judging.specs.Replies.{reply_bytes, url_symbols}
+use Rattle.px_judging.specs.declared.replies.LocalReply.{LocalReply}
+use Rattle.px_judging.specs.declared.replies.ReplyKind.{ReplyKind}
+use Rattle.px_judging.specs.declared.replies.ReplyKind.TheVariants as kind
+use Rattle.px_judging.specs.declared.judgements.Plan.{Plan}
+use Rattle.px_judging.specs.declared.judgements.TunnelPlan.{TunnelPlan}
+use Rattle.px_pumps.specs.Answering.{after_whole}
+use Rattle.px_pumps.specs.Returning.{Returns, AddsPrefix, broken}
+use Rattle.px_pumps.specs.declared.dues.Due.{Due}
+use Rattle.px_pumps.specs.declared.notes.Ending.{Ending}
+use Rattle.px_pumps.specs.declared.notes.Ending.TheVariants as ending
+use Rattle.px_pumps.specs.declared.notes.After.TheVariants as after
+use Rattle.px_pumps.specs.declared.notes.Conclusion.{Conclusion}
+
+-- what a reply of that kind is
+abbrev pub ending_of : ReplyKind → Ending
+ending_of (kind.Page p symbols) = ending.Page p
+ending_of kind.BlankImage = ending.Image
+ending_of kind.PatternImage = ending.Image
+ending_of kind.EmptyDocument = ending.Empty
+ending_of (kind.Redirect target) = ending.Redirect
+
+-- a reply as what is due
+abbrev pub local_due : Config → LocalReply → Due
+local_due config reply = record { bytes = reply_bytes config reply; ending = ending_of reply.kind; after = after_whole (not reply.close) }
+
+-- the value of `error` on a page of a request that was sent on: its body was misframed
+abbrev pub error_of : Page → List ℕ
+error_of page.Blocked = []
+error_of page.ConnectFailed = []
+error_of page.NoSuchDomain = []
+error_of page.ForwardingFailed = []
+error_of page.NoServerData = []
+error_of page.InvalidRequest = codes "Misframed"
+error_of page.HeadTooLong = []
+error_of page.BadReply = []
+error_of page.SendFailed = []
+error_of page.ConnectDenied = []
+error_of page.BadRewrite = []
+
+-- a parent as a page names it
+abbrev pub parent_text : Route → List ℕ
+parent_text route = route.host ++ codes ":" ++ decimal route.port
+
+-- the value of `parent`
+abbrev pub parent_of : Route → Page → List ℕ
+parent_of route page.Blocked = []
+parent_of route page.ConnectFailed = []
+parent_of route page.NoSuchDomain = []
+parent_of route page.ForwardingFailed = parent_text route
+parent_of route page.NoServerData = []
+parent_of route page.InvalidRequest = []
+parent_of route page.HeadTooLong = []
+parent_of route page.BadReply = []
+parent_of route page.SendFailed = []
+parent_of route page.ConnectDenied = []
+parent_of route page.BadRewrite = []
+
+-- a page about a URL, behind which the connection closes
+abbrev pub url_page : Page → Url → List ℕ → List ℕ → Bool → LocalReply
+url_page p url error parent bodiless = record { kind = kind.Page p (url_symbols url [] error parent); close = true; bodiless = bodiless }
+
+-- the page that is returned in place of the answer to a request that was sent on
+abbrev pub page_reply : Url → Route → Bool → Page → LocalReply
+page_reply url route bodiless p = url_page p url (error_of p) (parent_of route p) bodiless
+
+-- the same as what is due
+abbrev pub page_due : Config → Url → Route → Bool → Page → Due
+page_due config url route bodiless p = local_due config (page_reply url route bodiless p)
+
+-- the page of a request for a tunnel: tunnels aren't built yet
+abbrev pub no_tunnel : TunnelPlan → LocalReply
+no_tunnel plan = url_page page.InvalidRequest plan.url (codes "NotBuilt") [] false
+
+-- memory was wanting, and a prefix of what is due was returned
+abbrev pub WantsReturning : Due → List ℕ → List ℕ → Conclusion → Type 0
+WantsReturning due taken taken' x = AddsPrefix taken taken' due.bytes × (x ≡ broken after.NoMemory)
+
+-- what is due was returned, or for want of memory a prefix of it
+abbrev pub ReturnsSome : Due → List ℕ → List ℕ → Conclusion → Type 0
+ReturnsSome due taken taken' x = Returns due taken taken' x ⊎ WantsReturning due taken taken' x
