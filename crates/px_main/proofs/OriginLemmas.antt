@@ -1,13 +1,14 @@
 -- A text has one first entry, and so one list of answers.
-use Rattle.std.proofs.Common.{◌≡◌, ℕ, suc, ◌+◌, ◌-◌, ◌≤◌, ◌<◌, Bool, true, false, ◌==◌, not, ◌&&◌, cond, List, [], ◌∷◌, ◌++◌, length, take, drop, get_or, Option, Some, None, refl, sym, ap, ◌∙◌, subst, arith, ltb, leb, add-one, take-append-drop, length-take-le, append_assoc, append-nil}
-use Rattle.std.specs.Prelude.{unwrap_or}
+use Rattle.std.proofs.Common.{◌≡◌, ℕ, suc, ◌+◌, ◌-◌, ◌≤◌, ◌<◌, Bool, true, false, ◌==◌, not, ◌&&◌, cond, List, [], ◌∷◌, ◌++◌, length, take, drop, get_or, Option, Some, None, refl, sym, ap, ◌∙◌, subst, arith, ltb, leb, add-one, take-append-drop, length-take-le, append_assoc, append-nil, length-append, inl, inr}
+use Rattle.std.specs.Prelude.{unwrap_or, codes}
 use Rattle.std.specs.List.{position, position_or_len}
 use Rattle.std.proofs.lemmas.Bool.{ltb-true, leb-true, le-leb, lt-ltb, and_parts, eqb-true}
 use Rattle.std.proofs.lemmas.List.Sums.{split_at_first, passes_at_first}
 use Rattle.std.proofs.lemmas.Grind.{common_steps}
 use Rattle.px_base.specs.Numbers.{decimal, all_digits, with_digits, is_digit}
 use Rattle.px_base.specs.declared.dials.Answer.{Answer}
-use Rattle.px_main.specs.Origins.{plain_answer, BeginsWith, IsOrigin}
+use Rattle.px_base.specs.declared.dials.Answer.TheVariants as answer
+use Rattle.px_main.specs.Origins.{plain_answer, BeginsEntry, BeginsWith, BeginsWithWord, IsOrigin}
 use Rattle.px_main.specs.Entries.{is_line_feed, counted, entry_at, first_entry}
 
 -- what two equal options hold
@@ -114,36 +115,100 @@ pub first-begins : (text bytes rest : List ℕ) → first_entry text ≡ Some (b
 unfolding first_entry
 first-begins text bytes rest e = entry-begins text bytes rest (position is_line_feed text) (λ i k. (cut_at_lf text i k).1) (λ i k. (cut_at_lf text i k).0) e
 
+-- ---- word lines
+
+cancel : (word xs ys : List ℕ) → word ++ xs ≡ word ++ ys → xs ≡ ys
+cancel word xs ys e = sym (drop-length word xs) ∙ ap (drop (length word)) e ∙ drop-length word ys
+
+-- one word line ends in one place
+one_word : (word text rest other : List ℕ) → BeginsWithWord word text rest → BeginsWithWord word text other → rest ≡ other
+one_word word text rest other (inl h) (inl k) = tail_is (cancel word (10 ∷ rest) (10 ∷ other) (sym h ∙ k))
+  where
+    tail_is : 10 ∷ rest ≡ 10 ∷ other → rest ≡ other
+    tail_is e = ap (drop 1) e
+one_word word text rest other (inl h) (inr k) = absurd (omega (arith, ap length (sym h ∙ k.0), length-append word (10 ∷ rest)))
+one_word word text rest other (inr h) (inl k) = absurd (omega (arith, ap length (sym k ∙ h.0), length-append word (10 ∷ other)))
+one_word word text rest other (inr h) (inr k) = h.1 ∙ sym k.1
+
+-- what stands in the word stands in the text
+word_at : (word text rest : List ℕ) (i : ℕ) → i < length word → BeginsWithWord word text rest → get_or text i 0 ≡ get_or word i 0
+word_at word text rest i within (inl h) = ap (λ (xs : List ℕ). get_or xs i 0) h ∙ grind (arith, common_steps, within)
+word_at word text rest i within (inr h) = ap (λ (xs : List ℕ). get_or xs i 0) h.0
+
+-- a word line isn't the other one
+no_two : (text rest other : List ℕ) → BeginsWithWord (codes "no-name") text rest → BeginsWithWord (codes "not-reached") text other → ⊥
+no_two text rest other h k =
+    let e : 45 ≡ 116 = sym (word_at (codes "no-name") text rest 2 (omega arith) h) ∙ word_at (codes "not-reached") text other 2 (omega arith) k in
+    (cc)
+
+-- an entry of bytes begins with a digit
+digit_first : (text bytes rest : List ℕ) → BeginsWith text bytes rest → is_digit (get_or text 0 0) ≡ true
+digit_first text bytes rest h = by h.digits h.counts h.parts
+  where
+    by : (ds : List ℕ) → decimal 99999999 ds ≡ Some (length bytes) → text ≡ ds ++ 10 ∷ (bytes ++ rest) → is_digit (get_or text 0 0) ≡ true
+    by [] counts parts = (cc)
+    by (d ∷ ds) counts parts = rw parts (and_parts (is_digit d) (all_digits ds) (decimal-digits 99999999 (length bytes) (d ∷ ds) counts)).0
+
+no_word : (word text bytes rest other : List ℕ) → 0 < length word → get_or word 0 0 ≡ 110 → BeginsWith text bytes rest → BeginsWithWord word text other → ⊥
+no_word word text bytes rest other some n h k =
+    let digit = digit_first text bytes rest h in
+    let first : get_or text 0 0 ≡ 110 = word_at word text other 0 some k ∙ n in
+    let wrong : is_digit 110 ≡ true = rw first at digit in
+    (cc)
+
+-- ---- a text begins with one entry at most
+
+one_entry : (text rest other : List ℕ) (a b : Answer) → BeginsEntry text a rest → BeginsEntry text b other → (a ≡ b) × (rest ≡ other)
+one_entry text rest other answer.NoName answer.NoName h k = (refl, one_word _ text rest other h k)
+one_entry text rest other answer.NoName answer.NotReached h k = absurd (no_two text rest other h k)
+one_entry text rest other answer.NoName (answer.Link bytes cuts rs ws) h k = absurd (no_word (codes "no-name") text bytes other rest (omega arith) refl k.1 h)
+one_entry text rest other answer.NotReached answer.NoName h k = absurd (no_two text other rest k h)
+one_entry text rest other answer.NotReached answer.NotReached h k = (refl, one_word _ text rest other h k)
+one_entry text rest other answer.NotReached (answer.Link bytes cuts rs ws) h k = absurd (no_word (codes "not-reached") text bytes other rest (omega arith) refl k.1 h)
+one_entry text rest other (answer.Link bytes cuts rs ws) answer.NoName h k = absurd (no_word (codes "no-name") text bytes rest other (omega arith) refl h.1 k)
+one_entry text rest other (answer.Link bytes cuts rs ws) answer.NotReached h k = absurd (no_word (codes "not-reached") text bytes rest other (omega arith) refl h.1 k)
+one_entry text rest other (answer.Link bytes cuts rs ws) (answer.Link bytes2 cuts2 rs2 ws2) h k =
+    let both : ◌≡◌ {A = Option (List ℕ × List ℕ)} (Some (bytes, rest)) (Some (bytes2, other)) = sym (begins-first text bytes rest h.1) ∙ begins-first text bytes2 other k.1 in
+    let pair : ◌≡◌ {A = List ℕ × List ℕ} (bytes, rest) (bytes2, other) = held _ _ both in
+    (h.0 ∙ ap (λ (p : List ℕ × List ℕ). plain_answer p.0) pair ∙ sym k.0, ap (λ (p : List ℕ × List ℕ). p.1) pair)
+
+-- an entry of bytes that was read
+pub bytes_entry : (text bytes rest : List ℕ) → first_entry text ≡ Some (bytes, rest) → BeginsEntry text (plain_answer bytes) rest
+bytes_entry text bytes rest e = (refl, first-begins text bytes rest e)
+
+-- no entry was read
+pub no_entry : (text : List ℕ) → ((rest : List ℕ) → BeginsWithWord (codes "no-name") text rest → ⊥) → ((rest : List ℕ) → BeginsWithWord (codes "not-reached") text rest → ⊥) → first_entry text ≡ None
+    → (a : Answer) (rest : List ℕ) → BeginsEntry text a rest → ⊥
+no_entry text name reach none answer.NoName rest h = name rest h
+no_entry text name reach none answer.NotReached rest h = reach rest h
+no_entry text name reach none (answer.Link bytes cuts rs ws) rest h =
+    let both : ◌≡◌ {A = Option (List ℕ × List ℕ)} (Some (bytes, rest)) None = sym (begins-first text bytes rest h.1) ∙ none in
+    (cc)
+
 -- ---- one entry more
 
-pub origin_behind : (text bytes rest : List ℕ) (a : Answer) (more : List Answer) → first_entry text ≡ Some (bytes, rest) → a ≡ plain_answer bytes → IsOrigin rest more → IsOrigin text (a ∷ more)
-origin_behind text bytes rest a more e is h = (bytes, rest, is, first-begins text bytes rest e, h)
+origin_before : (text rest : List ℕ) (a : Answer) (answers : List Answer) → BeginsEntry text a rest → 0 < length text → IsOrigin text answers → (more : List Answer) × (answers ≡ a ∷ more) × IsOrigin rest more
+origin_before text rest a [] e some h = absurd (omega (arith, ap length h))
+origin_before text rest a (b ∷ more) e some h =
+    let same = one_entry text h.0 rest b a h.1 e in
+    (more, ap (λ x. x ∷ more) same.0, subst (λ (xs : List ℕ). IsOrigin xs more) same.1 h.2)
 
-pub origin_before : (text bytes rest : List ℕ) (answers : List Answer) → first_entry text ≡ Some (bytes, rest) → 0 < length text → IsOrigin text answers → (more : List Answer) × (answers ≡ plain_answer bytes ∷ more) × IsOrigin rest more
-origin_before text bytes rest [] e some h = absurd (omega (arith, ap length h))
-origin_before text bytes rest (a ∷ more) e some h =
-    let both : ◌≡◌ {A = Option (List ℕ × List ℕ)} (Some (h.0, h.1)) (Some (bytes, rest)) = sym (begins-first text h.0 h.1 h.3) ∙ e in
-    let pair : ◌≡◌ {A = List ℕ × List ℕ} (h.0, h.1) (bytes, rest) = held _ _ both in
-    let b : h.0 ≡ bytes = ap (λ (p : List ℕ × List ℕ). p.0) pair in
-    let r : h.1 ≡ rest = ap (λ (p : List ℕ × List ℕ). p.1) pair in
-    (more, ap (λ x. x ∷ more) (h.2 ∙ ap plain_answer b), subst (λ (xs : List ℕ). IsOrigin xs more) r h.4)
-
-pub no_origin : (text : List ℕ) (answers : List Answer) → first_entry text ≡ None → 0 < length text → IsOrigin text answers → ⊥
-no_origin text [] e some h = omega (arith, ap length h)
-no_origin text (a ∷ more) e some h = let both : ◌≡◌ {A = Option (List ℕ × List ℕ)} (Some (h.0, h.1)) None = sym (begins-first text h.0 h.1 h.3) ∙ e in (cc)
+pub no_origin : (text : List ℕ) (answers : List Answer) → ((a : Answer) (rest : List ℕ) → BeginsEntry text a rest → ⊥) → 0 < length text → IsOrigin text answers → ⊥
+no_origin text [] none some h = omega (arith, ap length h)
+no_origin text (a ∷ more) none some h = none a h.0 h.1
 
 -- answers were read from the front of a text, and the rest is to come
 pub record ReadsOrigin (text rest : List ℕ) (answers : List Answer) : Type 0 where
   pub so_far : (more : List Answer) → IsOrigin rest more → IsOrigin text (answers ++ more)
   pub to_come : (all : List Answer) → IsOrigin text all → (more : List Answer) × (all ≡ answers ++ more) × IsOrigin rest more
 
-pub one_more : (text rest bytes behind : List ℕ) (answers : List Answer) (a : Answer) → first_entry rest ≡ Some (bytes, behind) → a ≡ plain_answer bytes → 0 < length rest → ReadsOrigin text rest answers → ReadsOrigin text behind (answers ++ a ∷ [])
-one_more text rest bytes behind answers a e is some h = record {
-  so_far = λ more k. rw append_assoc (h.so_far (a ∷ more) (origin_behind rest bytes behind a more e is k));
+pub one_more : (text rest behind : List ℕ) (answers : List Answer) (a : Answer) → BeginsEntry rest a behind → 0 < length rest → ReadsOrigin text rest answers → ReadsOrigin text behind (answers ++ a ∷ [])
+one_more text rest behind answers a e some h = record {
+  so_far = λ more k. rw append_assoc (h.so_far (a ∷ more) (behind, e, k));
   to_come = λ all k.
       let left = h.to_come all k in
-      let more = origin_before rest bytes behind left.0 e some left.2 in
-      (more.0, left.1 ∙ ap (λ xs. answers ++ xs) (more.1 ∙ ap (λ x. x ∷ more.0) (sym is)) ∙ sym (append_assoc answers (a ∷ []) more.0), more.2);
+      let more = origin_before rest behind a left.0 e some left.2 in
+      (more.0, left.1 ∙ ap (λ xs. answers ++ xs) more.1 ∙ sym (append_assoc answers (a ∷ []) more.0), more.2);
 }
 
 -- nothing is left

@@ -1,7 +1,9 @@
--- The first entry of ORIGIN as a function of the text: the digits before the first LF, and so many of the bytes behind it.
+-- The first entry of ORIGIN. One of bytes is a function of the text: the digits before the first LF, and so many of the bytes behind it.
 use Rattle.std.specs.Prelude.{ℕ, ◌+◌, ◌==◌, nat_le, if◌then◌else◌, Bool, List, length, take, drop, Option, Some, None}
 use Rattle.std.specs.List.{position}
 use Rattle.px_base.specs.Numbers.{decimal}
+use Rattle.px_base.specs.declared.dials.Answer.{Answer}
+use Rattle.px_main.specs.Origins.{BeginsEntry}
 
 abbrev pub is_line_feed : ℕ → Bool
 is_line_feed b = b == 10
@@ -18,3 +20,8 @@ entry_at text (Some at) = if nat_le at 8 then counted (drop (at + 1) text) (deci
 
 unfoldable pub first_entry : List ℕ → Option (List ℕ × List ℕ)
 first_entry text = entry_at text (position is_line_feed text)
+
+-- the first entry of a text, if it begins with one
+abbrev pub EntryIs : List ℕ → Option (Answer × List ℕ) → Type 0
+EntryIs text (Some e) = BeginsEntry text e.0 e.1
+EntryIs text None = (a : Answer) (rest : List ℕ) → ¬ BeginsEntry text a rest

@@ -1,9 +1,9 @@
 // The file ORIGIN: the answers of the dials to come.
-ghost use Rattle.std.specs.Prelude.{◌≡◌, ◌<◌, ◌≤◌, IfOk, IfSome, Err, List, ℕ, length, option_map};
+ghost use Rattle.std.specs.Prelude.{◌≡◌, ◌<◌, ◌≤◌, IfOk, IfSome, IsNone, Err, List, ℕ, length, option_map};
 ghost use Rattle.std.specs.List.{position};
 ghost use Rattle.px_base.specs.declared.dials.Answer.{Answer};
-ghost use Rattle.px_main.specs.Origins.{IsOrigin, plain_answer};
-ghost use Rattle.px_main.specs.Entries.{first_entry, counted, is_line_feed};
+ghost use Rattle.px_main.specs.Origins.{BeginsWithWord, IsOrigin, plain_answer};
+ghost use Rattle.px_main.specs.Entries.{EntryIs, first_entry, counted, is_line_feed};
 
 use px_base::{Answer, List, Mem, Text, read_decimal};
 use std::alloc::{AllocFailed, Global};
@@ -36,8 +36,8 @@ impl<T: Drop> From<AllocFailed<T>> for OriginFault {
     }
 }
 
-/// Reads entries, each a line of one to eight decimal digits, ended by LF, and that many bytes, which are the answer of
-/// one dial.
+/// Reads entries, each a line of one to eight decimal digits, ended by LF, and that many bytes, which are the answer of one
+/// dial; or the line `no-name` or `not-reached` for a dial that is refused, of which the last may lack its LF.
 pub fn read_origin(alloc: Global, text: &[u8]) -> Result<List<Answer>, OriginFault>
     ensures origin { IfOk result (IsOrigin text.now) }
     ensures bad_form { result ≡ Err OriginFault.BadForm → (answers : List Answer) → ¬ IsOrigin text.now answers }
@@ -45,9 +45,9 @@ pub fn read_origin(alloc: Global, text: &[u8]) -> Result<List<Answer>, OriginFau
     let mut answers = Vec::new(alloc);
     let mut rest = text;
     'entries: while !rest.is_empty() {
-        match read_entry(rest) {
-            Some((bytes, behind)) => {
-                answers.push(answer(alloc, bytes)?)?;
+        match read_entry(alloc, rest)? {
+            Some((answer, behind)) => {
+                answers.push(answer)?;
                 rest = behind;
             }
             None => return Err(OriginFault::BadForm),
@@ -56,9 +56,39 @@ pub fn read_origin(alloc: Global, text: &[u8]) -> Result<List<Answer>, OriginFau
     Ok(List::from_vec(answers))
 }
 
-/// The bytes of the first entry, and what comes behind it.
+/// The answer of the first entry, and what comes behind it.
+fn read_entry(alloc: Global, text: &[u8]) -> Result<Option<(Answer, &[u8])>, Mem>
+    ensures entry { IfOk result (λ read. EntryIs text.now (option_map (λ e. (e.0, e.1.now)) read)) }
+    ensures shorter { IfOk result (λ read. IfSome read (λ e. length e.1.now < length text.now)) }
+{
+    if let Some(rest) = read_word(text, b"no-name") {
+        return Ok(Some((Answer::NoName, rest)));
+    }
+    if let Some(rest) = read_word(text, b"not-reached") {
+        return Ok(Some((Answer::NotReached, rest)));
+    }
+    match read_bytes(text) {
+        Some((bytes, rest)) => Ok(Some((answer(alloc, bytes)?, rest))),
+        None => Ok(None),
+    }
+}
+
+/// What comes behind a word line. Where nothing does, the line may lack its LF.
+fn read_word<'t>(text: &'t [u8], word: &[u8]) -> Option<&'t [u8]>
+    ensures some { IfSome result (λ rest. BeginsWithWord word.now text.now rest.now) }
+    ensures none { IsNone result → (rest : List ℕ) → ¬ BeginsWithWord word.now text.now rest }
+    ensures shorter { 0 < length word.now → IfSome result (λ rest. length rest.now < length text.now) }
+{
+    match text.strip_prefix(word)? {
+        [] => Some(&[]),
+        [b'\n', rest @ ..] => Some(rest),
+        _ => None,
+    }
+}
+
+/// The bytes of the first entry, where it is one of bytes, and what comes behind it.
 #[tactic(auto, unfolding(crate::specs::Entries::first_entry))]
-fn read_entry(text: &[u8]) -> Option<(&[u8], &[u8])>
+fn read_bytes(text: &[u8]) -> Option<(&[u8], &[u8])>
     ensures entry { option_map (λ e. (e.0.now, e.1.now)) result ≡ first_entry text.now }
     ensures shorter { IfSome result (λ e. length e.1.now < length text.now) }
 {

@@ -138,6 +138,18 @@ const SESSIONS: &[(&str, &str, &str, &str)] = &[
         "",
     ),
     (
+        "no-name",
+        GET,
+        "HTTP/1.1 404 Not Found\r\nContent-Type: text/html\r\nContent-Length: 41\r\nCache-Control: no-cache\r\nConnection: close\r\n\r\n<html><body>no-such-domain</body></html>\n",
+        "",
+    ),
+    (
+        "not-reached\n",
+        GET,
+        "HTTP/1.1 503 Service Unavailable\r\nContent-Type: text/html\r\nContent-Length: 41\r\nCache-Control: no-cache\r\nConnection: close\r\n\r\n<html><body>connect-failed</body></html>\n",
+        "",
+    ),
+    (
         ANSWER,
         "GET http://[::1]:81/ HTTP/1.1\r\n\r\n",
         REPLY,
@@ -244,7 +256,13 @@ const REFUSALS: &[(&[&str], Option<&str>, Option<&str>, u8, &str)] = &[
     ),
     (&["pass", "c", "o", "s"], Some(""), None, 8, ""),
     (&["pass", "c", "o", "s"], Some(""), Some("3\nhi"), 8, ""),
-    (&["pass", "c", "o", "s"], Some(""), Some("no-name\n"), 8, ""),
+    (
+        &["pass", "c", "o", "s"],
+        Some(""),
+        Some("no-name-\n"),
+        8,
+        "",
+    ),
     (
         &["pass", "c", "o", "s"],
         Some(""),

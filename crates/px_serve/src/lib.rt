@@ -4,6 +4,7 @@
 ghost use Rattle.std.specs.Prelude.{◌≡◌};
 
 mod ends;
+mod keeping;
 mod sessions;
 
 pub use ends::{REQUEST_LIMIT, SessionEnd};

@@ -4,13 +4,15 @@ ghost use Rattle.px_base.specs.Sources.{SourceGoesOn};
 ghost use Rattle.px_publish.specs.Views.{Entry};
 ghost use Rattle.px_serve.specs.Ends.{end_of_bytes, ReadEndCause, WriteEndCause, ReadTurnCause, WriteTurnCause};
 ghost use Rattle.px_serve.specs.Histories.{Looks};
+ghost use Rattle.px_serve.specs.Keeping.{IsKept};
 ghost use Rattle.px_serve.specs.Sessions.{Caller, Objects, Lasts, Begins, Turned, Serves};
 
 use crate::ends::{REQUEST_LIMIT, SessionEnd, end_after, is_empty_lines};
-use px_base::{Clock, Dialer, List, Peer, Sink, Source, Text};
-use px_exchange::{Config, ExchangeNote, Handed, HeadSeen, answer_cold};
+use crate::keeping::{Kept, answer};
+use px_base::{Clock, Dialer, List, Mem, Peer, Sink, Source, Text};
+use px_exchange::{Config, ExchangeNote, Handed, HeadSeen};
 use px_head::HEAD_LIMIT;
-use px_publish::Configs;
+use px_publish::{Configs, CountFull};
 use px_streams::{Ahead, Front, ReadFault, read_front};
 use std::alloc::Global;
 
@@ -45,6 +47,7 @@ fn serve_request<K, S, O, D, T>(
     alloc: Global,
     client: &Client<'_>,
     number: u64,
+    kept: &mut Kept<'_>,
     configs: &mut K,
     seen: &HeadSeen,
     client_in: &mut S,
@@ -62,6 +65,7 @@ where
     T: Clock,
     requires number { number < REQUEST_LIMIT }
     requires room { vec_len notes.old < vec_capacity notes.old }
+    requires kept { IsKept (K.view configs.old) kept.old }
     ensures begins { Begins (record { tags = client.now.tags.now; peer = client.now.peer.now.address }) number seen.now (S.state client_in.old) (ahead.old ++ (S.state client_in.old).left) (ahead.new ++ (S.state client_in.new).left)
         (record { tells = K.tells; view = K.view configs.old; pair = K.pair configs.old; coming = K.coming configs.old })
         (record { tells = K.tells; view = K.view configs.new; pair = K.pair configs.new; coming = K.coming configs.new })
@@ -73,6 +77,7 @@ where
     ensures goes_on_below { result ≡ None → number + 1 < REQUEST_LIMIT }
     ensures read_cause { ReadTurnCause (S.state client_in.old) (S.state client_in.new) result }
     ensures write_cause { WriteTurnCause (O.state client_out.old) (O.state client_out.new) result }
+    ensures kept { IsKept (K.view configs.new) kept.new }
     ensures open { (O.state client_out.new).finished ≡ (O.state client_out.old).finished }
     ensures in_goes_on { SourceGoesOn (S.state client_in.old) (S.state client_in.new) }
     ensures lasts { Lasts
@@ -91,7 +96,16 @@ where
         peer: client.peer,
         moment,
     };
-    let concluded = answer_cold(alloc, &handed, client_in, ahead, client_out, dialer);
+    let concluded = answer(
+        alloc,
+        &handed,
+        snapshot.number,
+        kept,
+        client_in,
+        ahead,
+        client_out,
+        dialer,
+    );
     let note = ExchangeNote {
         config: snapshot.number,
         moment,
@@ -117,6 +131,7 @@ fn turn<K, S, O, D, T>(
     alloc: Global,
     client: &Client<'_>,
     number: u64,
+    kept: &mut Kept<'_>,
     configs: &mut K,
     client_in: &mut S,
     ahead: &mut Ahead,
@@ -133,6 +148,7 @@ where
     T: Clock,
     requires number { number < REQUEST_LIMIT }
     requires room { vec_len notes.old < vec_capacity notes.old }
+    requires kept { IsKept (K.view configs.old) kept.old }
     ensures turned { Turned (record { tags = client.now.tags.now; peer = client.now.peer.now.address }) number
         (record { tells = K.tells; view = K.view configs.old; pair = K.pair configs.old; coming = K.coming configs.old })
         (record { tells = K.tells; view = K.view configs.new; pair = K.pair configs.new; coming = K.coming configs.new })
@@ -145,6 +161,7 @@ where
     ensures goes_on_below { result ≡ None → number + 1 < REQUEST_LIMIT }
     ensures read_cause { ReadTurnCause (S.state client_in.old) (S.state client_in.new) result }
     ensures write_cause { WriteTurnCause (O.state client_out.old) (O.state client_out.new) result }
+    ensures kept { IsKept (K.view configs.new) kept.new }
     ensures open { (O.state client_out.new).finished ≡ (O.state client_out.old).finished }
     ensures in_goes_on { SourceGoesOn (S.state client_in.old) (S.state client_in.new) }
     ensures lasts { Lasts
@@ -156,6 +173,7 @@ where
             alloc,
             client,
             number,
+            kept,
             configs,
             &HeadSeen::Block(block),
             client_in,
@@ -169,6 +187,7 @@ where
             alloc,
             client,
             number,
+            kept,
             configs,
             &HeadSeen::Over,
             client_in,
@@ -184,8 +203,57 @@ where
     }
 }
 
-/// Serves requests until the session ends. For the notes there is room.
+/// Serves requests until the session ends, with a store of an entry that the configurations have had. For the notes there is room.
 fn serve<K, S, O, D, T>(
+    alloc: Global,
+    client: &Client<'_>,
+    kept: &mut Kept<'_>,
+    configs: &mut K,
+    client_in: &mut S,
+    client_out: &mut O,
+    dialer: &mut D,
+    clock: &mut T,
+    notes: &mut Vec<ExchangeNote>,
+) -> SessionEnd
+where
+    K: Configs<Held = Config>,
+    S: Source,
+    O: Sink,
+    D: Dialer,
+    T: Clock,
+    requires none { notes.old.items ≡ [] }
+    requires room { REQUEST_LIMIT ≤ vec_capacity notes.old }
+    requires kept { IsKept (K.view configs.old) kept.old }
+    ensures serves { Serves (record { tags = client.now.tags.now; peer = client.now.peer.now.address })
+        (record { tells = K.tells; view = K.view configs.old; pair = K.pair configs.old; coming = K.coming configs.old })
+        (record { tells = K.tells; view = K.view configs.new; pair = K.pair configs.new; coming = K.coming configs.new })
+        (S.state client_in.old) (S.state client_in.new)
+        (record { client_out = O.state client_out.old; dialer = D.state dialer.old; clock = T.state clock.old })
+        (record { client_out = O.state client_out.new; dialer = D.state dialer.new; clock = T.state clock.new })
+        notes.new.items result }
+    ensures read_cause { ReadEndCause (S.state client_in.old) (S.state client_in.new) result }
+    ensures write_cause { WriteEndCause (O.state client_out.old) (O.state client_out.new) result }
+    ensures open { (O.state client_out.new).finished ≡ (O.state client_out.old).finished }
+    ensures in_goes_on { SourceGoesOn (S.state client_in.old) (S.state client_in.new) }
+    ensures lasts { Lasts
+        (record { client_out = O.state client_out.old; dialer = D.state dialer.old; clock = T.state clock.old })
+        (record { client_out = O.state client_out.new; dialer = D.state dialer.new; clock = T.state clock.new }) }
+{
+    let mut ahead = Ahead::new(alloc);
+    let mut number = 0u64;
+    'requests: loop {
+        match turn(
+            alloc, client, number, kept, configs, client_in, &mut ahead, client_out, dialer, clock,
+            notes,
+        ) {
+            Some(end) => return end,
+            None => number += 1,
+        }
+    }
+}
+
+/// Serves with a store of the entry that is held as the session begins. Without memory for the store nothing is read.
+fn serve_kept<K, S, O, D, T>(
     alloc: Global,
     client: &Client<'_>,
     configs: &mut K,
@@ -218,15 +286,18 @@ where
         (record { client_out = O.state client_out.old; dialer = D.state dialer.old; clock = T.state clock.old })
         (record { client_out = O.state client_out.new; dialer = D.state dialer.new; clock = T.state clock.new }) }
 {
-    let mut ahead = Ahead::new(alloc);
-    let mut number = 0u64;
-    'requests: loop {
-        match turn(
-            alloc, client, number, configs, client_in, &mut ahead, client_out, dialer, clock, notes,
-        ) {
-            Some(end) => return end,
-            None => number += 1,
-        }
+    let number = configs.current().number;
+    match configs.owner() {
+        Ok(owner) => match owner.warm(alloc) {
+            Ok(warm) => {
+                let mut kept = Kept { number, warm };
+                serve(
+                    alloc, client, &mut kept, configs, client_in, client_out, dialer, clock, notes,
+                )
+            }
+            Err(Mem) => SessionEnd::NoMemory,
+        },
+        Err(CountFull) => SessionEnd::NoMemory,
     }
 }
 
@@ -263,7 +334,7 @@ where
 {
     match Vec::with_capacity(alloc, REQUEST_LIMIT as usize) {
         Ok(mut notes) => {
-            let end = serve(
+            let end = serve_kept(
                 alloc, client, configs, client_in, client_out, dialer, clock, &mut notes,
             );
             Session {

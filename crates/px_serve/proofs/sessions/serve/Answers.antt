@@ -3,7 +3,7 @@ use Rattle.px_serve.proofs.SessionLemmas.{serving_none, serving_on, serves_to, l
 use Rattle.px_serve.proofs.sessions.serve.Goals as goal
 
 pub requests-init : goal.requests-init
-requests-init g c = record { serving = serving_none c.args.notes.now.items c.new-ahead.result (omega arith) c.requires.none c.new-ahead.ensures; room = c.requires.room }
+requests-init g c = record { serving = serving_none c.args.notes.now.items c.new-ahead.result (omega arith) c.requires.none c.new-ahead.ensures; room = c.requires.room; kept = c.requires.kept }
 
 pub requests-preserved : goal.requests-preserved
 requests-preserved g c =
@@ -12,6 +12,7 @@ requests-preserved g c =
     record {
       serving = serving_on before.serving e.turned (e.goes_on_below refl) (e.one_more refl) e.read_cause e.write_cause c.turn.ensures.open c.turn.ensures.in_goes_on c.turn.ensures.lasts;
       room = omega (arith, before.room, e.room);
+      kept = c.turn.ensures.kept;
     }
 
 pub returns-in-Some-clause-serves : goal.returns-in-Some-clause-serves

@@ -1,0 +1,63 @@
+// The store that a session keeps from request to request.
+ghost use Rattle.std.specs.Prelude.{◌≡◌, ◌++◌, IsTrue};
+ghost use Rattle.px_base.specs.Dials.{DialerGoesOn};
+ghost use Rattle.px_base.specs.Sinks.{SinkGoesOn};
+ghost use Rattle.px_base.specs.Sources.{SourceGoesOn};
+ghost use Rattle.px_pumps.specs.Returning.{WriteCause};
+ghost use Rattle.px_exchange.specs.Causes.{ReadCause};
+ghost use Rattle.px_exchange.specs.Exchange.{Answers};
+ghost use Rattle.px_serve.specs.Keeping.{IsStoreOf};
+
+use px_base::{Dialer, Sink, Source};
+use px_config::Warm;
+use px_exchange::{Conclusion, Handed, answer_cold, answer_request};
+use px_streams::Ahead;
+use std::alloc::Global;
+
+/// What the patterns and filters of the entry with that number keep from search to search.
+#[derive(Drop)]
+pub struct Kept<'c> {
+    pub number: u64,
+    pub warm: Warm<'c>,
+}
+
+/// Answers the request of an entry with that number: with the store kept where it is of that entry, and else with one of its own.
+pub fn answer<S: Source, O: Sink, D: Dialer>(
+    alloc: Global,
+    handed: &Handed<'_>,
+    number: u64,
+    kept: &mut Kept<'_>,
+    client_in: &mut S,
+    ahead: &mut Ahead,
+    client_out: &mut O,
+    dialer: &mut D,
+) -> Conclusion
+    requires { kept.old.number ≡ number → IsStoreOf handed.now.config kept.old }
+    ensures answers { IsTrue (S.state client_in.old).tells → IsTrue (O.state client_out.old).tells → IsTrue (D.state dialer.old).tells
+        → Answers handed.now
+        (record { stream = ahead.old ++ (S.state client_in.old).left; behind = ahead.new ++ (S.state client_in.new).left })
+        (D.state dialer.old) (D.state dialer.new) (O.state client_out.old).taken (O.state client_out.new).taken result }
+    ensures read_cause { ReadCause (S.state client_in.old) (S.state client_in.new) result.after }
+    ensures write_cause { WriteCause (O.state client_out.old) (O.state client_out.new) result.after }
+    ensures open { (O.state client_out.new).finished ≡ (O.state client_out.old).finished }
+    ensures in_goes_on { SourceGoesOn (S.state client_in.old) (S.state client_in.new) }
+    ensures out_goes_on { SinkGoesOn (O.state client_out.old) (O.state client_out.new) }
+    ensures goes_on { DialerGoesOn (D.state dialer.old) (D.state dialer.new) }
+    ensures same_number { kept.new.number ≡ kept.old.number }
+    ensures same_sections { kept.new.warm.sections ≡ kept.old.warm.sections }
+    ensures same_filters { kept.new.warm.filters ≡ kept.old.warm.filters }
+{
+    if kept.number == number {
+        answer_request(
+            alloc,
+            handed,
+            &mut kept.warm,
+            client_in,
+            ahead,
+            client_out,
+            dialer,
+        )
+    } else {
+        answer_cold(alloc, handed, client_in, ahead, client_out, dialer)
+    }
+}
