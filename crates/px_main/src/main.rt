@@ -56,4 +56,6 @@ fn main(rt: HostRuntime) -> ExitCode {
 #[cfg(test)]
 mod load_tests;
 #[cfg(test)]
+mod row_tests;
+#[cfg(test)]
 mod tests;

@@ -103,7 +103,7 @@ pub fn run_over(
 }
 
 /// Whether SENT was put with just that text.
-fn put(run: &Run, text: &str) -> bool {
+pub fn put(run: &Run, text: &str) -> bool {
     match &run.sent {
         Some(sent) => sent.as_bytes() == text.as_bytes(),
         None => false,
