@@ -1,5 +1,5 @@
 -- The one dial of a route.
-use Rattle.std.proofs.Common.{◌≡◌, ℕ, Bool, IsTrue, true, false, not, ◌==◌, List, [], ◌∷◌, ◌++◌, length, drop, Ok, ap, ◌∙◌, refl, subst, inr}
+use Rattle.std.proofs.Common.{◌≡◌, ℕ, Bool, IsTrue, true, false, not, ◌==◌, List, [], ◌∷◌, ◌++◌, length, drop, Ok, ap, ◌∙◌, refl, subst}
 use Rattle.std.specs.Prelude.{MatchBool}
 use Rattle.std.proofs.lemmas.Bool.{or_parts, or_right, or_left, eq-eqb}
 use Rattle.px_base.specs.Causes.{Rose, RisesWith}

@@ -1,5 +1,5 @@
 -- A request that was sent on, the rest being returned.
-use Rattle.std.proofs.Common.{◌≡◌, ℕ, List, ap, ◌∙◌, refl, ◌⊎◌, inl, inr}
+use Rattle.std.proofs.Common.{◌≡◌, ℕ, List, ◌∙◌, refl, ◌⊎◌, inl, inr}
 use Rattle.px_base.specs.Dials.{DialerState}
 use Rattle.px_base.specs.declared.dials.LinkSeen.{LinkSeen}
 use Rattle.px_base.specs.declared.dials.DialOutcome.{DialOutcome}
@@ -20,8 +20,9 @@ use Rattle.px_pumps.specs.declared.talks.Talked.{Talked}
 use Rattle.px_pumps.specs.declared.talks.Talked.TheVariants as talked
 use Rattle.px_exchange.specs.Dialling.{DialsOnce}
 use Rattle.px_exchange.specs.Exchange.{ForwardsSome, TalksOn, asking}
-use Rattle.px_exchange.specs.Forwarding.{Client, Follows, Forwards, Says, Talks, TalksOver, WantsOver, concluded, talked_so, wanted}
-use Rattle.px_exchange.specs.Replies.{ReturnsSome}
+use Rattle.px_exchange.specs.Forwarding.{Client, Follows, Forwards, Says, TalksOver, WantsOver, concluded, talked_so, wanted}
+use Rattle.px_exchange.specs.Replies.{ReturnsSome, page_due}
+use Rattle.px_templates.specs.declared.pages.Page.{Page}
 
 -- what is said of an end in one sense is said in another
 record Also (P Q : Says) : Type 0 where
@@ -125,7 +126,7 @@ with_gives : (route : Route) (old new : DialerState) (P Q : DialOutcome → Type
 with_gives route old new P Q k q = record { dial = k.dial; added = k.added; to_host = k.to_host; to_port = k.to_port; gives = q; comes = k.comes; coming_left = k.coming_left; cause = k.cause }
 
 -- a request that was sent on, the rest being returned
-pub forwards_some : (config : Config) (plan : Plan) (c : Client) (old new : DialerState) (taken mid taken' : List ℕ) (t : Talked) (x : Conclusion)
+forwards_some : (config : Config) (plan : Plan) (c : Client) (old new : DialerState) (taken mid taken' : List ℕ) (t : Talked) (x : Conclusion)
     → ((d : Due) (before : List ℕ) → SaysDue (asking config plan).page_due d before mid t → ReturnsSome d before taken' x)
     → ((y : Conclusion) → t ≡ talked.Ended y → (x ≡ y) × (taken' ≡ mid))
     → TalksOn (asking config plan) plan.route plan.message c old new taken mid t
@@ -138,3 +139,21 @@ forwards_some config plan c old new taken mid taken' t x returns ended (inl d) =
 forwards_some config plan c old new taken mid taken' t x returns ended (inr w) =
     let e = ended (broken after.NoMemory) w.0 in
     inr (e.0, inl (w.1, e.1 ∙ w.2))
+
+-- a page is returned in place of an answer
+pub page_forwards : (config : Config) (plan : Plan) (c : Client) (old new : DialerState) (taken mid taken' : List ℕ) (p : Page) (x : Conclusion)
+    → ReturnsSome (page_due config plan.url plan.route plan.bodiless p) mid taken' x
+    → TalksOn (asking config plan) plan.route plan.message c old new taken mid (talked.Page p)
+    → ForwardsSome config plan c old new taken taken' x
+page_forwards config plan c old new taken mid taken' p x r talks =
+    forwards_some config plan c old new taken mid taken' (talked.Page p) x (λ d before h. rw (h.0, ← h.1) r) (λ y e. absurd (cc)) talks
+
+-- the talk said all
+pub ended_forwards : (config : Config) (plan : Plan) (c : Client) (old new : DialerState) (taken taken' : List ℕ) (x : Conclusion)
+    → TalksOn (asking config plan) plan.route plan.message c old new taken taken' (talked.Ended x)
+    → ForwardsSome config plan c old new taken taken' x
+ended_forwards config plan c old new taken taken' x talks =
+    forwards_some config plan c old new taken taken' taken' (talked.Ended x) x (λ d before h. inl h) (λ y e. (same y e, refl)) talks
+  where
+    same : (y : Conclusion) → talked.Ended x ≡ talked.Ended y → x ≡ y
+    same y e = (cc)

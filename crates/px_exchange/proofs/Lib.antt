@@ -1,4 +1,3 @@
-pub mod LastingLemmas
 pub mod DiallingLemmas
 pub mod TalkLemmas
 pub mod ForwardingLemmas

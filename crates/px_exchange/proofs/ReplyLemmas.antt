@@ -1,5 +1,5 @@
--- Replies without a dial.
-use Rattle.std.proofs.Common.{◌≡◌, ℕ, Bool, true, false, cond, List, Option, None, Some, Result, Ok, Err, refl, ap, inl, inr}
+-- Exchanges by what was judged, and that no reply without a dial speaks of one.
+use Rattle.std.proofs.Common.{◌≡◌, ℕ, Bool, true, false, cond, List, Option, None, Some, Result, Ok, Err, refl, sym, subst, inl, inr}
 use Rattle.px_base.specs.Dials.{DialerState}
 use Rattle.px_head.specs.declared.requests.RequestHead.{RequestHead}
 use Rattle.px_patterns.specs.declared.faults.UrlFault.{UrlFault}
@@ -17,6 +17,8 @@ use Rattle.px_judging.specs.Judging.{Judged, by_decision, by_headers, by_method,
 use Rattle.px_judging.specs.Requests.{body_read, is_connect, tagged, target_read, vars_of}
 use Rattle.px_judging.specs.declared.judgements.Judgement.{Judgement}
 use Rattle.px_judging.specs.declared.judgements.Judgement.TheVariants as judgement
+use Rattle.px_judging.specs.declared.judgements.Plan.{Plan}
+use Rattle.px_judging.specs.declared.judgements.TunnelPlan.{TunnelPlan}
 use Rattle.px_judging.specs.declared.readings.Reading.{Reading}
 use Rattle.px_judging.specs.declared.readings.Reading.TheVariants.{Overlong, Malformed, TooManyFields, Head}
 use Rattle.px_judging.specs.declared.replies.LocalReply.{LocalReply}
@@ -24,12 +26,11 @@ use Rattle.px_judging.specs.declared.replies.ReplyKind.{ReplyKind}
 use Rattle.px_judging.specs.declared.replies.ReplyKind.TheVariants as kind
 use Rattle.px_judging.specs.declared.requests.Request.{Request}
 use Rattle.px_judging.specs.declared.requests.Tags.{Tags}
-use Rattle.px_pumps.specs.Returning.{IsAnswerEnding}
 use Rattle.px_pumps.specs.declared.notes.Conclusion.{Conclusion}
 use Rattle.px_pumps.specs.declared.notes.Ending.{Ending}
 use Rattle.px_pumps.specs.declared.notes.Ending.TheVariants as ending
-use Rattle.px_exchange.specs.Causes.{EndingCause, PageCause}
-use Rattle.px_exchange.specs.Exchange.{Answers}
+use Rattle.px_exchange.specs.Causes.{EndingCause}
+use Rattle.px_exchange.specs.Exchange.{Answers, ForwardsSome}
 use Rattle.px_exchange.specs.Forwarding.{Client}
 use Rattle.px_exchange.specs.Replies.{ReturnsSome, ending_of, local_due, no_tunnel}
 
@@ -39,10 +40,15 @@ pub local_answers : (g : Given) (reply : LocalReply) (c : Client) (d : DialerSta
 local_answers g reply c d taken taken' x j u (inl whole) = inl (record { judgement = judgement.Local reply; judged = j; does = (refl, u, whole) })
 local_answers g reply c d taken taken' x j u (inr wants) = inr (record { judgement = Some (judgement.Local reply); judged = j; wants = (refl, u, wants.0); concluded = wants.1 })
 
-pub tunnel_answers : (g : Given) (plan : _) (c : Client) (d : DialerState) (taken taken' : List ℕ) (x : Conclusion)
+pub tunnel_answers : (g : Given) (plan : TunnelPlan) (c : Client) (d : DialerState) (taken taken' : List ℕ) (x : Conclusion)
     → Judged g (judgement.Tunnel plan) → c.behind ≡ c.stream → ReturnsSome (local_due g.config (no_tunnel plan)) taken taken' x → Answers g c d d taken taken' x
 tunnel_answers g plan c d taken taken' x j u (inl whole) = inl (record { judgement = judgement.Tunnel plan; judged = j; does = (refl, u, whole) })
 tunnel_answers g plan c d taken taken' x j u (inr wants) = inr (record { judgement = Some (judgement.Tunnel plan); judged = j; wants = (refl, u, wants.0); concluded = wants.1 })
+
+pub forward_answers : (g : Given) (plan : Plan) (c : Client) (old new : DialerState) (taken taken' : List ℕ) (x : Conclusion)
+    → Judged g (judgement.Forward plan) → ForwardsSome g.config plan c old new taken taken' x → Answers g c old new taken taken' x
+forward_answers g plan c old new taken taken' x j (inl whole) = inl (record { judgement = judgement.Forward plan; judged = j; does = whole })
+forward_answers g plan c old new taken taken' x j (inr wants) = inr (record { judgement = Some (judgement.Forward plan); judged = j; wants = wants.1; concluded = wants.0 })
 
 -- ---- no reply without a dial is a page that speaks of one
 
@@ -107,31 +113,5 @@ same_page old new ending.Broken e' same h = tt
 pub local_cause : (g : Given) (reply : LocalReply) (old new : DialerState) (e : Ending) → Judged g (judgement.Local reply)
     → ((p : Page) → e ≡ ending.Page p → ending_of reply.kind ≡ ending.Page p) → EndingCause old new e
 local_cause g reply old new e j same =
-    let quiet : IsQuiet (judgement.Local reply) = rw j.is (judged_quiet g j.reading) in
+    let quiet = subst (λ (x : Judgement). IsQuiet x) (sym j.is) (judged_quiet g j.reading) in
     same_page old new e (ending_of reply.kind) same (quiet old new)
-
--- the page that was to be returned, or nothing that is a page
-pub page_returned : (old new : DialerState) (p : Page) (e : Ending) → ((q : Page) → e ≡ ending.Page q → q ≡ p) → PageCause old new p → EndingCause old new e
-page_returned old new p (ending.Page q) same h = rw (← same q refl) at h
-page_returned old new p ending.Image same h = tt
-page_returned old new p ending.Empty same h = tt
-page_returned old new p ending.Redirect same h = tt
-page_returned old new p ending.Passed same h = tt
-page_returned old new p ending.Filtered same h = tt
-page_returned old new p ending.Bodiless same h = tt
-page_returned old new p ending.CutFront same h = tt
-page_returned old new p ending.Tunnel same h = tt
-page_returned old new p ending.Broken same h = tt
-
--- the ending of an answer has no cause at the dialer
-pub answer_cause : (old new : DialerState) (e : Ending) → IsAnswerEnding e → EndingCause old new e
-answer_cause old new (ending.Page p) h = absurd h
-answer_cause old new ending.Image h = tt
-answer_cause old new ending.Empty h = tt
-answer_cause old new ending.Redirect h = tt
-answer_cause old new ending.Passed h = tt
-answer_cause old new ending.Filtered h = tt
-answer_cause old new ending.Bodiless h = tt
-answer_cause old new ending.CutFront h = tt
-answer_cause old new ending.Tunnel h = tt
-answer_cause old new ending.Broken h = tt

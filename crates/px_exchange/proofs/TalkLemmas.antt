@@ -1,30 +1,21 @@
 -- What came of a talk over one link.
 use Rattle.std.specs.Prelude.{MatchBool}
-use Rattle.std.proofs.Common.{◌≡◌, ℕ, ◌-◌, ◌≤◌, Bool, true, false, not, ◌==◌, List, ◌++◌, length, take, Option, None, Some, unwrap_or, sym, ap, ◌∙◌, refl, arith, length-append, [], inl, inr}
+use Rattle.std.proofs.Common.{◌≡◌, ℕ, ◌-◌, ◌≤◌, Bool, true, false, not, ◌==◌, List, ◌++◌, length, take, None, sym, ap, ◌∙◌, refl, arith, length-append, [], inl, inr}
 use Rattle.std.proofs.Math.Seq.{take-append_seam}
 use Rattle.px_base.specs.Causes.{Rose}
-use Rattle.px_base.specs.Sources.{SourceState, SourceGoesOn}
+use Rattle.px_base.specs.Sources.{SourceState}
 use Rattle.px_base.specs.Sinks.{SinkState}
 use Rattle.px_streams.specs.Streams.{IsStream}
-use Rattle.px_sending.specs.Sends.{RoseWhere, Sends, is_link_failed, is_read_failed, is_write_failed}
+use Rattle.px_sending.specs.Sends.{Sends, is_link_failed}
 use Rattle.px_sending.specs.declared.messages.Message.{Message}
 use Rattle.px_sending.specs.declared.messages.Sent.{Sent}
 use Rattle.px_sending.specs.declared.messages.Sent.TheVariants as sent
-use Rattle.px_templates.specs.declared.pages.Page.{Page}
-use Rattle.px_templates.specs.declared.pages.Page.TheVariants as page
 use Rattle.px_pumps.specs.Answering.{Ask, Answered}
 use Rattle.px_pumps.specs.Hearing.{HearsStream, AnswerGives}
-use Rattle.px_pumps.specs.Returning.{AddsPrefix, HasDue, IsAnswerAfter, IsHeard, SaysDue, TalkCause, WriteCause, broken}
+use Rattle.px_pumps.specs.Returning.{AddsPrefix, HasDue, SaysDue}
 use Rattle.px_pumps.specs.declared.dues.Due.{Due}
-use Rattle.px_pumps.specs.declared.notes.After.{After}
-use Rattle.px_pumps.specs.declared.notes.After.TheVariants as after
 use Rattle.px_pumps.specs.declared.talks.Talked.{Talked}
-use Rattle.px_pumps.specs.declared.talks.Talked.TheVariants as talked
-use Rattle.px_exchange.specs.Causes.{ReadCause, TalkLinkCause, TalkReadCause}
-use Rattle.px_exchange.specs.Forwarding.{Client, StopsOver, Talks, TalksOverLink, WantsOverLink, answer_of, link_seen, stopped, talked_so, wanted}
-
-some_is : (x y : Talked) → Some x ≡ Some y → x ≡ y
-some_is x y e = ap (λ (o : Option Talked). unwrap_or o x) e
+use Rattle.px_exchange.specs.Forwarding.{Client, TalksOverLink, answer_of, link_seen, stopped}
 
 -- an end of a fresh link failed exactly where its count isn't 0
 pub failed_now : (failed : Bool) (old new : ℕ) → old ≡ 0 → MatchBool failed (Rose old new) (new ≡ old) → not (new == 0) ≡ failed
@@ -81,92 +72,3 @@ talk_whole ask m c i i' o' taken mid taken' sent.Cut t failed e s l fresh none s
 talk_whole ask m c i i' o' taken mid taken' sent.ReadFailed t failed e s l fresh none same cause h = absurd (cc)
 talk_whole ask m c i i' o' taken mid taken' sent.WriteFailed t failed e s l fresh none same cause h = absurd (cc)
 talk_whole ask m c i i' o' taken mid taken' sent.NoMemory t failed e s l fresh none same cause h = absurd (cc)
-
--- the request wasn't sent whole
-pub talk_stopped : (ask : Ask) (m : Message) (c : Client) (i : SourceState) (o' : SinkState) (taken mid : List ℕ) (how : Sent) (t : Talked)
-    → Some t ≡ stopped how → Sends m c.stream c.behind [] o'.taken taken mid how → not (o'.faults == 0) ≡ is_link_failed how
-    → TalksOverLink ask m c taken mid t (link_seen i o')
-talk_stopped ask m c i o' taken mid sent.Whole t e s l = absurd (cc)
-talk_stopped ask m c i o' taken mid sent.LinkFailed t e s l = rw (some_is t _ e) (inl (record { how = sent.LinkFailed; mid = mid; sends = s; by_link = l; follows = (refl, refl) }))
-talk_stopped ask m c i o' taken mid sent.Misframed t e s l = rw (some_is t _ e) (inl (record { how = sent.Misframed; mid = mid; sends = s; by_link = l; follows = (refl, refl) }))
-talk_stopped ask m c i o' taken mid sent.Cut t e s l = rw (some_is t _ e) (inl (record { how = sent.Cut; mid = mid; sends = s; by_link = l; follows = (refl, refl) }))
-talk_stopped ask m c i o' taken mid sent.ReadFailed t e s l = rw (some_is t _ e) (inl (record { how = sent.ReadFailed; mid = mid; sends = s; by_link = l; follows = (refl, refl) }))
-talk_stopped ask m c i o' taken mid sent.WriteFailed t e s l = rw (some_is t _ e) (inl (record { how = sent.WriteFailed; mid = mid; sends = s; by_link = l; follows = (refl, refl) }))
-talk_stopped ask m c i o' taken mid sent.NoMemory t e s l = rw (some_is t _ e) (inr (refl, inr (record { how = sent.NoMemory; silent = tt; sends = s })))
-
--- ---- causes
-
--- the client's source failed exactly where what comes after says so
-pub stopped_read : (old new : SourceState) (how : Sent) (t : Talked) → Some t ≡ stopped how → RoseWhere (is_read_failed how) old.faults new.faults → TalkReadCause old new t
-stopped_read old new sent.Whole t e r = absurd (cc)
-stopped_read old new sent.LinkFailed t e r = rw (some_is t _ e) r
-stopped_read old new sent.Misframed t e r = rw (some_is t _ e) r
-stopped_read old new sent.Cut t e r = rw (some_is t _ e) r
-stopped_read old new sent.ReadFailed t e r = rw (some_is t _ e) r
-stopped_read old new sent.WriteFailed t e r = rw (some_is t _ e) r
-stopped_read old new sent.NoMemory t e r = rw (some_is t _ e) r
-
-pub stopped_write : (old new : SinkState) (how : Sent) (t : Talked) → Some t ≡ stopped how → RoseWhere (is_write_failed how) old.faults new.faults → TalkCause old new t
-stopped_write old new sent.Whole t e r = absurd (cc)
-stopped_write old new sent.LinkFailed t e r = rw (some_is t _ e) r
-stopped_write old new sent.Misframed t e r = rw (some_is t _ e) r
-stopped_write old new sent.Cut t e r = rw (some_is t _ e) r
-stopped_write old new sent.ReadFailed t e r = rw (some_is t _ e) r
-stopped_write old new sent.WriteFailed t e r = rw (some_is t _ e) r
-stopped_write old new sent.NoMemory t e r = rw (some_is t _ e) r
-
-pub stopped_page : (old new : SinkState) (how : Sent) (t : Talked) → Some t ≡ stopped how → RoseWhere (is_link_failed how) old.faults new.faults → TalkLinkCause old new t
-stopped_page old new sent.Whole t e r = absurd (cc)
-stopped_page old new sent.LinkFailed t e r = rw (some_is t _ e) r
-stopped_page old new sent.Misframed t e r = rw (some_is t _ e) tt
-stopped_page old new sent.Cut t e r = rw (some_is t _ e) tt
-stopped_page old new sent.ReadFailed t e r = rw (some_is t _ e) tt
-stopped_page old new sent.WriteFailed t e r = rw (some_is t _ e) tt
-stopped_page old new sent.NoMemory t e r = rw (some_is t _ e) tt
-
--- a request that was sent whole failed nothing
-pub calm_read : (before now : ℕ) (how : Sent) → None ≡ stopped how → RoseWhere (is_read_failed how) before now → now ≡ before
-calm_read before now sent.Whole e r = r
-calm_read before now sent.LinkFailed e r = absurd (cc)
-calm_read before now sent.Misframed e r = absurd (cc)
-calm_read before now sent.Cut e r = absurd (cc)
-calm_read before now sent.ReadFailed e r = absurd (cc)
-calm_read before now sent.WriteFailed e r = absurd (cc)
-calm_read before now sent.NoMemory e r = absurd (cc)
-
-pub calm_write : (before now : ℕ) (how : Sent) → None ≡ stopped how → RoseWhere (is_write_failed how) before now → now ≡ before
-calm_write before now sent.Whole e r = r
-calm_write before now sent.LinkFailed e r = absurd (cc)
-calm_write before now sent.Misframed e r = absurd (cc)
-calm_write before now sent.Cut e r = absurd (cc)
-calm_write before now sent.ReadFailed e r = absurd (cc)
-calm_write before now sent.WriteFailed e r = absurd (cc)
-calm_write before now sent.NoMemory e r = absurd (cc)
-
-answer_read : (old new : SourceState) (a : After) → IsAnswerAfter a → new.faults ≡ old.faults → ReadCause old new a
-answer_read old new after.Keep h e = e
-answer_read old new after.Close h e = e
-answer_read old new after.Cut h e = e
-answer_read old new after.ReadFailed h e = absurd h
-answer_read old new after.WriteFailed h e = e
-answer_read old new after.NoMemory h e = e
-
-pub heard_read : (old new : SourceState) (t : Talked) → IsHeard t → new.faults ≡ old.faults → TalkReadCause old new t
-heard_read old new (talked.Page p) h e = e
-heard_read old new (talked.Ended x) h e = answer_read old new x.after h.1 e
-
-pub heard_page : (old new : SinkState) (t : Talked) → IsHeard t → TalkLinkCause old new t
-heard_page old new (talked.Page p) h = elim h [ inl e ↦ rw e tt | inr e ↦ rw e tt ]
-heard_page old new (talked.Ended x) h = h.0
-
-write_from : (old mid new : SinkState) (a : After) → mid.faults ≡ old.faults → WriteCause mid new a → WriteCause old new a
-write_from old mid new after.Keep e h = h ∙ e
-write_from old mid new after.Close e h = h ∙ e
-write_from old mid new after.Cut e h = h ∙ e
-write_from old mid new after.ReadFailed e h = h ∙ e
-write_from old mid new after.WriteFailed e h = rw e at h
-write_from old mid new after.NoMemory e h = h ∙ e
-
-pub talk_write_from : (old mid new : SinkState) (t : Talked) → mid.faults ≡ old.faults → TalkCause mid new t → TalkCause old new t
-talk_write_from old mid new (talked.Page p) e h = h ∙ e
-talk_write_from old mid new (talked.Ended x) e h = write_from old mid new x.after e h

@@ -1,5 +1,5 @@
 -- Forwarding: what is sent, and what is due, for a request that is sent on, by what came of its one dial.
-use Rattle.std.specs.Prelude.{◌≡◌, ℕ, Bool, true, false, not, ◌==◌, ◌⊎◌, List, [], Option, Some, None, if◌then◌else◌}
+use Rattle.std.specs.Prelude.{◌≡◌, ℕ, not, ◌==◌, ◌⊎◌, List, [], Option, Some, None, if◌then◌else◌}
 use Rattle.px_base.specs.Sources.{SourceState, given}
 use Rattle.px_base.specs.Sinks.{SinkState}
 use Rattle.px_base.specs.declared.dials.LinkSeen.{LinkSeen}

@@ -10,7 +10,6 @@ use Rattle.px_judging.specs.Replies.{reply_bytes, url_symbols}
 use Rattle.px_judging.specs.declared.replies.LocalReply.{LocalReply}
 use Rattle.px_judging.specs.declared.replies.ReplyKind.{ReplyKind}
 use Rattle.px_judging.specs.declared.replies.ReplyKind.TheVariants as kind
-use Rattle.px_judging.specs.declared.judgements.Plan.{Plan}
 use Rattle.px_judging.specs.declared.judgements.TunnelPlan.{TunnelPlan}
 use Rattle.px_pumps.specs.Answering.{after_whole}
 use Rattle.px_pumps.specs.Returning.{Returns, AddsPrefix, broken}
