@@ -7,10 +7,6 @@ use Rattle.px_base.specs.Dials.{DialerState, DialerGoesOn}
 use Rattle.px_base.specs.Moments.{ClockState, ClockGoesOn}
 use Rattle.px_judging.specs.declared.readings.HeadSeen.{HeadSeen}
 use Rattle.px_exchange.specs.declared.notes.ExchangeNote.{ExchangeNote}
-use Rattle.px_exchange.specs.Causes.{ReadCause}
-use Rattle.px_pumps.specs.declared.notes.After.{After}
-use Rattle.px_pumps.specs.declared.notes.After.TheVariants as after
-use Rattle.px_pumps.specs.Returning.{WriteCause}
 use Rattle.px_serve.specs.declared.ends.SessionEnd.{SessionEnd}
 use Rattle.px_serve.specs.declared.ends.SessionEnd.TheVariants as end
 use Rattle.px_serve.specs.declared.ends.TheConstants.{REQUEST_LIMIT}
@@ -18,7 +14,7 @@ use Rattle.px_head.specs.Blocks.{head_end}
 use Rattle.px_head.specs.declared.TheConstants.{HEAD_LIMIT}
 use Rattle.px_head.specs.declared.blocks.HeadEnd.TheVariants as head
 use Rattle.std.specs.Prelude.{if◌then◌else◌}
-use Rattle.px_serve.specs.Ends.{end_after, end_of_bytes, only_empty, ReadEndCause, ReadTurnCause, WriteTurnCause}
+use Rattle.px_serve.specs.Ends.{end_after, end_of_bytes, only_empty}
 use Rattle.px_serve.specs.Histories.{Begun, Looks, Noted, note_of}
 use Rattle.px_serve.specs.Sessions.{Caller, Objects, Lasts, HeadOf, EndsBetween, Tell, Begins, Turns, Turned, Serves, Reaches, begin, state_at, is_last, Step}
 use Rattle.px_serve.proofs.HistoryLemmas.{noted_more, noted_none, none_noted}
@@ -49,43 +45,6 @@ turned_none {looks = looks} {o = o} {notes = notes} why = record {
   history = λ first clock before h. noted_none first looks clock o.clock before h;
   turns = λ t before. inl (record { undialled = refl; unreturned = refl; unbegun = append-nil before; why = why t });
 }
-
--- ---- causes of ends
-
--- behind an exchange, as its own cause is
-pub read_turn : (old new : SourceState) (last : Bool) (a : After) → ReadCause old new a → ReadTurnCause old new (end_after last a)
-read_turn old new true after.Keep h = h
-read_turn old new false after.Keep h = h
-read_turn old new true after.Close h = h
-read_turn old new false after.Close h = h
-read_turn old new last after.Cut h = h
-read_turn old new last after.ReadFailed h = h
-read_turn old new last after.WriteFailed h = h
-read_turn old new last after.NoMemory h = h
-
-pub write_turn : (old new : SinkState) (last : Bool) (a : After) → WriteCause old new a → WriteTurnCause old new (end_after last a)
-write_turn old new true after.Keep h = h
-write_turn old new false after.Keep h = h
-write_turn old new true after.Close h = h
-write_turn old new false after.Close h = h
-write_turn old new last after.Cut h = h
-write_turn old new last after.ReadFailed h = h
-write_turn old new last after.WriteFailed h = h
-write_turn old new last after.NoMemory h = h
-
--- behind a head that was read without a fault
-read_end_from : (old mid new : SourceState) (e : SessionEnd) → mid.faults ≡ old.faults → ReadEndCause mid new e → ReadEndCause old new e
-read_end_from old mid new end.ReadFailed same h = rw same at h
-read_end_from old mid new end.Ended same h = h ∙ same
-read_end_from old mid new end.Cut same h = h ∙ same
-read_end_from old mid new end.Closed same h = h ∙ same
-read_end_from old mid new end.Spent same h = h ∙ same
-read_end_from old mid new end.WriteFailed same h = h ∙ same
-read_end_from old mid new end.NoMemory same h = h ∙ same
-
-pub read_turn_from : (old mid new : SourceState) (e : Option SessionEnd) → mid.faults ≡ old.faults → ReadTurnCause mid new e → ReadTurnCause old new e
-read_turn_from old mid new None same h = h ∙ same
-read_turn_from old mid new (Some e) same h = read_end_from old mid new e same h
 
 -- the client's bytes ended
 pub ends_at : (stream ahead left : List ℕ) → head_end HEAD_LIMIT stream ≡ head.NotYet → ahead ++ left ≡ stream → left ≡ [] → EndsBetween stream left (end_of_bytes ahead)

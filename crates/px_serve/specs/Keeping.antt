@@ -1,5 +1,5 @@
 -- The store that a session keeps from request to request: of one entry of its configurations.
-use Rattle.std.specs.Prelude.{◌≡◌, ℕ, List, Some, slice_get}
+use Rattle.std.specs.Prelude.{◌≡◌, List, Some, slice_get}
 use Rattle.px_config.specs.declared.configs.Config.{Config}
 use Rattle.px_serve.specs.declared.keeping.Kept.{Kept}
 

@@ -1,6 +1,6 @@
 -- Sessions: exchanges chained over one client's stream.
 use Rattle.std.specs.Prelude.{◌≡◌, ℕ, ◌+◌, zero, suc, Bool, true, false, ◌==◌, IsTrue, ◌⊎◌, List, [], ◌∷◌, ◌++◌, length, map, Option, None, Some}
-use Rattle.px_base.specs.Sources.{SourceState, SourceGoesOn}
+use Rattle.px_base.specs.Sources.{SourceState}
 use Rattle.px_base.specs.Sinks.{SinkState, SinkGoesOn}
 use Rattle.px_base.specs.Dials.{DialerState, DialerGoesOn}
 use Rattle.px_base.specs.Moments.{ClockState, ClockGoesOn}

@@ -32,7 +32,7 @@ pub fn answer<S: Source, O: Sink, D: Dialer>(
     client_out: &mut O,
     dialer: &mut D,
 ) -> Conclusion
-    requires { kept.old.number ≡ number → IsStoreOf handed.now.config kept.old }
+    requires of { kept.old.number ≡ number → IsStoreOf handed.now.config kept.old }
     ensures answers { IsTrue (S.state client_in.old).tells → IsTrue (O.state client_out.old).tells → IsTrue (D.state dialer.old).tells
         → Answers handed.now
         (record { stream = ahead.old ++ (S.state client_in.old).left; behind = ahead.new ++ (S.state client_in.new).left })

@@ -1,6 +1,5 @@
 use Rattle.std.proofs.Common.{refl}
 use Rattle.px_serve.proofs.KeepingLemmas.{kept_on, store_of}
-use Rattle.px_serve.proofs.SessionLemmas.{read_turn, write_turn}
 use Rattle.px_serve.proofs.sessions.serve_request.Goals as goal
 
 pub returns-clause-begins : goal.returns-clause-begins
@@ -27,14 +26,8 @@ pub returns-clause-lasts : goal.returns-clause-lasts
 returns-clause-lasts g c =
     record { client_out = c.answer-concluded.ensures.out_goes_on; dialer = c.answer-concluded.ensures.goes_on; clock = c.now-moment.ensures.goes_on }
 
-pub returns-clause-read_cause : goal.returns-clause-read_cause
-returns-clause-read_cause g c = rw c.end_after.ensures (read_turn _ _ c.last.value c.answer-concluded.result.after c.answer-concluded.ensures.read_cause)
-
-pub returns-clause-write_cause : goal.returns-clause-write_cause
-returns-clause-write_cause g c = rw c.end_after.ensures (write_turn _ _ c.last.value c.answer-concluded.result.after c.answer-concluded.ensures.write_cause)
-
-pub answer-concluded-requires : goal.answer-concluded-requires
-answer-concluded-requires g c e =
+pub answer-concluded-requires-clause-of : goal.answer-concluded-requires-clause-of
+answer-concluded-requires-clause-of g c lives outlives e =
     store_of (g.K.Configs.view c.args.configs.now) (g.K.Configs.view c.look.new.self) c.args.kept.now c.current-snapshot.result.number c.current-snapshot.result.config.now
     c.look.ensures.goes_on c.requires.kept c.current-snapshot.ensures.config e
 

@@ -1,6 +1,6 @@
 use Rattle.std.proofs.Common.{refl}
 use Rattle.px_judging.specs.declared.readings.HeadSeen.TheVariants as seen
-use Rattle.px_serve.proofs.SessionLemmas.{turned_one, turned_none, ends_at, read_turn_from, source_goes_on}
+use Rattle.px_serve.proofs.SessionLemmas.{turned_one, turned_none, ends_at}
 use Rattle.px_serve.proofs.sessions.turn.Goals as goal
 
 pub returns-in-Ok-Block-clause-turned : goal.returns-in-Ok-Block-clause-turned
@@ -10,18 +10,6 @@ returns-in-Ok-Block-clause-turned g c =
 pub returns-in-Ok-Over-clause-turned : goal.returns-in-Ok-Over-clause-turned
 returns-in-Ok-Over-clause-turned g c =
     turned_one seen.Over _ c.read_front.ensures.goes_on (λ t. rw c.in-Ok-Over.field-0-is at (c.in-Ok-Over.ensures.stands t.client_in)) c.serve_request-in-Ok-Over.ensures.begins
-
-pub returns-in-Ok-Block-clause-read_cause : goal.returns-in-Ok-Block-clause-read_cause
-returns-in-Ok-Block-clause-read_cause g c = read_turn_from _ (g.S.Source.state c.read_front.new.source) _ c.serve_request.result c.in-Ok-Block.ensures.cause c.serve_request.ensures.read_cause
-
-pub returns-in-Ok-Over-clause-read_cause : goal.returns-in-Ok-Over-clause-read_cause
-returns-in-Ok-Over-clause-read_cause g c = read_turn_from _ (g.S.Source.state c.read_front.new.source) _ c.serve_request-in-Ok-Over.result c.in-Ok-Over.ensures.cause c.serve_request-in-Ok-Over.ensures.read_cause
-
-pub returns-in-Ok-Block-clause-in_goes_on : goal.returns-in-Ok-Block-clause-in_goes_on
-returns-in-Ok-Block-clause-in_goes_on g c = source_goes_on c.read_front.ensures.goes_on c.serve_request.ensures.in_goes_on
-
-pub returns-in-Ok-Over-clause-in_goes_on : goal.returns-in-Ok-Over-clause-in_goes_on
-returns-in-Ok-Over-clause-in_goes_on g c = source_goes_on c.read_front.ensures.goes_on c.serve_request-in-Ok-Over.ensures.in_goes_on
 
 pub returns-in-Ok-End-clause-turned : goal.returns-in-Ok-End-clause-turned
 returns-in-Ok-End-clause-turned g c = turned_none (λ t.
