@@ -14,8 +14,8 @@ mod targets;
 
 pub use handed::Handed;
 pub use judgements::{Judgement, Plan, TunnelPlan};
-pub use px_answers::Asked;
 pub use judging::judge;
+pub use px_answers::Asked;
 pub use readings::{HeadSeen, Reading, read_request};
 pub use replies::{LocalReply, ReplyKind, reply_bytes, url_symbols};
 

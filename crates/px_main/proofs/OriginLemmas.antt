@@ -2,7 +2,7 @@
 use Rattle.std.proofs.Common.{◌≡◌, ℕ, suc, ◌+◌, ◌-◌, ◌≤◌, ◌<◌, Bool, true, false, ◌==◌, not, ◌&&◌, cond, List, [], ◌∷◌, ◌++◌, length, take, drop, get_or, Option, Some, None, refl, sym, ap, ◌∙◌, subst, arith, ltb, leb, add-one, take-append-drop, length-take-le, append_assoc, append-nil, length-append, inl, inr}
 use Rattle.std.specs.Prelude.{unwrap_or, codes}
 use Rattle.std.specs.List.{position, position_or_len}
-use Rattle.std.proofs.lemmas.Bool.{ltb-true, leb-true, le-leb, lt-ltb, and_parts, eqb-true}
+use Rattle.std.proofs.lemmas.Bool.{ltb-true, leb-true, le-leb, lt-ltb, and_parts, eqb-true, eqb-false}
 use Rattle.std.proofs.lemmas.List.Sums.{split_at_first, passes_at_first}
 use Rattle.std.proofs.lemmas.Grind.{common_steps}
 use Rattle.px_base.specs.Numbers.{decimal, all_digits, with_digits, is_digit}
@@ -138,11 +138,13 @@ word_at word text rest i within (inr h) = ap (λ (xs : List ℕ). get_or xs i 0)
 -- a word line isn't the other one
 no_two : (text rest other : List ℕ) → BeginsWithWord (codes "no-name") text rest → BeginsWithWord (codes "not-reached") text other → ⊥
 no_two text rest other h k =
-    let e : 45 ≡ 116 = sym (word_at (codes "no-name") text rest 2 (omega arith) h) ∙ word_at (codes "not-reached") text other 2 (omega arith) k in
-    (cc)
+    let a : get_or text 2 0 ≡ 45 = word_at (codes "no-name") text rest 2 (omega arith) h in
+    let b : get_or text 2 0 ≡ 116 = word_at (codes "not-reached") text other 2 (omega arith) k in
+    omega (arith, a, b)
 
 -- an entry of bytes begins with a digit
 digit_first : (text bytes rest : List ℕ) → BeginsWith text bytes rest → is_digit (get_or text 0 0) ≡ true
+unfolding decimal
 digit_first text bytes rest h = by h.digits h.counts h.parts
   where
     by : (ds : List ℕ) → decimal 99999999 ds ≡ Some (length bytes) → text ≡ ds ++ 10 ∷ (bytes ++ rest) → is_digit (get_or text 0 0) ≡ true
@@ -151,10 +153,29 @@ digit_first text bytes rest h = by h.digits h.counts h.parts
 
 no_word : (word text bytes rest other : List ℕ) → 0 < length word → get_or word 0 0 ≡ 110 → BeginsWith text bytes rest → BeginsWithWord word text other → ⊥
 no_word word text bytes rest other some n h k =
-    let digit = digit_first text bytes rest h in
     let first : get_or text 0 0 ≡ 110 = word_at word text other 0 some k ∙ n in
-    let wrong : is_digit 110 ≡ true = rw first at digit in
-    (cc)
+    no_digit (rw first at (digit_first text bytes rest h))
+  where
+    no_digit : is_digit 110 ≡ true → ⊥
+    no_digit e = absurd (cc)
+
+pub word_none : (word text rest : List ℕ) → ((other : List ℕ) → text ≡ word ++ other → ⊥) → BeginsWithWord word text rest → ⊥
+word_none word text rest none (inl e) = none (10 ∷ rest) e
+word_none word text rest none (inr h) = none [] (h.0 ∙ sym (append-nil word))
+
+pub word_bare : (word text : List ℕ) → text ≡ word ++ [] → BeginsWithWord word text []
+word_bare word text e = inr (e ∙ append-nil word, refl)
+
+pub word_line : (word text rest : List ℕ) → text ≡ word ++ 10 ∷ rest → BeginsWithWord word text rest
+word_line word text rest e = inl e
+
+pub word_other : (word text rest more : List ℕ) (x : ℕ) → text ≡ word ++ x ∷ more → (x == 10) ≡ false → BeginsWithWord word text rest → ⊥
+word_other word text rest more x e other (inl h) =
+    let same : x ≡ 10 = ap (λ (zs : List ℕ). get_or zs 0 0) (cancel word (x ∷ more) (10 ∷ rest) (sym e ∙ h)) in
+    eqb-false x 10 other same
+word_other word text rest more x e other (inr h) = absurd (omega (arith, ap length (sym h.0 ∙ e), length-append word (x ∷ more)))
+
+pub ruleset word_rules = (word_none, word_bare, word_line, word_other)
 
 -- ---- a text begins with one entry at most
 

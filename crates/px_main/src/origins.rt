@@ -1,5 +1,5 @@
 // The file ORIGIN: the answers of the dials to come.
-ghost use Rattle.std.specs.Prelude.{◌≡◌, ◌<◌, ◌≤◌, IfOk, IfSome, IsNone, Err, List, ℕ, length, option_map};
+ghost use Rattle.std.specs.Prelude.{◌≡◌, ◌≢◌, ◌<◌, ◌≤◌, ◌+◌, ◌++◌, IfOk, IfSome, IsNone, MatchOption, Err, List, ℕ, length, option_map};
 ghost use Rattle.std.specs.List.{position};
 ghost use Rattle.px_base.specs.declared.dials.Answer.{Answer};
 ghost use Rattle.px_main.specs.Origins.{BeginsWithWord, IsOrigin, plain_answer};
@@ -73,16 +73,25 @@ fn read_entry(alloc: Global, text: &[u8]) -> Result<Option<(Answer, &[u8])>, Mem
     }
 }
 
+/// What comes behind a word, where it stands at the front.
+fn behind_word<'t>(text: &'t [u8], word: &[u8]) -> Option<&'t [u8]>
+    ensures value { MatchOption result ((rest : List ℕ) → text.now ≢ word.now ++ rest) (λ rest. text.now ≡ word.now ++ rest.now) }
+    ensures shorter { IfSome result (λ rest. length rest.now + length word.now ≡ length text.now) }
+{
+    text.strip_prefix(word)
+}
+
 /// What comes behind a word line. Where nothing does, the line may lack its LF.
+#[tactic(auto, using(crate::proofs::OriginLemmas::word_rules))]
 fn read_word<'t>(text: &'t [u8], word: &[u8]) -> Option<&'t [u8]>
     ensures some { IfSome result (λ rest. BeginsWithWord word.now text.now rest.now) }
     ensures none { IsNone result → (rest : List ℕ) → ¬ BeginsWithWord word.now text.now rest }
     ensures shorter { 0 < length word.now → IfSome result (λ rest. length rest.now < length text.now) }
 {
-    match text.strip_prefix(word)? {
-        [] => Some(&[]),
-        [b'\n', rest @ ..] => Some(rest),
-        _ => None,
+    let behind = behind_word(text, word)?;
+    match behind.split_first() {
+        None => Some(behind),
+        Some((first, rest)) => { if *first == b'\n' { Some(rest) } else { None } }
     }
 }
 

@@ -1,5 +1,5 @@
 // The command `pass`: one session over the input, with the answers of a file.
-ghost use Rattle.std.specs.Prelude.{◌≡◌, List, ℕ, IfOk, OnErr, map, string_bytes};
+ghost use Rattle.std.specs.Prelude.{◌≡◌, ◌∷◌, [], List, ℕ, IfOk, OnErr, map, string_bytes};
 ghost use Rattle.px_base.specs.Contents.{FilesGoOn};
 ghost use Rattle.px_base.specs.Sources.{SourceGoesOn};
 ghost use Rattle.px_base.specs.Sinks.{SinkState, SinkGoesOn};
@@ -15,7 +15,7 @@ use crate::texts::tag_texts;
 use crate::words::PassWords;
 use px_base::{Answer, Clock, Files, List, Mem, MemDialer, Peer, Sink, Source, Text};
 use px_config::{Config, load};
-use px_publish::FixedConfig;
+use px_publish::{Configs, FixedConfig};
 use px_serve::{SessionEnd, serve_connection};
 use std::alloc::Global;
 use std::sync::Arc;
@@ -84,6 +84,14 @@ pub struct Served {
     sent: Option<Text>,
 }
 
+/// The one configuration, at each look.
+fn fixed_config(alloc: Global, loaded: Config) -> Result<FixedConfig<Config>, Mem>
+    ensures view { IfOk result (λ configs. ⟦<FixedConfig<Config> as Configs>⟧.view configs ≡ loaded ∷ []) }
+    ensures coming { IfOk result (λ configs. (k : ℕ) → ⟦<FixedConfig<Config> as Configs>⟧.coming configs k ≡ record { number = 0; config = loaded }) }
+{
+    Ok(FixedConfig::new(Arc::new(alloc, loaded)?))
+}
+
 /// Serves the input as one client, whose dials have the answers. After `Mem` nothing was read, asked or returned.
 fn serve_input<S: Source, O: Sink, T: Clock>(
     alloc: Global,
@@ -104,7 +112,7 @@ fn serve_input<S: Source, O: Sink, T: Clock>(
     let peer = Peer {
         address: Text::from_bytes(alloc, CLIENT)?,
     };
-    let mut configs = FixedConfig::new(Arc::new(alloc, loaded)?);
+    let mut configs = fixed_config(alloc, loaded)?;
     let mut dialer = MemDialer::new(alloc, answers)?;
     let session = serve_connection(
         alloc,
