@@ -2,7 +2,7 @@
 use Rattle.std.proofs.Common.{◌≡◌, ℕ, suc, ◌+◌, ◌-◌, ◌≤◌, ◌<◌, Bool, true, false, ◌==◌, not, ◌&&◌, cond, List, [], ◌∷◌, ◌++◌, length, take, drop, get_or, Option, Some, None, refl, sym, ap, ◌∙◌, subst, arith, ltb, leb, add-one, take-append-drop, length-take-le, append_assoc, append-nil, length-append, inl, inr}
 use Rattle.std.specs.Prelude.{unwrap_or, codes}
 use Rattle.std.specs.List.{position, position_or_len}
-use Rattle.std.proofs.lemmas.Bool.{ltb-true, leb-true, le-leb, lt-ltb, and_parts, eqb-true, eqb-false}
+use Rattle.std.proofs.lemmas.Bool.{ltb-true, leb-true, le-leb, lt-ltb, and_parts, eqb-true}
 use Rattle.std.proofs.lemmas.List.Sums.{split_at_first, passes_at_first}
 use Rattle.std.proofs.lemmas.Grind.{common_steps}
 use Rattle.px_base.specs.Numbers.{decimal, all_digits, with_digits, is_digit}
@@ -169,10 +169,10 @@ word_bare word text e = inr (e ∙ append-nil word, refl)
 pub word_line : (word text rest : List ℕ) → text ≡ word ++ 10 ∷ rest → BeginsWithWord word text rest
 word_line word text rest e = inl e
 
-pub word_other : (word text rest more : List ℕ) (x : ℕ) → text ≡ word ++ x ∷ more → (x == 10) ≡ false → BeginsWithWord word text rest → ⊥
+pub word_other : (word text rest more : List ℕ) (x : ℕ) → text ≡ word ++ x ∷ more → (x ≡ 10 → ⊥) → BeginsWithWord word text rest → ⊥
 word_other word text rest more x e other (inl h) =
     let same : x ≡ 10 = ap (λ (zs : List ℕ). get_or zs 0 0) (cancel word (x ∷ more) (10 ∷ rest) (sym e ∙ h)) in
-    eqb-false x 10 other same
+    other same
 word_other word text rest more x e other (inr h) = absurd (omega (arith, ap length (sym h.0 ∙ e), length-append word (x ∷ more)))
 
 pub ruleset word_rules = (word_none, word_bare, word_line, word_other)

@@ -1,7 +1,7 @@
-use Rattle.std.proofs.Common.{◌≡◌, true, false, sym, ◌∙◌, ap, rules, arith}
+use Rattle.std.proofs.Common.{sym, ◌∙◌, ap, rules}
 use Rattle.std.proofs.lemmas.Bool.{not-false}
 use Rattle.std.specs.Prelude.{string_bytes}
-use Rattle.px_main.specs.Words.{IsCheck, no_flags}
+use Rattle.px_main.specs.Words.{no_flags}
 use Rattle.px_main.proofs.WordLemmas.{just_two, behind_first}
 use Rattle.px_main.proofs.words.read_check.Goals as goal
 
