@@ -54,6 +54,8 @@ fn main(rt: HostRuntime) -> ExitCode {
 }
 
 #[cfg(test)]
+mod fault_tests;
+#[cfg(test)]
 mod load_tests;
 #[cfg(test)]
 mod row_tests;
