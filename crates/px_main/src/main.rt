@@ -58,6 +58,4 @@ mod fault_tests;
 #[cfg(test)]
 mod load_tests;
 #[cfg(test)]
-mod row_tests;
-#[cfg(test)]
 mod tests;
