@@ -18,6 +18,3 @@ pub use notes::{After, Conclusion, Ending, after_whole, broken};
 pub use pumps::Pump;
 pub use px_answers::Asked;
 pub use talks::Talked;
-
-#[cfg(test)]
-mod tests;
