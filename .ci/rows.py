@@ -120,7 +120,18 @@ row("an upload of 1 MiB",[("c","")],origin_of(ANSWER),upload,REPLY,link(sent_on)
 row("an upload to an origin that gives no answer",[("c","")],"0\n",upload,page("502 Bad Gateway","no-server-data"),link(sent_on))
 row("a cut upload",[("c","")],origin_of(ANSWER),upload[:-1],"",link(sent_on[:-1]))
 row("pipelined requests behind a body",[("c","")],origin_of(ANSWER)*2,post+GET,"HTTP/1.1 100 Continue\r\n\r\n"+REPLY*2,link("POST /x HTTP/1.1\r\nHost: a.test\r\nContent-Length: 2\r\nConnection: close\r\n\r\nok")+LINK)
-row("a tunnel, which isn't built",[("c","")],origin_of(ANSWER),"CONNECT a.test:443 HTTP/1.1\r\n\r\n",page("400 Bad Request","invalid-request: NotBuilt"),"")
+# tunnels
+GREETING="HTTP/1.1 200 Connection established\r\n\r\n"
+CONNECT="CONNECT a.test:443 HTTP/1.1\r\n\r\n"
+row("a tunnel",[("c","")],"3\nxyz",CONNECT+"abc",GREETING+"xyz",link("abc",port=443))
+row("a tunnel ends the session",[("c","")],"3\nxyz"+origin_of(ANSWER),CONNECT+GET,GREETING+"xyz",link(GET,port=443))
+row("a tunnel to a denied port",[("c",actions_main),("u.action","{+limit-connect{443}}\n/\n")],"3\nxyz","CONNECT a.test:80 HTTP/1.1\r\n\r\n",page("403 Forbidden","connect-denied"),"")
+ASKED="CONNECT a.test:443 HTTP/1.1\r\nHost: a.test:443\r\n\r\n"
+row("a tunnel by a parent",[("c","forward / p.test:8080\n")],"7\nHTTP hi",CONNECT+"abc","HTTP hi",link(ASKED+"abc","p.test",8080))
+row("a tunnel by a parent that isn't found",[("c","forward / p.test:8080\n")],"no-name",CONNECT+"abc",page("503 Service Unavailable","forwarding-failed"),"")
+row("a tunnel to a host that isn't found",[("c","")],"no-name",CONNECT+"abc",page("404 Not Found","no-such-domain"),"")
+row("a tunnel to a host that isn't reached",[("c","")],"not-reached",CONNECT+"abc",page("503 Service Unavailable","connect-failed"),"")
+row("requests before a tunnel",[("c","")],origin_of(ANSWER)+"3\nxyz",GET+CONNECT+"abc",REPLY+GREETING+"xyz",LINK+link("abc",port=443))
 
 
 def run(program, files, origin, given):

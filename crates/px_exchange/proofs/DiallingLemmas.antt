@@ -8,7 +8,7 @@ use Rattle.px_base.specs.declared.dials.Answer.{Answer}
 use Rattle.px_base.specs.declared.dials.Answer.TheVariants as answer
 use Rattle.px_base.specs.declared.dials.DialOutcome.TheVariants as outcome
 use Rattle.px_base.specs.Sources.{SourceState, SourceGoesOn}
-use Rattle.px_base.specs.Sinks.{SinkState, SinkGoesOn}
+use Rattle.px_base.specs.Sinks.{SinkState}
 use Rattle.px_base.specs.Dials.{DialerState, IsFresh, IsTold, HangsUp, traffic, Traffic, is_open, is_open_at, finish, closed_dial, agrees}
 use Rattle.px_base.specs.declared.dials.DialOutcome.{DialOutcome}
 use Rattle.px_decide.specs.declared.routes.Route.{Route}
@@ -44,16 +44,16 @@ steady {n = n} b m k e kept none zero = calm n ((kept (e ∙ eq-eqb k 0 zero)).1
 
 -- what came over the link is what was to come
 comes : (coming : List Answer) (i i' : SourceState) (o o' : SinkState)
-    → agrees coming (Ok (record { link_in = i; link_out = o })) → IsFresh (record { link_in = i; link_out = o }) → SourceGoesOn i i' → SinkGoesOn o o' → o'.finished ≡ o.finished
+    → agrees coming (Ok (record { link_in = i; link_out = o })) → IsFresh (record { link_in = i; link_out = o }) → SourceGoesOn i i' → (IsTrue o.steady → o'.faults ≡ o.faults)
     → Comes coming (outcome.Link (link_seen i' o'))
-comes (answer.Link bytes cuts rs ws ∷ as_) i i' o o' a fresh on_in on_out same = (
+comes (answer.Link bytes cuts rs ws ∷ as_) i i' o o' a fresh on_in calm_out = (
   on_in.offered_same ∙ a.0,
   λ none. steady i.steady i.faults (length rs) a.1 on_in.steady_kept fresh.no_read_failed none,
-  λ none. steady o.steady o.faults (length ws) a.2 (λ s. on_out.steady_kept s (same ∙ fresh.not_finished)) fresh.no_write_failed none,
+  λ none. calm o'.faults (calm_out (a.2 ∙ eq-eqb (length ws) 0 none) ∙ fresh.no_write_failed),
 )
-comes (answer.NoName ∷ as_) i i' o o' a fresh on_in on_out same = absurd a
-comes (answer.NotReached ∷ as_) i i' o o' a fresh on_in on_out same = absurd a
-comes [] i i' o o' a fresh on_in on_out same = absurd a
+comes (answer.NoName ∷ as_) i i' o o' a fresh on_in calm_out = absurd a
+comes (answer.NotReached ∷ as_) i i' o o' a fresh on_in calm_out = absurd a
+comes [] i i' o o' a fresh on_in calm_out = absurd a
 
 -- an end that failed raised its count
 rises_by : (mid new : ℕ) (b : Bool) → MatchBool b (new ≡ mid) (Rose mid new) → not b ≡ true → Rose mid new
@@ -88,19 +88,18 @@ pub dialed_once : (old mid new : DialerState) (i i' : SourceState) (o o' : SinkS
     → (IsTrue old.tells_coming → (mid.coming ≡ drop 1 old.coming) × IsTrue mid.tells_coming)
     → (mid.link_reads ≡ old.link_reads) × (mid.link_writes ≡ old.link_writes)
     → SourceGoesOn i i'
-    → SinkGoesOn o o'
-    → o'.finished ≡ o.finished
+    → (IsTrue o.steady → o'.faults ≡ o.faults)
     → HangsUp mid new i' o'
     → Gives (outcome.Link (link_seen i' o'))
     → DialsOnce route Gives old new
-dialed_once old mid new i i' o o' route Gives tells em told fresh agree left stay on_in on_out same hung gives =
+dialed_once old mid new i i' o o' route Gives tells em told fresh agree left stay on_in calm_out hung gives =
     record {
       dial = record { host = route.host; port = route.port; outcome = outcome.Link (link_seen i' o') };
       added = added_once old mid new i i' o' route.host route.port tells em told.new_mark on_in hung;
       to_host = refl;
       to_port = refl;
       gives = gives;
-      comes = λ c. comes old.coming i i' o o' (agree c) fresh on_in on_out same;
+      comes = λ c. comes old.coming i i' o o' (agree c) fresh on_in calm_out;
       coming_left = λ c. hung.coming_same (left c).1 ∙ (left c).0;
       cause = (rises old.link_reads mid.link_reads new.link_reads i'.faults stay.0 hung.link_reads, rises old.link_writes mid.link_writes new.link_writes o'.faults stay.1 hung.link_writes);
     }

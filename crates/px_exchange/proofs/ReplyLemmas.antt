@@ -30,9 +30,9 @@ use Rattle.px_pumps.specs.declared.notes.Conclusion.{Conclusion}
 use Rattle.px_pumps.specs.declared.notes.Ending.{Ending}
 use Rattle.px_pumps.specs.declared.notes.Ending.TheVariants as ending
 use Rattle.px_exchange.specs.Causes.{EndingCause}
-use Rattle.px_exchange.specs.Exchange.{Answers, ForwardsSome}
+use Rattle.px_exchange.specs.Exchange.{Answers, ForwardsSome, TunnelsSome}
 use Rattle.px_exchange.specs.Forwarding.{Client}
-use Rattle.px_exchange.specs.Replies.{ReturnsSome, ending_of, local_due, no_tunnel}
+use Rattle.px_exchange.specs.Replies.{ReturnsSome, ending_of, local_due}
 
 -- a reply without a dial
 pub local_answers : (g : Given) (reply : LocalReply) (c : Client) (d : DialerState) (taken taken' : List ℕ) (x : Conclusion)
@@ -40,10 +40,10 @@ pub local_answers : (g : Given) (reply : LocalReply) (c : Client) (d : DialerSta
 local_answers g reply c d taken taken' x j u (inl whole) = inl (record { judgement = judgement.Local reply; judged = j; does = (refl, u, whole) })
 local_answers g reply c d taken taken' x j u (inr wants) = inr (record { judgement = Some (judgement.Local reply); judged = j; wants = (refl, u, wants.0); concluded = wants.1 })
 
-pub tunnel_answers : (g : Given) (plan : TunnelPlan) (c : Client) (d : DialerState) (taken taken' : List ℕ) (x : Conclusion)
-    → Judged g (judgement.Tunnel plan) → c.behind ≡ c.stream → ReturnsSome (local_due g.config (no_tunnel plan)) taken taken' x → Answers g c d d taken taken' x
-tunnel_answers g plan c d taken taken' x j u (inl whole) = inl (record { judgement = judgement.Tunnel plan; judged = j; does = (refl, u, whole) })
-tunnel_answers g plan c d taken taken' x j u (inr wants) = inr (record { judgement = Some (judgement.Tunnel plan); judged = j; wants = (refl, u, wants.0); concluded = wants.1 })
+pub tunnel_answers : (g : Given) (t : TunnelPlan) (c : Client) (old new : DialerState) (taken taken' : List ℕ) (x : Conclusion)
+    → Judged g (judgement.Tunnel t) → TunnelsSome g.config t c old new taken taken' x → Answers g c old new taken taken' x
+tunnel_answers g t c old new taken taken' x j (inl whole) = inl (record { judgement = judgement.Tunnel t; judged = j; does = whole })
+tunnel_answers g t c old new taken taken' x j (inr wants) = inr (record { judgement = Some (judgement.Tunnel t); judged = j; wants = wants.1; concluded = wants.0 })
 
 pub forward_answers : (g : Given) (plan : Plan) (c : Client) (old new : DialerState) (taken taken' : List ℕ) (x : Conclusion)
     → Judged g (judgement.Forward plan) → ForwardsSome g.config plan c old new taken taken' x → Answers g c old new taken taken' x

@@ -1,5 +1,5 @@
 -- Causes: a fault comes only where its own device's count rose.
-use Rattle.std.specs.Prelude.{◌≡◌, ◌⊎◌}
+use Rattle.std.specs.Prelude.{◌≡◌, ◌≢◌, ◌⊎◌}
 use Rattle.px_base.specs.Causes.{Rose}
 use Rattle.px_base.specs.Dials.{DialerState}
 use Rattle.px_base.specs.Sinks.{SinkState}
@@ -11,6 +11,7 @@ use Rattle.px_pumps.specs.declared.notes.Ending.{Ending}
 use Rattle.px_pumps.specs.declared.notes.Ending.TheVariants as ending
 use Rattle.px_pumps.specs.declared.notes.After.{After}
 use Rattle.px_pumps.specs.declared.notes.After.TheVariants as after
+use Rattle.px_pumps.specs.declared.notes.Conclusion.{Conclusion}
 use Rattle.px_pumps.specs.declared.talks.Talked.{Talked}
 use Rattle.px_pumps.specs.declared.talks.Talked.TheVariants as talked
 
@@ -63,15 +64,61 @@ abbrev pub TalkLinkCause : SinkState → SinkState → Talked → Type 0
 TalkLinkCause old new (talked.Page p) = LinkPageCause old new p
 TalkLinkCause old new (talked.Ended x) = IsAnswerEnding x.ending
 
--- the client's source failed exactly where what comes after says so
+-- the client's source failed exactly where what comes after says so; without memory in a tunnel it may have
 abbrev pub ReadCause : SourceState → SourceState → After → Type 0
 ReadCause old new after.Keep = new.faults ≡ old.faults
 ReadCause old new after.Close = new.faults ≡ old.faults
 ReadCause old new after.Cut = new.faults ≡ old.faults
 ReadCause old new after.ReadFailed = Rose old.faults new.faults
 ReadCause old new after.WriteFailed = new.faults ≡ old.faults
-ReadCause old new after.NoMemory = new.faults ≡ old.faults
+ReadCause old new after.NoMemory = Unit {0}
 
 abbrev pub TalkReadCause : SourceState → SourceState → Talked → Type 0
 TalkReadCause old new (talked.Page p) = new.faults ≡ old.faults
 TalkReadCause old new (talked.Ended x) = ReadCause old new x.after
+
+-- the client's sink failed exactly where what comes after says so; in a tunnel it may have beside its source, or without memory
+abbrev pub WriteCauseAfter : SinkState → SinkState → Ending → After → Type 0
+WriteCauseAfter old new e after.Keep = new.faults ≡ old.faults
+WriteCauseAfter old new e after.Close = new.faults ≡ old.faults
+WriteCauseAfter old new e after.Cut = new.faults ≡ old.faults
+WriteCauseAfter old new e after.ReadFailed = e ≢ ending.Tunnel → new.faults ≡ old.faults
+WriteCauseAfter old new e after.WriteFailed = Rose old.faults new.faults
+WriteCauseAfter old new e after.NoMemory = Unit {0}
+
+abbrev pub WriteCause : SinkState → SinkState → Conclusion → Type 0
+WriteCause old new x = WriteCauseAfter old new x.ending x.after
+
+abbrev pub TalkWriteCause : SinkState → SinkState → Talked → Type 0
+TalkWriteCause old new (talked.Page p) = new.faults ≡ old.faults
+TalkWriteCause old new (talked.Ended x) = WriteCause old new x
+
+-- the client's sink is as open as it was, save behind a tunnel
+abbrev pub StaysOpenAfter : SinkState → SinkState → Ending → After → Type 0
+StaysOpenAfter old new e after.Keep = new.finished ≡ old.finished
+StaysOpenAfter old new e after.Close = e ≢ ending.Tunnel → new.finished ≡ old.finished
+StaysOpenAfter old new e after.Cut = new.finished ≡ old.finished
+StaysOpenAfter old new e after.ReadFailed = e ≢ ending.Tunnel → new.finished ≡ old.finished
+StaysOpenAfter old new e after.WriteFailed = e ≢ ending.Tunnel → new.finished ≡ old.finished
+StaysOpenAfter old new e after.NoMemory = Unit {0}
+
+abbrev pub StaysOpen : SinkState → SinkState → Conclusion → Type 0
+StaysOpen old new x = StaysOpenAfter old new x.ending x.after
+
+abbrev pub TalkStaysOpen : SinkState → SinkState → Talked → Type 0
+TalkStaysOpen old new (talked.Page p) = new.finished ≡ old.finished
+TalkStaysOpen old new (talked.Ended x) = StaysOpen old new x
+
+-- a tunnel, or one that wasn't carried
+abbrev pub IsTunnelEnding : Ending → Type 0
+IsTunnelEnding e = (e ≡ ending.Tunnel) ⊎ (e ≡ ending.Broken)
+
+-- what came of a tunnel: a page with its cause, or the ending of a tunnel
+abbrev pub TunnelPageCause : DialerState → DialerState → Talked → Type 0
+TunnelPageCause old new (talked.Page p) = PageCause old new p
+TunnelPageCause old new (talked.Ended x) = IsTunnelEnding x.ending
+
+-- the same over one link
+abbrev pub TunnelLinkCause : SinkState → SinkState → Talked → Type 0
+TunnelLinkCause old new (talked.Page p) = LinkPageCause old new p
+TunnelLinkCause old new (talked.Ended x) = IsTunnelEnding x.ending

@@ -2,6 +2,7 @@
 use Rattle.std.specs.Prelude.{◌≡◌, ℕ, not, ◌==◌, ◌⊎◌, List, [], Option, Some, None, if◌then◌else◌}
 use Rattle.px_base.specs.Sources.{SourceState, given}
 use Rattle.px_base.specs.Sinks.{SinkState}
+use Rattle.px_base.specs.Dials.{DialerState}
 use Rattle.px_base.specs.declared.dials.LinkSeen.{LinkSeen}
 use Rattle.px_base.specs.declared.dials.DialOutcome.{DialOutcome}
 use Rattle.px_base.specs.declared.dials.DialOutcome.TheVariants as outcome
@@ -18,6 +19,7 @@ use Rattle.px_pumps.specs.declared.dues.Due.{Due}
 use Rattle.px_pumps.specs.declared.notes.After.{After}
 use Rattle.px_pumps.specs.declared.notes.After.TheVariants as after
 use Rattle.px_pumps.specs.declared.notes.Conclusion.{Conclusion}
+use Rattle.px_pumps.specs.declared.notes.Ending.TheVariants as ending
 use Rattle.px_pumps.specs.declared.talks.Talked.{Talked}
 use Rattle.px_pumps.specs.declared.talks.Talked.TheVariants as talked
 
@@ -40,11 +42,12 @@ link_seen i o = record {
 abbrev pub answer_of : LinkSeen → List ℕ
 answer_of seen = if seen.read_failed then seen.heard else seen.offered
 
--- What is said of an end, where the client's sink had taken those bytes before it: that something is due, or that nothing more is,
--- since the request stopped.
+-- What is said of an end, where the client's sink had taken those bytes before it: that something is due, that nothing more is, since
+-- the request stopped, or that nothing more is, since a tunnel was carried.
 pub record Says : Type 1 where
   pub due : List ℕ → Due → Type 0
   pub stopped : List ℕ → After → Type 0
+  pub carried : List ℕ → After → Type 0
 
 -- What follows the sending of a request, by what came of that, the client's sink having taken `mid` behind it: what the answer
 -- becomes, the page of a link that failed or of a misframed body, or nothing more.
@@ -96,11 +99,16 @@ Forwards ask route m c says taken (outcome.Link seen) = Talks ask m c says taken
 
 -- ---- how it ends
 
+-- a tunnel was carried, and that comes after
+abbrev pub tunnelled : After → Conclusion
+tunnelled a = record { ending = ending.Tunnel; after = a }
+
 -- how the exchange was concluded, the client's sink having taken those bytes
 abbrev pub concluded : List ℕ → Conclusion → Says
 concluded taken' x = record {
   due = λ mid due. Returns due mid taken' x;
   stopped = λ mid a. (taken' ≡ mid) × (x ≡ broken a);
+  carried = λ mid a. (taken' ≡ mid) × (x ≡ tunnelled a);
 }
 
 -- what came of a talk, before a page is returned in place of an answer
@@ -108,13 +116,18 @@ abbrev pub talked_so : (Page → Due) → List ℕ → Talked → Says
 talked_so page_due taken' t = record {
   due = λ mid due. SaysDue page_due due mid taken' t;
   stopped = λ mid a. (taken' ≡ mid) × (t ≡ talked.Ended (broken a));
+  carried = λ mid a. (taken' ≡ mid) × (t ≡ talked.Ended (tunnelled a));
 }
 
 -- memory was wanting: a prefix of what is due was returned
 abbrev pub wanted : List ℕ → Says
-wanted taken' = record { due = λ mid due. AddsPrefix mid taken' due.bytes; stopped = λ mid a. ⊥ }
+wanted taken' = record { due = λ mid due. AddsPrefix mid taken' due.bytes; stopped = λ mid a. ⊥; carried = λ mid a. ⊥ }
 
 -- ---- want of memory
+
+-- nothing was dialled or read
+abbrev pub IsUntouched : Client → DialerState → DialerState → Type 0
+IsUntouched c old new = (new.dials ≡ old.dials) × (c.behind ≡ c.stream)
 
 -- nothing more was returned, for want of memory: in the sending, or behind it before anything was returned of the answer
 abbrev pub IsSilent : Sent → Type 0

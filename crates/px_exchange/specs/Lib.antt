@@ -1,5 +1,6 @@
 pub mod Replies
 pub mod Dialling
 pub mod Forwarding
+pub mod Tunnels
 pub mod Causes
 pub mod Exchange

@@ -1,5 +1,5 @@
 -- What is due to the client without an origin's answer, and what was returned of it.
-use Rattle.std.specs.Prelude.{◌≡◌, ◌⊎◌, ℕ, Bool, true, false, not, List, [], ◌++◌, codes}
+use Rattle.std.specs.Prelude.{◌≡◌, ◌⊎◌, ℕ, Bool, true, not, List, [], ◌++◌, codes}
 use Rattle.std.specs.Fmt.{decimal}
 use Rattle.px_patterns.specs.declared.urls.Url.{Url}
 use Rattle.px_decide.specs.declared.routes.Route.{Route}
@@ -10,7 +10,6 @@ use Rattle.px_judging.specs.Replies.{reply_bytes, url_symbols}
 use Rattle.px_judging.specs.declared.replies.LocalReply.{LocalReply}
 use Rattle.px_judging.specs.declared.replies.ReplyKind.{ReplyKind}
 use Rattle.px_judging.specs.declared.replies.ReplyKind.TheVariants as kind
-use Rattle.px_judging.specs.declared.judgements.TunnelPlan.{TunnelPlan}
 use Rattle.px_pumps.specs.Answering.{after_whole}
 use Rattle.px_pumps.specs.Returning.{Returns, AddsPrefix, broken}
 use Rattle.px_pumps.specs.declared.dues.Due.{Due}
@@ -74,10 +73,6 @@ page_reply url route bodiless p = url_page p url (error_of p) (parent_of route p
 -- the same as what is due
 abbrev pub page_due : Config → Url → Route → Bool → Page → Due
 page_due config url route bodiless p = local_due config (page_reply url route bodiless p)
-
--- the page of a request for a tunnel: tunnels aren't built yet
-abbrev pub no_tunnel : TunnelPlan → LocalReply
-no_tunnel plan = url_page page.InvalidRequest plan.url (codes "NotBuilt") [] false
 
 -- memory was wanting, and a prefix of what is due was returned
 abbrev pub WantsReturning : Due → List ℕ → List ℕ → Conclusion → Type 0

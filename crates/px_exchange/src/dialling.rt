@@ -22,7 +22,7 @@ use px_templates::Page;
 use std::alloc::Global;
 
 /// The page of a dial whose host's name wasn't found.
-fn no_name_page(route: &Route) -> Page
+pub fn no_name_page(route: &Route) -> Page
     ensures { result ≡ no_name_page route.now }
 {
     if route.parent {
@@ -33,7 +33,7 @@ fn no_name_page(route: &Route) -> Page
 }
 
 /// The page of a dial whose host wasn't reached.
-fn not_reached_page(route: &Route) -> Page
+pub fn not_reached_page(route: &Route) -> Page
     ensures { result ≡ not_reached_page route.now }
 {
     if route.parent {

@@ -4,14 +4,15 @@ ghost use Rattle.px_base.specs.Dials.{DialerGoesOn};
 ghost use Rattle.px_base.specs.Sinks.{SinkGoesOn};
 ghost use Rattle.px_base.specs.Sources.{SourceGoesOn};
 ghost use Rattle.px_judging.specs.Judging.{Judged};
-ghost use Rattle.px_pumps.specs.Returning.{WriteCause};
-ghost use Rattle.px_exchange.specs.Causes.{EndingCause, ReadCause};
-ghost use Rattle.px_exchange.specs.Exchange.{Answers, ForwardsSome};
-ghost use Rattle.px_exchange.specs.Replies.{ReturnsSome, local_due, no_tunnel, page_due};
+ghost use Rattle.px_pumps.specs.Returning.{WriteCause as SinkCause};
+ghost use Rattle.px_exchange.specs.Causes.{EndingCause, ReadCause, StaysOpen, WriteCause};
+ghost use Rattle.px_exchange.specs.Exchange.{Answers, ForwardsSome, TunnelsSome};
+ghost use Rattle.px_exchange.specs.Replies.{ReturnsSome, page_due};
 
 use crate::dialling::dial_and_send;
 use crate::notes::{ExchangeNote, Exchanged};
-use crate::replies::{no_tunnel, page_reply, return_reply};
+use crate::replies::{page_reply, return_reply};
+use crate::tunnels::dial_tunnel;
 use px_base::{Dialer, Mem, Peer, Sink, Source, Text};
 use px_config::{Config, Warm};
 use px_decide::Route;
@@ -21,7 +22,9 @@ use px_publish::Snapshot;
 use px_pumps::{After, Conclusion, Ending, Talked, broken};
 use px_streams::{Ahead, Feed};
 use px_templates::Page;
+use px_ways::Way;
 use std::alloc::Global;
+use std::thread::Threads;
 
 /// Returns the page that is due in place of an answer.
 fn return_page<O: Sink>(
@@ -35,7 +38,7 @@ fn return_page<O: Sink>(
 ) -> Conclusion
     ensures returns { IsTrue (O.state client_out.old).tells
         → ReturnsSome (page_due config.now url.now route.now bodiless page) (O.state client_out.old).taken (O.state client_out.new).taken result }
-    ensures cause { WriteCause (O.state client_out.old) (O.state client_out.new) result.after }
+    ensures cause { SinkCause (O.state client_out.old) (O.state client_out.new) result.after }
     ensures unread { result.after ≢ After.ReadFailed }
     ensures page { (p : Page) → result.ending ≡ Ending.Page p → p ≡ page }
     ensures open { (O.state client_out.new).finished ≡ (O.state client_out.old).finished }
@@ -65,7 +68,7 @@ fn forward<S: Source, O: Sink, D: Dialer>(
         (record { stream = ahead.old ++ (S.state client_in.old).left; behind = ahead.new ++ (S.state client_in.new).left })
         (D.state dialer.old) (D.state dialer.new) (O.state client_out.old).taken (O.state client_out.new).taken result }
     ensures read_cause { ReadCause (S.state client_in.old) (S.state client_in.new) result.after }
-    ensures write_cause { WriteCause (O.state client_out.old) (O.state client_out.new) result.after }
+    ensures write_cause { SinkCause (O.state client_out.old) (O.state client_out.new) result.after }
     ensures page_cause { EndingCause (D.state dialer.old) (D.state dialer.new) result.ending }
     ensures open { (O.state client_out.new).finished ≡ (O.state client_out.old).finished }
     ensures in_goes_on { SourceGoesOn (S.state client_in.old) (S.state client_in.new) }
@@ -91,24 +94,42 @@ fn forward<S: Source, O: Sink, D: Dialer>(
     }
 }
 
-/// Returns the page of a request for a tunnel.
-fn refuse_tunnel<O: Sink>(
+/// Opens a tunnel and carries it, or returns the page that is due in place of it.
+fn open_tunnel<R: Threads + Sync, S: Source, O: Sink, D: Dialer>(
     alloc: Global,
+    way: &Way<'_, R>,
     config: &Config,
     plan: &TunnelPlan,
+    client_in: &mut S,
+    ahead: &mut Ahead,
     client_out: &mut O,
+    dialer: &mut D,
 ) -> Conclusion
-    ensures returns { IsTrue (O.state client_out.old).tells
-        → ReturnsSome (local_due config.now (no_tunnel plan.now)) (O.state client_out.old).taken (O.state client_out.new).taken result }
-    ensures cause { WriteCause (O.state client_out.old) (O.state client_out.new) result.after }
-    ensures unread { result.after ≢ After.ReadFailed }
-    ensures page { (p : Page) → result.ending ≡ Ending.Page p → p ≡ Page.InvalidRequest }
-    ensures open { (O.state client_out.new).finished ≡ (O.state client_out.old).finished }
-    ensures goes_on { SinkGoesOn (O.state client_out.old) (O.state client_out.new) }
+    ensures tunnels { IsTrue (S.state client_in.old).tells → IsTrue (O.state client_out.old).tells → IsTrue (D.state dialer.old).tells
+        → TunnelsSome config.now plan.now
+        (record { stream = ahead.old ++ (S.state client_in.old).left; behind = ahead.new ++ (S.state client_in.new).left })
+        (D.state dialer.old) (D.state dialer.new) (O.state client_out.old).taken (O.state client_out.new).taken result }
+    ensures read_cause { ReadCause (S.state client_in.old) (S.state client_in.new) result.after }
+    ensures write_cause { WriteCause (O.state client_out.old) (O.state client_out.new) result }
+    ensures page_cause { EndingCause (D.state dialer.old) (D.state dialer.new) result.ending }
+    ensures open { StaysOpen (O.state client_out.old) (O.state client_out.new) result }
+    ensures in_goes_on { SourceGoesOn (S.state client_in.old) (S.state client_in.new) }
+    ensures out_goes_on { SinkGoesOn (O.state client_out.old) (O.state client_out.new) }
+    ensures goes_on { DialerGoesOn (D.state dialer.old) (D.state dialer.new) }
 {
-    match no_tunnel(alloc, plan) {
-        Ok(reply) => return_reply(alloc, config, &reply, client_out),
-        Err(Mem) => broken(After::NoMemory),
+    match dial_tunnel(way, plan, client_in, ahead, client_out, dialer) {
+        Talked::Page(page) => {
+            return_page(
+                alloc,
+                config,
+                &plan.url,
+                &plan.route,
+                false,
+                page,
+                client_out,
+            )
+        }
+        Talked::Ended(conclusion) => conclusion,
     }
 }
 
@@ -127,8 +148,9 @@ fn judge_seen(alloc: Global, handed: &Handed<'_>, warm: &mut Warm<'_>) -> Result
 /// Answers one request: judges it, dials, sends it on, and returns what is due. `client_in` and the bytes that were read ahead of it
 /// are the client's bytes behind the request's head. The store lent is that of the configuration; what is returned doesn't depend on
 /// what it keeps.
-pub fn answer_request<S: Source, O: Sink, D: Dialer>(
+pub fn answer_request<R: Threads + Sync, S: Source, O: Sink, D: Dialer>(
     alloc: Global,
+    way: &Way<'_, R>,
     handed: &Handed<'_>,
     warm: &mut Warm<'_>,
     client_in: &mut S,
@@ -143,9 +165,9 @@ pub fn answer_request<S: Source, O: Sink, D: Dialer>(
         (record { stream = ahead.old ++ (S.state client_in.old).left; behind = ahead.new ++ (S.state client_in.new).left })
         (D.state dialer.old) (D.state dialer.new) (O.state client_out.old).taken (O.state client_out.new).taken result }
     ensures read_cause { ReadCause (S.state client_in.old) (S.state client_in.new) result.after }
-    ensures write_cause { WriteCause (O.state client_out.old) (O.state client_out.new) result.after }
+    ensures write_cause { WriteCause (O.state client_out.old) (O.state client_out.new) result }
     ensures page_cause { EndingCause (D.state dialer.old) (D.state dialer.new) result.ending }
-    ensures open { (O.state client_out.new).finished ≡ (O.state client_out.old).finished }
+    ensures open { StaysOpen (O.state client_out.old) (O.state client_out.new) result }
     ensures in_goes_on { SourceGoesOn (S.state client_in.old) (S.state client_in.new) }
     ensures out_goes_on { SinkGoesOn (O.state client_out.old) (O.state client_out.new) }
     ensures goes_on { DialerGoesOn (D.state dialer.old) (D.state dialer.new) }
@@ -154,7 +176,16 @@ pub fn answer_request<S: Source, O: Sink, D: Dialer>(
 {
     match judge_seen(alloc, handed, warm) {
         Ok(Judgement::Local(reply)) => return_reply(alloc, handed.config, &reply, client_out),
-        Ok(Judgement::Tunnel(plan)) => refuse_tunnel(alloc, handed.config, &plan, client_out),
+        Ok(Judgement::Tunnel(plan)) => open_tunnel(
+            alloc,
+            way,
+            handed.config,
+            &plan,
+            client_in,
+            ahead,
+            client_out,
+            dialer,
+        ),
         Ok(Judgement::Forward(plan)) => forward(
             alloc,
             handed.config,
@@ -170,8 +201,9 @@ pub fn answer_request<S: Source, O: Sink, D: Dialer>(
 }
 
 /// The same with a store of its own, which is made for this request.
-pub fn answer_cold<S: Source, O: Sink, D: Dialer>(
+pub fn answer_cold<R: Threads + Sync, S: Source, O: Sink, D: Dialer>(
     alloc: Global,
+    way: &Way<'_, R>,
     handed: &Handed<'_>,
     client_in: &mut S,
     ahead: &mut Ahead,
@@ -183,9 +215,9 @@ pub fn answer_cold<S: Source, O: Sink, D: Dialer>(
         (record { stream = ahead.old ++ (S.state client_in.old).left; behind = ahead.new ++ (S.state client_in.new).left })
         (D.state dialer.old) (D.state dialer.new) (O.state client_out.old).taken (O.state client_out.new).taken result }
     ensures read_cause { ReadCause (S.state client_in.old) (S.state client_in.new) result.after }
-    ensures write_cause { WriteCause (O.state client_out.old) (O.state client_out.new) result.after }
+    ensures write_cause { WriteCause (O.state client_out.old) (O.state client_out.new) result }
     ensures page_cause { EndingCause (D.state dialer.old) (D.state dialer.new) result.ending }
-    ensures open { (O.state client_out.new).finished ≡ (O.state client_out.old).finished }
+    ensures open { StaysOpen (O.state client_out.old) (O.state client_out.new) result }
     ensures in_goes_on { SourceGoesOn (S.state client_in.old) (S.state client_in.new) }
     ensures out_goes_on { SinkGoesOn (O.state client_out.old) (O.state client_out.new) }
     ensures goes_on { DialerGoesOn (D.state dialer.old) (D.state dialer.new) }
@@ -193,7 +225,7 @@ pub fn answer_cold<S: Source, O: Sink, D: Dialer>(
     match handed.config.warm(alloc) {
         Ok(mut warm) => {
             answer_request(
-                alloc, handed, &mut warm, client_in, ahead, client_out, dialer,
+                alloc, way, handed, &mut warm, client_in, ahead, client_out, dialer,
             )
         }
         Err(Mem) => broken(After::NoMemory),
@@ -202,8 +234,9 @@ pub fn answer_cold<S: Source, O: Sink, D: Dialer>(
 
 /// Answers one request of a client whose bytes behind the request's head are `client_in`. `last` is whether it is the last request
 /// that its connection may have; `moment` is in seconds since 1970.
-pub fn exchange<S: Source, O: Sink, D: Dialer>(
+pub fn exchange<R: Threads + Sync, S: Source, O: Sink, D: Dialer>(
     alloc: Global,
+    way: &Way<'_, R>,
     snapshot: &Snapshot<'_, Config>,
     head: HeadSeen,
     last: bool,
@@ -221,9 +254,9 @@ pub fn exchange<S: Source, O: Sink, D: Dialer>(
     ensures config { result.note.config ≡ snapshot.now.number }
     ensures moment { result.note.moment ≡ moment }
     ensures read_cause { ReadCause (S.state client_in.old.source) (S.state client_in.new.source) result.after }
-    ensures write_cause { WriteCause (O.state client_out.old) (O.state client_out.new) result.after }
+    ensures write_cause { WriteCause (O.state client_out.old) (O.state client_out.new) (record { ending = result.note.ending; after = result.after }) }
     ensures page_cause { EndingCause (D.state dialer.old) (D.state dialer.new) result.note.ending }
-    ensures open { (O.state client_out.new).finished ≡ (O.state client_out.old).finished }
+    ensures open { StaysOpen (O.state client_out.old) (O.state client_out.new) (record { ending = result.note.ending; after = result.after }) }
     ensures in_goes_on { SourceGoesOn (S.state client_in.old.source) (S.state client_in.new.source) }
     ensures out_goes_on { SinkGoesOn (O.state client_out.old) (O.state client_out.new) }
     ensures goes_on { DialerGoesOn (D.state dialer.old) (D.state dialer.new) }
@@ -237,7 +270,7 @@ pub fn exchange<S: Source, O: Sink, D: Dialer>(
         moment,
     };
     let Feed { source, ahead } = client_in;
-    let concluded = answer_cold(alloc, &handed, source, ahead, client_out, dialer);
+    let concluded = answer_cold(alloc, way, &handed, source, ahead, client_out, dialer);
     Exchanged {
         note: ExchangeNote {
             config: snapshot.number,

@@ -6,6 +6,7 @@ mod exchanges;
 mod forwarding;
 mod notes;
 mod replies;
+mod tunnels;
 
 pub use exchanges::{answer_cold, answer_request, exchange};
 pub use notes::{ExchangeNote, Exchanged};
@@ -14,6 +15,7 @@ pub use px_judging::{Handed, HeadSeen};
 pub use px_pumps::{After, Asked, Conclusion, Ending, Flow, Pump};
 pub use px_streams::Feed;
 pub use px_templates::Page;
+pub use px_ways::Way;
 
 #[cfg(test)]
 mod tests;

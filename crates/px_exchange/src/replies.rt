@@ -2,13 +2,13 @@
 ghost use Rattle.std.specs.Prelude.{◌≡◌, ◌≢◌, IfOk, IsTrue};
 ghost use Rattle.px_base.specs.Sinks.{SinkGoesOn};
 ghost use Rattle.px_pumps.specs.Returning.{WriteCause};
-ghost use Rattle.px_exchange.specs.Replies.{ReturnsSome, ending_of, error_of, local_due, no_tunnel, page_reply, parent_of, parent_text, url_page};
+ghost use Rattle.px_exchange.specs.Replies.{ReturnsSome, ending_of, error_of, local_due, page_reply, parent_of, parent_text, url_page};
 
 use itoa::Buffer;
 use px_base::{Mem, Sink, SinkFault, Text, write_all};
 use px_config::Config;
 use px_decide::Route;
-use px_judging::{LocalReply, ReplyKind, TunnelPlan, reply_bytes, url_symbols};
+use px_judging::{LocalReply, ReplyKind, reply_bytes, url_symbols};
 use px_patterns::Url;
 use px_pumps::{After, Conclusion, Ending, after_whole, broken};
 use px_templates::Page;
@@ -121,19 +121,5 @@ pub fn page_reply(
         error_of(page),
         parent.as_bytes(),
         bodiless,
-    )
-}
-
-/// The page of a request for a tunnel: tunnels aren't built yet.
-pub fn no_tunnel(alloc: Global, plan: &TunnelPlan) -> Result<LocalReply, Mem>
-    ensures { IfOk result (λ reply. reply ≡ no_tunnel plan.now) }
-{
-    url_page(
-        alloc,
-        Page::InvalidRequest,
-        &plan.url,
-        b"NotBuilt",
-        &[],
-        false,
     )
 }

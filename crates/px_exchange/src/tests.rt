@@ -1,5 +1,5 @@
 //! Exchanges over objects in memory.
-use crate::{After, Config, Ending, Feed, HeadSeen, Page, exchange};
+use crate::{After, Config, Ending, Feed, HeadSeen, Page, Way, exchange};
 use px_base::{Answer, List, MemDialer, MemFiles, Peer, Source, TapeIn, TapeOut, Text};
 use px_config::load;
 use px_publish::Snapshot;
@@ -111,8 +111,10 @@ fn answer(rt: &impl Abort, alloc: Global, row: &Row<'_>, answer: Answer) -> Resu
     let peer = Peer {
         address: text(alloc, b"127.0.0.1")?,
     };
+    let way: Way<'_, HostRuntime> = Way::InTurn;
     let exchanged = exchange(
         alloc,
+        &way,
         &snapshot,
         HeadSeen::Block(text(alloc, row.head)?),
         false,
@@ -284,10 +286,56 @@ fn a_request_is_answered_without_a_dial(rt: HostRuntime) -> Result<(), Fail> {
     let end: &[u8] = b"<html><body>blocked: ads</body></html>\n";
     assert!(rt; outcome.returned.as_bytes().ends_with(end));
     assert!(rt; outcome.links.is_empty());
-    let tunnel = get(b"CONNECT a.test:443 HTTP/1.1\r\n\r\n");
-    let outcome = answer(&rt, alloc, &tunnel, link(alloc, ANSWER)?)?;
-    let end: &[u8] = b"<html><body>invalid-request: NotBuilt</body></html>\n";
-    page_ends(&rt, &outcome, Page::InvalidRequest, end);
-    assert!(rt; outcome.links.is_empty());
+    Ok(())
+}
+
+const CONNECT: &[u8] = b"CONNECT a.test:443 HTTP/1.1\r\n\r\n";
+
+#[test]
+fn a_tunnel_is_carried(rt: HostRuntime) -> Result<(), Fail> {
+    let alloc = rt.alloc();
+    let direct = Row {
+        rest: b"abc",
+        ..get(CONNECT)
+    };
+    let outcome = answer(&rt, alloc, &direct, link(alloc, b"xyz")?)?;
+    assert_eq!(rt; outcome.ending, Ending::Tunnel);
+    assert_eq!(rt; outcome.after, After::Close);
+    let returned: &[u8] = b"HTTP/1.1 200 Connection established\r\n\r\nxyz";
+    assert_eq!(rt; outcome.returned.as_bytes(), returned);
+    assert_eq!(rt; outcome.links.as_bytes(), b"a.test 443\nabc" as &[u8]);
+    let parent = Row {
+        main: b"forward / p.test:8080\n",
+        ..direct
+    };
+    let outcome = answer(&rt, alloc, &parent, link(alloc, b"xyz")?)?;
+    assert_eq!(rt; outcome.returned.as_bytes(), b"xyz" as &[u8]);
+    let sent: &[u8] = b"p.test 8080\nCONNECT a.test:443 HTTP/1.1\r\nHost: a.test:443\r\n\r\nabc";
+    assert_eq!(rt; outcome.links.as_bytes(), sent);
+    Ok(())
+}
+
+#[test]
+fn a_tunnel_that_fails_has_its_page_or_its_end(rt: HostRuntime) -> Result<(), Fail> {
+    let alloc = rt.alloc();
+    let row = Row {
+        main: b"forward / p.test:8080\n",
+        ..get(CONNECT)
+    };
+    let end: &[u8] = b"<html><body>forwarding-failed</body></html>\n";
+    let outcome = answer(&rt, alloc, &row, Answer::NotReached)?;
+    page_ends(&rt, &outcome, Page::ForwardingFailed, end);
+    let end: &[u8] = b"<html><body>send-failed</body></html>\n";
+    let outcome = answer(&rt, alloc, &row, failing_link(alloc, false)?)?;
+    page_ends(&rt, &outcome, Page::SendFailed, end);
+    let failed = Row {
+        rest: b"abc",
+        read_fails: &[0],
+        ..get(CONNECT)
+    };
+    let outcome = answer(&rt, alloc, &failed, link(alloc, b"xyz")?)?;
+    assert_eq!(rt; outcome.ending, Ending::Tunnel);
+    assert_eq!(rt; outcome.after, After::ReadFailed);
+    assert!(rt; outcome.returned.as_bytes().ends_with(b"xyz"));
     Ok(())
 }

@@ -14,12 +14,12 @@ use Rattle.px_main.specs.Passing.{RunsPass}
 use Rattle.px_exchange.specs.declared.notes.ExchangeNote.{ExchangeNote}
 use Rattle.px_serve.specs.declared.ends.SessionEnd.{SessionEnd}
 use Rattle.px_serve.specs.Ends.{ReadEndCause, WriteEndCause}
-use Rattle.px_serve.specs.Histories.{Looks}
+use Rattle.px_serve.specs.Histories.{IsFixed, Looks}
 use Rattle.px_serve.specs.Sessions.{Caller, Serves}
 use Rattle.px_main.specs.Sents.{sent_text}
 use Rattle.px_main.specs.declared.statuses.Status.{Status}
 use Rattle.px_main.specs.Statuses.{status_after}
-use Rattle.px_main.specs.Passes.{Outside, Untouched, IsSame, GivesUp, HasAnswers, PutsSent, Withholds, PutsAfter, HasServed, IsServed, caller_of, IsFixed, FailsOnOrigin, RefusesOrigin, Passes, RunsLoaded}
+use Rattle.px_main.specs.Passes.{Outside, Untouched, IsSame, GivesUp, HasAnswers, PutsSent, Withholds, PutsAfter, HasServed, IsServed, caller_of, FailsOnOrigin, RefusesOrigin, Passes, RunsLoaded}
 
 -- files that were only read
 pub record OnlyRead (old new : FilesState) : Type 0 where

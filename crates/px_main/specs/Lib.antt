@@ -8,3 +8,4 @@ pub mod Reads
 pub mod Loads
 pub mod Passing
 pub mod Commands
+pub mod Proxies

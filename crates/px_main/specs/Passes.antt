@@ -12,7 +12,7 @@ use Rattle.px_config.specs.declared.configs.Config.{Config}
 use Rattle.px_exchange.specs.declared.notes.ExchangeNote.{ExchangeNote}
 use Rattle.px_serve.specs.declared.ends.SessionEnd.{SessionEnd}
 use Rattle.px_serve.specs.Ends.{ReadEndCause, WriteEndCause}
-use Rattle.px_serve.specs.Histories.{Looks}
+use Rattle.px_serve.specs.Histories.{IsFixed, Looks}
 use Rattle.px_serve.specs.Sessions.{Caller, Serves}
 use Rattle.px_main.specs.declared.statuses.Status.{Status}
 use Rattle.px_main.specs.declared.statuses.Status.TheVariants as status
@@ -94,12 +94,6 @@ PutsAfter old new sent text e s = PutsSent old new sent text e s ⊎ Withholds o
 -- the one client of `pass`
 abbrev pub caller_of : List (List ℕ) → Caller
 caller_of tags = record { tags = tags; peer = codes "127.0.0.1" }
-
--- there is one configuration, with the number 0, and each look gives it
-pub record IsFixed (looks : Looks) (config : Config) : Type 0 where
-  pub tells : IsTrue looks.tells
-  pub view : looks.view ≡ config ∷ []
-  pub coming : (k : ℕ) → looks.coming k ≡ record { number = 0; config = config }
 
 -- a session over the input and the answers, with that configuration, and the text of SENT
 pub record IsServed (config : Config) (tags : List (List ℕ)) (answers : List Answer) (i i' : SourceState) (o o' : SinkState) (t t' : ClockState) (e : SessionEnd) (text : List ℕ) : Type 0 where

@@ -2,6 +2,8 @@
 use Rattle.std.specs.Prelude.{◌≡◌, ℕ, Bool, true, false, Result, Ok, Err}
 use Rattle.px_base.specs.declared.faults.FilesFault.{FilesFault}
 use Rattle.px_base.specs.declared.faults.FilesFault.TheVariants as fault
+use Rattle.px_proxy.specs.declared.serving.ServeEnd.{ServeEnd}
+use Rattle.px_proxy.specs.declared.serving.ServeEnd.TheVariants as serving
 use Rattle.px_serve.specs.declared.ends.SessionEnd.{SessionEnd}
 use Rattle.px_serve.specs.declared.ends.SessionEnd.TheVariants as end
 use Rattle.px_main.specs.declared.statuses.Status.{Status}
@@ -15,6 +17,7 @@ code_of status.ReadFailed = 3
 code_of status.WriteFailed = 4
 code_of status.NoMemory = 5
 code_of status.NoUrl = 6
+code_of status.DoorsFailed = 7
 code_of status.NoOrigin = 8
 
 -- memory was wanting in a session that ended so
@@ -42,3 +45,9 @@ status_after end.Spent put = status_of_put put
 status_after end.ReadFailed put = status.ReadFailed
 status_after end.WriteFailed put = status.WriteFailed
 status_after end.NoMemory put = status.NoMemory
+
+-- the status behind serving
+abbrev pub status_of_serving : ServeEnd → Status
+status_of_serving serving.End = status.Done
+status_of_serving serving.DoorsFailed = status.DoorsFailed
+status_of_serving serving.NoMemory = status.NoMemory

@@ -1,6 +1,7 @@
 -- The words after the program's name.
-use Rattle.std.specs.Prelude.{◌≡◌, ℕ, ◌==◌, Bool, true, false, not, ◌&&◌, List, [], ◌∷◌, map, codes, string_bytes, Option, Some, None}
+use Rattle.std.specs.Prelude.{◌≡◌, ℕ, ◌-◌, ◌^◌, ◌==◌, nat_le, if◌then◌else◌, Bool, true, false, not, ◌&&◌, List, [], ◌∷◌, length, map, codes, string_bytes, Option, Some, None}
 use Rattle.std.specs.declared.string.String.{String}
+use Rattle.px_base.specs.Numbers.{decimal}
 
 -- a word that begins with `-`
 abbrev pub is_flag : List ℕ → Bool
@@ -25,3 +26,29 @@ pub record IsCheck (words : List (List ℕ)) (config : List ℕ) : Type 0 where
 pub record IsShow (words : List (List ℕ)) (config url : List ℕ) (tags : List (List ℕ)) : Type 0 where
   pub words_are : words ≡ codes "show" ∷ config ∷ url ∷ tags
   pub none_is_flag : no_flags (config ∷ url ∷ tags) ≡ true
+
+-- a number from 1 to that one, of one to ten digits
+abbrev pub above_none : Option ℕ → Option ℕ
+above_none None = None
+above_none (Some n) = if n == 0 then None else Some n
+
+abbrev pub count_of : ℕ → List ℕ → Option ℕ
+count_of most word = if nat_le (length word) 10 then above_none (decimal most word) else None
+
+abbrev pub behind_workers : Option ℕ → Option ℕ → Option ℕ
+behind_workers None most = None
+behind_workers (Some workers) most = most
+
+-- [WORKERS [CONNECTIONS]]: at most so many connections are served; without a number there is no end to them
+abbrev pub most_of : List (List ℕ) → Option ℕ
+most_of [] = Some (2 ^ 64 - 1)
+most_of (workers ∷ []) = behind_workers (count_of 64 workers) (Some (2 ^ 64 - 1))
+most_of (workers ∷ connections ∷ []) = behind_workers (count_of 64 workers) (count_of 4294967295 connections)
+most_of (workers ∷ connections ∷ more ∷ rest) = None
+
+-- serve CONFIG [WORKERS [CONNECTIONS]], where no word after the first begins with `-`
+pub record IsServe (words : List (List ℕ)) (config : List ℕ) (most : ℕ) : Type 0 where
+  pub counts : List (List ℕ)
+  pub words_are : words ≡ codes "serve" ∷ config ∷ counts
+  pub most_is : most_of counts ≡ Some most
+  pub none_is_flag : no_flags (config ∷ counts) ≡ true

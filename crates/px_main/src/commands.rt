@@ -9,13 +9,16 @@ use crate::reports::report;
 use crate::statuses::{Status, USAGE};
 use crate::words::{read_check, read_pass, read_show};
 use px_base::{Clock, Files, Sink, Source};
+use px_ways::Way;
 use std::alloc::Global;
+use std::thread::Threads;
 
-/// Runs the command that the words name, and gives the exit status: 0 where its whole result was given, 1 where the
+/// Runs the command that the words name, the tunnels of `pass` in that way, and gives the exit status: 0 where its whole result was given, 1 where the
 /// configuration doesn't load, 2 where the words aren't of the grammar, 3 after a read fault, 4 after a write fault, 5 where
 /// memory was wanting, 6 where the URL of `show` isn't read, and 8 where ORIGIN isn't there, is too large or not of its format.
-pub fn run_tool<F: Files, S: Source, O: Sink, E: Sink, T: Clock>(
+pub fn run_tool<R: Threads + Sync, F: Files, S: Source, O: Sink, E: Sink, T: Clock>(
     alloc: Global,
+    way: &Way<'_, R>,
     words: &[String],
     files: &mut F,
     input: &mut S,
@@ -31,7 +34,7 @@ pub fn run_tool<F: Files, S: Source, O: Sink, E: Sink, T: Clock>(
         (record { files = F.state files.new; input = S.state input.new; out = O.state out.new; errors = E.state err.new; clock = T.state clock.new }) }
 {
     match read_pass(words) {
-        Some(pass) => run_pass(alloc, pass, files, input, out, err, clock).code(),
+        Some(pass) => run_pass(alloc, way, pass, files, input, out, err, clock).code(),
         None => match read_check(words) {
             Some(config) => run_check(alloc, config, files, out, err).code(),
             None => match read_show(words) {

@@ -1,4 +1,4 @@
-//! Helmthread: a filtering HTTP proxy. The commands of the program: words, files and statuses around one session.
+//! Helmthread: a filtering HTTP proxy. The commands of the program: words, files and statuses around sessions.
 #![tactic(auto)]
 
 mod answers;
@@ -6,6 +6,7 @@ mod commands;
 mod loads;
 mod origins;
 mod passes;
+mod proxies;
 mod reports;
 mod sents;
 mod statuses;
@@ -13,7 +14,10 @@ mod texts;
 mod words;
 
 use commands::run_tool;
+use proxies::{Parts, run_proxy};
 use px_base::{DiskFiles, ReaderSource, SystemClock, WriterSink};
+use px_doors::SocketDoors;
+use px_ways::Way;
 use reports::report;
 use statuses::{Status, USAGE};
 use std::process::ExitCode;
@@ -27,6 +31,14 @@ fn program_words<R: Env + AllocGlobal>(rt: &R) -> io::Result<Vec<String>> {
         words.push(word)?;
     }
     Ok(words)
+}
+
+/// Whether the words are for `run_proxy`: those whose first is `serve`.
+fn is_serve(words: &[String]) -> bool {
+    match words.first() {
+        Some(word) => word.as_str() == "serve",
+        None => false,
+    }
 }
 
 fn main(rt: HostRuntime) -> ExitCode {
@@ -44,11 +56,17 @@ fn main(rt: HostRuntime) -> ExitCode {
         }
     };
     let mut files = DiskFiles::new(alloc, &rt);
+    if is_serve(&words) {
+        let doors = SocketDoors::new(alloc, &rt);
+        let parts = Parts { files, doors, err };
+        return ExitCode::from(run_proxy(alloc, &rt, &words, parts).status);
+    }
     let mut input = ReaderSource::new(rt.stdin(), 0);
     let mut out = WriterSink::new(rt.stdout(), 0);
     let mut clock = SystemClock::new(&rt);
+    let way: Way<'_, HostRuntime> = Way::InTurn;
     let status = run_tool(
-        alloc, &words, &mut files, &mut input, &mut out, &mut err, &mut clock,
+        alloc, &way, &words, &mut files, &mut input, &mut out, &mut err, &mut clock,
     );
     ExitCode::from(status)
 }

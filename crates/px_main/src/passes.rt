@@ -17,15 +17,18 @@ use px_base::{Answer, Clock, Files, List, Mem, MemDialer, Peer, Sink, Source, Te
 use px_config::{Config, load};
 use px_publish::{Configs, FixedConfig};
 use px_serve::{SessionEnd, serve_connection};
+use px_ways::Way;
 use std::alloc::Global;
 use std::sync::Arc;
+use std::thread::Threads;
 
 /// The address of the one client of `pass`.
 const CLIENT: &[u8] = b"127.0.0.1";
 
 /// Runs `pass`: loads CONFIG, reads ORIGIN, serves the input as one client, and puts SENT last.
-pub fn run_pass<F: Files, S: Source, O: Sink, E: Sink, T: Clock>(
+pub fn run_pass<R: Threads + Sync, F: Files, S: Source, O: Sink, E: Sink, T: Clock>(
     alloc: Global,
+    way: &Way<'_, R>,
     pass: PassWords<'_>,
     files: &mut F,
     input: &mut S,
@@ -41,14 +44,15 @@ pub fn run_pass<F: Files, S: Source, O: Sink, E: Sink, T: Clock>(
         (record { files = F.state files.new; input = S.state input.new; out = O.state out.new; errors = E.state err.new; clock = T.state clock.new }) }
 {
     match load(alloc, files, pass.config) {
-        Ok(loaded) => run_loaded(alloc, loaded, pass, files, input, out, clock),
+        Ok(loaded) => run_loaded(alloc, way, loaded, pass, files, input, out, clock),
         Err(fault) => report_load(alloc, err, &fault),
     }
 }
 
 /// Goes on with a configuration.
-fn run_loaded<F: Files, S: Source, O: Sink, T: Clock>(
+fn run_loaded<R: Threads + Sync, F: Files, S: Source, O: Sink, T: Clock>(
     alloc: Global,
+    way: &Way<'_, R>,
     loaded: Config,
     pass: PassWords<'_>,
     files: &mut F,
@@ -66,7 +70,7 @@ fn run_loaded<F: Files, S: Source, O: Sink, T: Clock>(
 {
     match read_answers(alloc, files, pass.origin) {
         OriginRead::Answers(answers) => match serve_input(
-            alloc, loaded, pass.tags, answers, input, out, clock,
+            alloc, way, loaded, pass.tags, answers, input, out, clock,
         ) {
             Ok(served) => put_served(files, pass.sent, served),
             Err(Mem) => Status::NoMemory,
@@ -93,8 +97,9 @@ fn fixed_config(alloc: Global, loaded: Config) -> Result<FixedConfig<Config>, Me
 }
 
 /// Serves the input as one client, whose dials have the answers. After `Mem` nothing was read, asked or returned.
-fn serve_input<S: Source, O: Sink, T: Clock>(
+fn serve_input<R: Threads + Sync, S: Source, O: Sink, T: Clock>(
     alloc: Global,
+    way: &Way<'_, R>,
     loaded: Config,
     tags: &[String],
     answers: List<Answer>,
@@ -116,6 +121,7 @@ fn serve_input<S: Source, O: Sink, T: Clock>(
     let mut dialer = MemDialer::new(alloc, answers)?;
     let session = serve_connection(
         alloc,
+        way,
         &mut configs,
         input,
         out,

@@ -1,17 +1,18 @@
 // How a command ends.
 ghost use Rattle.std.specs.Prelude.{◌≡◌, codes};
-ghost use Rattle.px_main.specs.Statuses.{code_of, is_wanting, status_after, status_of_put};
+ghost use Rattle.px_main.specs.Statuses.{code_of, is_wanting, status_after, status_of_put, status_of_serving};
 
 use px_base::FilesFault;
+use px_proxy::ServeEnd;
 use px_serve::SessionEnd;
 
 /// How the commands are used, a line for each that is built.
 pub const USAGE: &[u8] =
-    b"usage: pass CONFIG ORIGIN SENT [TAG]...\n       show CONFIG URL [TAG]...\n       check CONFIG\n";
+    b"usage: pass CONFIG ORIGIN SENT [TAG]...\n       show CONFIG URL [TAG]...\n       check CONFIG\n       serve CONFIG [WORKERS [CONNECTIONS]]\n";
 
 /// What the text of the usage is.
 pub fn constants()
-    ensures { USAGE.now ≡ codes "usage: pass CONFIG ORIGIN SENT [TAG]...\n       show CONFIG URL [TAG]...\n       check CONFIG\n" }
+    ensures { USAGE.now ≡ codes "usage: pass CONFIG ORIGIN SENT [TAG]...\n       show CONFIG URL [TAG]...\n       check CONFIG\n       serve CONFIG [WORKERS [CONNECTIONS]]\n" }
 {}
 
 /// How a command ended.
@@ -30,6 +31,8 @@ pub enum Status {
     NoMemory,
     /// The URL of `show` isn't read.
     NoUrl,
+    /// The doors of `serve` failed.
+    DoorsFailed,
     /// ORIGIN is missing, too large, or not of its format.
     NoOrigin,
 }
@@ -47,6 +50,7 @@ impl Status {
             Status::WriteFailed => 4,
             Status::NoMemory => 5,
             Status::NoUrl => 6,
+            Status::DoorsFailed => 7,
             Status::NoOrigin => 8,
         }
     }
@@ -79,6 +83,17 @@ pub fn is_wanting(end: SessionEnd) -> bool
         SessionEnd::Cut => false,
         SessionEnd::Closed => false,
         SessionEnd::Spent => false,
+    }
+}
+
+/// The status behind serving.
+pub fn status_of_serving(end: ServeEnd) -> Status
+    ensures { result ≡ status_of_serving end }
+{
+    match end {
+        ServeEnd::End => Status::Done,
+        ServeEnd::DoorsFailed => Status::DoorsFailed,
+        ServeEnd::NoMemory => Status::NoMemory,
     }
 }
 

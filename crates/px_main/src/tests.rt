@@ -84,8 +84,9 @@ pub fn run_over(
         moments.push(moment)?;
     }
     let mut clock = FixedClock::new(List::from_vec(moments));
+    let way: Way<'_, HostRuntime> = Way::InTurn;
     let status = run_tool(
-        alloc, &given, &mut files, &mut input, &mut out, &mut err, &mut clock,
+        alloc, &way, &given, &mut files, &mut input, &mut out, &mut err, &mut clock,
     );
     let sent = match files.read("s", 1_000) {
         Ok(Content::Found(text)) => Some(text),

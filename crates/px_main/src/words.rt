@@ -1,6 +1,8 @@
 // The words after the program's name.
 ghost use Rattle.std.specs.Prelude.{◌≡◌, not, map, string_bytes, IfSome, IsNone, List, ℕ};
-ghost use Rattle.px_main.specs.Words.{IsPass, IsCheck, IsShow, is_flag, no_flags};
+ghost use Rattle.px_main.specs.Words.{IsPass, IsCheck, IsServe, IsShow, count_of, is_flag, most_of, no_flags};
+
+use px_base::read_decimal;
 
 /// The words of `pass`.
 #[derive(Clone, Copy)]
@@ -65,6 +67,64 @@ pub fn read_show(words: &[String]) -> Option<ShowWords<'_>>
         url: words[2].as_str(),
         tags: &words[3..],
     })
+}
+
+/// The words of `serve`.
+#[derive(Clone, Copy)]
+pub struct ServeWords<'w> {
+    /// The name of the configuration's main file.
+    pub config: &'w str,
+    /// The most connections that are served.
+    pub most: u64,
+}
+
+/// Reads `serve CONFIG [WORKERS [CONNECTIONS]]`, where WORKERS is 1 to 64 and CONNECTIONS 1 to 4,294,967,295, each of at most ten
+/// digits. Without CONNECTIONS there is no end to them.
+pub fn read_serve(words: &[String]) -> Option<ServeWords<'_>>
+    ensures serve { IfSome result (λ w. IsServe (map string_bytes words.now) w.config.now w.most) }
+    ensures other { IsNone result → (config : List ℕ) (most : ℕ) → ¬ IsServe (map string_bytes words.now) config most }
+{
+    if words.len() < 2 || words[0].as_str() != "serve" || has_flag(&words[1..]) {
+        return None;
+    }
+    match read_counts(&words[2..]) {
+        Some(most) => Some(ServeWords {
+            config: words[1].as_str(),
+            most,
+        }),
+        None => None,
+    }
+}
+
+/// WORKERS and CONNECTIONS, by which at most so many connections are served.
+fn read_counts(words: &[String]) -> Option<u64>
+    ensures { result ≡ most_of (map string_bytes words.now) }
+{
+    match words {
+        [] => Some(u64::MAX),
+        [workers] => match read_count(workers.as_bytes(), 64) {
+            Some(_) => Some(u64::MAX),
+            None => None,
+        },
+        [workers, connections] => match read_count(workers.as_bytes(), 64) {
+            Some(_) => read_count(connections.as_bytes(), 4_294_967_295),
+            None => None,
+        },
+        _ => None,
+    }
+}
+
+/// A number from 1 to `most`, of one to ten digits.
+fn read_count(word: &[u8], most: u64) -> Option<u64>
+    ensures { result ≡ count_of most word.now }
+{
+    if word.len() > 10 {
+        return None;
+    }
+    match read_decimal(word, most) {
+        Some(0) => None,
+        number => number,
+    }
 }
 
 /// Whether a word begins with `-`.

@@ -1,6 +1,7 @@
 -- What one turn of a session adds.
-use Rattle.std.proofs.Common.{rules, ◌≡◌, ℕ, Bool, true, false, IsTrue, ◌+◌, ◌<◌, List, [], ◌∷◌, ◌++◌, length, map, Option, None, Some, sym, ap, ◌∙◌, refl, inl, inr, arith, add-one}
+use Rattle.std.proofs.Common.{rules, ◌≡◌, ℕ, Bool, true, false, ◌+◌, ◌<◌, List, [], ◌∷◌, ◌++◌, length, map, Option, None, Some, sym, ap, ◌∙◌, refl, inl, inr, arith, add-one}
 use Rattle.std.proofs.lemmas.List.{append-nil, map-append}
+use Rattle.px_base.proofs.SinkLemmas.{sink_goes_on}
 use Rattle.px_base.specs.Sources.{SourceState, SourceGoesOn}
 use Rattle.px_base.specs.Sinks.{SinkState, SinkGoesOn}
 use Rattle.px_base.specs.Dials.{DialerState, DialerGoesOn}
@@ -30,7 +31,7 @@ turned_one {caller = caller} {n = n} {looks = looks} {looks' = looks'} {i = i} {
   turns = λ t before. by e b.ends (record { seen = seen; rest = rest; head = head t; noted = refl; answers = b.answers (on.tells_same ∙ t.client_in) t.client_out t.dialer });
 }
   where
-    by : {before : List Begun} (end : Option SessionEnd) → end ≡ end_after (is_last n) b.begun.concluded.after
+    by : {before : List Begun} (end : Option SessionEnd) → end ≡ end_after (is_last n) b.begun.concluded
         → Step caller n (state_at (ahead ++ i.left) old before) (state_at (ahead' ++ i'.left) new (before ++ b.begun ∷ [])) b.begun
         → Turns caller n (state_at (ahead ++ i.left) old before) (state_at (ahead' ++ i'.left) new (before ++ b.begun ∷ [])) i'.left end
     by None is step = record { begun = b.begun; step = step; goes_on = sym is }
@@ -70,19 +71,6 @@ pub record Serving (caller : Caller) (n : ℕ) (first last : Looks) (i i' : Sour
   pub open_ : now.client_out.finished ≡ old.client_out.finished
   pub in_goes_on : SourceGoesOn i i'
   pub lasts : Lasts old now
-
-open_before : (a b : Bool) → (IsTrue a → IsTrue b) → b ≡ false → a ≡ false
-open_before true b kept e = sym (kept refl) ∙ e
-open_before false b kept e = refl
-
-pub sink_goes_on : {a b c : SinkState} → SinkGoesOn a b → SinkGoesOn b c → SinkGoesOn a c
-sink_goes_on {b = b} {c = c} h k = record {
-  tells_same = k.tells_same ∙ h.tells_same;
-  finished_kept = λ f. k.finished_kept (h.finished_kept f);
-  mark_same = k.mark_same ∙ h.mark_same;
-  faults_later = omega arith;
-  steady_kept = λ s o. let p = h.steady_kept s (open_before b.finished c.finished k.finished_kept o) in let q = k.steady_kept p.0 o in (q.0, q.1 ∙ p.1);
-}
 
 dialer_goes_on : {a b c : DialerState} → DialerGoesOn a b → DialerGoesOn b c → DialerGoesOn a c
 dialer_goes_on h k = search rules

@@ -1,10 +1,13 @@
 -- How sessions end.
-use Rattle.std.specs.Prelude.{◌≡◌, ℕ, Bool, true, false, ◌&&◌, ◌==◌, if◌then◌else◌, List, [], ◌∷◌, Option, None, Some}
+use Rattle.std.specs.Prelude.{◌≡◌, ℕ, Bool, true, false, not, ◌&&◌, ◌==◌, if◌then◌else◌, List, [], ◌∷◌, Option, None, Some}
 use Rattle.px_base.specs.Causes.{Rose}
 use Rattle.px_base.specs.Sources.{SourceState}
 use Rattle.px_base.specs.Sinks.{SinkState}
 use Rattle.px_pumps.specs.declared.notes.After.{After}
 use Rattle.px_pumps.specs.declared.notes.After.TheVariants as after
+use Rattle.px_pumps.specs.declared.notes.Conclusion.{Conclusion}
+use Rattle.px_pumps.specs.declared.notes.Ending.{Ending}
+use Rattle.px_pumps.specs.declared.notes.Ending.TheVariants as ending
 use Rattle.px_serve.specs.declared.ends.SessionEnd.{SessionEnd}
 use Rattle.px_serve.specs.declared.ends.SessionEnd.TheVariants as end
 
@@ -18,16 +21,32 @@ only_empty (b ∷ c ∷ bs) = if b == 10 then only_empty (c ∷ bs) else (if b =
 abbrev pub end_of_bytes : List ℕ → SessionEnd
 end_of_bytes bytes = if only_empty bytes then end.Ended else end.Cut
 
--- how a session ends behind an exchange, if it does; the last one that a connection may have ends it
-abbrev pub end_after : Bool → After → Option SessionEnd
-end_after last after.Keep = if last then Some end.Spent else None
-end_after last after.Close = Some (if last then end.Spent else end.Closed)
-end_after last after.Cut = Some end.Cut
-end_after last after.ReadFailed = Some end.ReadFailed
-end_after last after.WriteFailed = Some end.WriteFailed
-end_after last after.NoMemory = Some end.NoMemory
+-- a tunnel was carried
+abbrev pub is_tunnel : Ending → Bool
+is_tunnel (ending.Page p) = false
+is_tunnel ending.Image = false
+is_tunnel ending.Empty = false
+is_tunnel ending.Redirect = false
+is_tunnel ending.Passed = false
+is_tunnel ending.Filtered = false
+is_tunnel ending.Bodiless = false
+is_tunnel ending.CutFront = false
+is_tunnel ending.Tunnel = true
+is_tunnel ending.Broken = false
 
--- the client's source failed where the end is ReadFailed, and nowhere else
+-- how a session ends behind an exchange, if it does; the last one that a connection may have ends it
+abbrev pub end_by : Bool → Bool → After → Option SessionEnd
+end_by last tunnel after.Keep = if last then Some end.Spent else None
+end_by last tunnel after.Close = Some (if last && not tunnel then end.Spent else end.Closed)
+end_by last tunnel after.Cut = Some end.Cut
+end_by last tunnel after.ReadFailed = Some end.ReadFailed
+end_by last tunnel after.WriteFailed = Some end.WriteFailed
+end_by last tunnel after.NoMemory = Some end.NoMemory
+
+abbrev pub end_after : Bool → Conclusion → Option SessionEnd
+end_after last x = end_by last (is_tunnel x.ending) x.after
+
+-- the client's source failed where the end is ReadFailed, and elsewhere only in a tunnel that wanted memory
 abbrev pub ReadEndCause : SourceState → SourceState → SessionEnd → Type 0
 ReadEndCause old new end.ReadFailed = Rose old.faults new.faults
 ReadEndCause old new end.Ended = new.faults ≡ old.faults
@@ -35,17 +54,18 @@ ReadEndCause old new end.Cut = new.faults ≡ old.faults
 ReadEndCause old new end.Closed = new.faults ≡ old.faults
 ReadEndCause old new end.Spent = new.faults ≡ old.faults
 ReadEndCause old new end.WriteFailed = new.faults ≡ old.faults
-ReadEndCause old new end.NoMemory = new.faults ≡ old.faults
+ReadEndCause old new end.NoMemory = Unit {0}
 
--- the client's sink failed where the end is WriteFailed, and nowhere else
+-- the client's sink failed where the end is WriteFailed, and elsewhere only in a tunnel whose client's source failed, too, or that
+-- wanted memory
 abbrev pub WriteEndCause : SinkState → SinkState → SessionEnd → Type 0
 WriteEndCause old new end.WriteFailed = Rose old.faults new.faults
 WriteEndCause old new end.Ended = new.faults ≡ old.faults
 WriteEndCause old new end.Cut = new.faults ≡ old.faults
 WriteEndCause old new end.Closed = new.faults ≡ old.faults
 WriteEndCause old new end.Spent = new.faults ≡ old.faults
-WriteEndCause old new end.ReadFailed = new.faults ≡ old.faults
-WriteEndCause old new end.NoMemory = new.faults ≡ old.faults
+WriteEndCause old new end.ReadFailed = Unit {0}
+WriteEndCause old new end.NoMemory = Unit {0}
 
 -- the same before an end is known
 abbrev pub ReadTurnCause : SourceState → SourceState → Option SessionEnd → Type 0
@@ -55,3 +75,17 @@ ReadTurnCause old new (Some e) = ReadEndCause old new e
 abbrev pub WriteTurnCause : SinkState → SinkState → Option SessionEnd → Type 0
 WriteTurnCause old new None = new.faults ≡ old.faults
 WriteTurnCause old new (Some e) = WriteEndCause old new e
+
+-- the client's sink is as open as it was, save behind a tunnel
+abbrev pub StaysOpen : SinkState → SinkState → SessionEnd → Type 0
+StaysOpen old new end.Ended = new.finished ≡ old.finished
+StaysOpen old new end.Cut = new.finished ≡ old.finished
+StaysOpen old new end.Spent = new.finished ≡ old.finished
+StaysOpen old new end.Closed = Unit {0}
+StaysOpen old new end.ReadFailed = Unit {0}
+StaysOpen old new end.WriteFailed = Unit {0}
+StaysOpen old new end.NoMemory = Unit {0}
+
+abbrev pub TurnStaysOpen : SinkState → SinkState → Option SessionEnd → Type 0
+TurnStaysOpen old new None = new.finished ≡ old.finished
+TurnStaysOpen old new (Some e) = StaysOpen old new e

@@ -34,6 +34,12 @@ pub record Looks : Type 0 where
 abbrev pub held_number : Looks → ℕ
 held_number looks = length looks.view - 1
 
+-- there is one configuration, with the number 0, and each look gives it
+pub record IsFixed (looks : Looks) (config : Config) : Type 0 where
+  pub tells : IsTrue looks.tells
+  pub view : looks.view ≡ config ∷ []
+  pub coming : (k : ℕ) → looks.coming k ≡ record { number = 0; config = config }
+
 -- the exchange used an entry of that view
 abbrev pub UsesOf : List Config → Begun → Type 0
 UsesOf view b = slice_get view b.number ≡ Some b.config

@@ -63,7 +63,7 @@ pub record Step (caller : Caller) (n : ℕ) (s t : State) (b : Begun) : Type 0 w
 pub record Keeps (caller : Caller) (n : ℕ) (s t : State) : Type 0 where
   pub begun : Begun
   pub step : Step caller n s t begun
-  pub goes_on : end_after (is_last n) begun.concluded.after ≡ None
+  pub goes_on : end_after (is_last n) begun.concluded ≡ None
 
 -- the states that so many exchanges lead to
 abbrev pub Reaches : Caller → State → ℕ → State → Type 0
@@ -91,7 +91,7 @@ pub record Stops (s t : State) (left : List ℕ) (e : SessionEnd) : Type 0 where
 pub record Closes (caller : Caller) (n : ℕ) (s t : State) (e : SessionEnd) : Type 0 where
   pub begun : Begun
   pub step : Step caller n s t begun
-  pub ends : end_after (is_last n) begun.concluded.after ≡ Some e
+  pub ends : end_after (is_last n) begun.concluded ≡ Some e
 
 -- how a session ends behind so many exchanges; `left` are the client's bytes that its source has left
 abbrev pub EndsSession : Caller → ℕ → State → State → List ℕ → SessionEnd → Type 0
@@ -141,7 +141,7 @@ pub record Begins (caller : Caller) (n : ℕ) (seen : HeadSeen) (i : SourceState
   pub takes : TakesOne looks looks' old.clock new.clock begun
   pub answers : IsTrue i.tells → IsTrue old.client_out.tells → IsTrue old.dialer.tells
       → Answers (given_of caller n seen begun) (record { stream = rest; behind = rest' }) old.dialer new.dialer old.client_out.taken new.client_out.taken begun.concluded
-  pub ends : e ≡ end_after (is_last n) begun.concluded.after
+  pub ends : e ≡ end_after (is_last n) begun.concluded
 
 -- between two requests, with that stream left, and behind the exchanges that were begun
 abbrev pub state_at : List ℕ → Objects → List Begun → State

@@ -3,8 +3,7 @@ ghost use Rattle.std.specs.Prelude.{◌≡◌, ◌++◌, IsTrue};
 ghost use Rattle.px_base.specs.Dials.{DialerGoesOn};
 ghost use Rattle.px_base.specs.Sinks.{SinkGoesOn};
 ghost use Rattle.px_base.specs.Sources.{SourceGoesOn};
-ghost use Rattle.px_pumps.specs.Returning.{WriteCause};
-ghost use Rattle.px_exchange.specs.Causes.{ReadCause};
+ghost use Rattle.px_exchange.specs.Causes.{ReadCause, StaysOpen, WriteCause};
 ghost use Rattle.px_exchange.specs.Exchange.{Answers};
 ghost use Rattle.px_serve.specs.Keeping.{IsStoreOf};
 
@@ -12,7 +11,9 @@ use px_base::{Dialer, Sink, Source};
 use px_config::Warm;
 use px_exchange::{Conclusion, Handed, answer_cold, answer_request};
 use px_streams::Ahead;
+use px_ways::Way;
 use std::alloc::Global;
+use std::thread::Threads;
 
 /// What the patterns and filters of the entry with that number keep from search to search.
 #[derive(Drop)]
@@ -22,8 +23,9 @@ pub struct Kept<'c> {
 }
 
 /// Answers the request of an entry with that number: with the store kept where it is of that entry, and else with one of its own.
-pub fn answer<S: Source, O: Sink, D: Dialer>(
+pub fn answer<R: Threads + Sync, S: Source, O: Sink, D: Dialer>(
     alloc: Global,
+    way: &Way<'_, R>,
     handed: &Handed<'_>,
     number: u64,
     kept: &mut Kept<'_>,
@@ -38,8 +40,8 @@ pub fn answer<S: Source, O: Sink, D: Dialer>(
         (record { stream = ahead.old ++ (S.state client_in.old).left; behind = ahead.new ++ (S.state client_in.new).left })
         (D.state dialer.old) (D.state dialer.new) (O.state client_out.old).taken (O.state client_out.new).taken result }
     ensures read_cause { ReadCause (S.state client_in.old) (S.state client_in.new) result.after }
-    ensures write_cause { WriteCause (O.state client_out.old) (O.state client_out.new) result.after }
-    ensures open { (O.state client_out.new).finished ≡ (O.state client_out.old).finished }
+    ensures write_cause { WriteCause (O.state client_out.old) (O.state client_out.new) result }
+    ensures open { StaysOpen (O.state client_out.old) (O.state client_out.new) result }
     ensures in_goes_on { SourceGoesOn (S.state client_in.old) (S.state client_in.new) }
     ensures out_goes_on { SinkGoesOn (O.state client_out.old) (O.state client_out.new) }
     ensures goes_on { DialerGoesOn (D.state dialer.old) (D.state dialer.new) }
@@ -50,6 +52,7 @@ pub fn answer<S: Source, O: Sink, D: Dialer>(
     if kept.number == number {
         answer_request(
             alloc,
+            way,
             handed,
             &mut kept.warm,
             client_in,
@@ -58,6 +61,6 @@ pub fn answer<S: Source, O: Sink, D: Dialer>(
             dialer,
         )
     } else {
-        answer_cold(alloc, handed, client_in, ahead, client_out, dialer)
+        answer_cold(alloc, way, handed, client_in, ahead, client_out, dialer)
     }
 }

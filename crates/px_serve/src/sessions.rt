@@ -2,7 +2,7 @@
 ghost use Rattle.std.specs.Prelude.{◌≡◌, ◌≢◌, ◌<◌, ◌≤◌, ◌+◌, ◌++◌, ◌∷◌, [], List, ℕ, IsTrue, None, Some, length, vec_len, vec_capacity};
 ghost use Rattle.px_base.specs.Sources.{SourceGoesOn};
 ghost use Rattle.px_publish.specs.Views.{Entry};
-ghost use Rattle.px_serve.specs.Ends.{end_of_bytes, ReadEndCause, WriteEndCause, ReadTurnCause, WriteTurnCause};
+ghost use Rattle.px_serve.specs.Ends.{end_of_bytes, ReadEndCause, WriteEndCause, ReadTurnCause, StaysOpen, TurnStaysOpen, WriteTurnCause};
 ghost use Rattle.px_serve.specs.Histories.{Looks};
 ghost use Rattle.px_serve.specs.Keeping.{IsKept};
 ghost use Rattle.px_serve.specs.Sessions.{Caller, Objects, Lasts, Begins, Turned, Serves};
@@ -14,7 +14,9 @@ use px_exchange::{Config, ExchangeNote, Handed, HeadSeen};
 use px_head::HEAD_LIMIT;
 use px_publish::{Configs, CountFull};
 use px_streams::{Ahead, Front, ReadFault, read_front};
+use px_ways::Way;
 use std::alloc::Global;
+use std::thread::Threads;
 
 /// What came of a session: a note of each exchange that was begun, in order, and how it ended.
 #[derive(Drop)]
@@ -43,8 +45,9 @@ fn add_note(notes: &mut Vec<ExchangeNote>, note: ExchangeNote)
 }
 
 /// Answers the request of that number, from 0, with one look at the configurations and one moment.
-fn serve_request<K, S, O, D, T>(
+fn serve_request<R, K, S, O, D, T>(
     alloc: Global,
+    way: &Way<'_, R>,
     client: &Client<'_>,
     number: u64,
     kept: &mut Kept<'_>,
@@ -58,6 +61,7 @@ fn serve_request<K, S, O, D, T>(
     notes: &mut Vec<ExchangeNote>,
 ) -> Option<SessionEnd>
 where
+    R: Threads + Sync,
     K: Configs<Held = Config>,
     S: Source,
     O: Sink,
@@ -78,7 +82,7 @@ where
     ensures read_cause { ReadTurnCause (S.state client_in.old) (S.state client_in.new) result }
     ensures write_cause { WriteTurnCause (O.state client_out.old) (O.state client_out.new) result }
     ensures kept { IsKept (K.view configs.new) kept.new }
-    ensures open { (O.state client_out.new).finished ≡ (O.state client_out.old).finished }
+    ensures open { TurnStaysOpen (O.state client_out.old) (O.state client_out.new) result }
     ensures in_goes_on { SourceGoesOn (S.state client_in.old) (S.state client_in.new) }
     ensures lasts { Lasts
         (record { client_out = O.state client_out.old; dialer = D.state dialer.old; clock = T.state clock.old })
@@ -98,6 +102,7 @@ where
     };
     let concluded = answer(
         alloc,
+        way,
         &handed,
         snapshot.number,
         kept,
@@ -112,7 +117,7 @@ where
         ending: concluded.ending,
     };
     add_note(notes, note);
-    end_after(last, concluded.after)
+    end_after(last, concluded)
 }
 
 /// How a session ends where the client's bytes end: in nothing but empty lines, or elsewhere in a head.
@@ -127,8 +132,9 @@ fn end_of_bytes(bytes: &[u8]) -> SessionEnd
 }
 
 /// Serves the request of that number, or sees how the session ends before it.
-fn turn<K, S, O, D, T>(
+fn turn<R, K, S, O, D, T>(
     alloc: Global,
+    way: &Way<'_, R>,
     client: &Client<'_>,
     number: u64,
     kept: &mut Kept<'_>,
@@ -141,6 +147,7 @@ fn turn<K, S, O, D, T>(
     notes: &mut Vec<ExchangeNote>,
 ) -> Option<SessionEnd>
 where
+    R: Threads + Sync,
     K: Configs<Held = Config>,
     S: Source,
     O: Sink,
@@ -162,7 +169,7 @@ where
     ensures read_cause { ReadTurnCause (S.state client_in.old) (S.state client_in.new) result }
     ensures write_cause { WriteTurnCause (O.state client_out.old) (O.state client_out.new) result }
     ensures kept { IsKept (K.view configs.new) kept.new }
-    ensures open { (O.state client_out.new).finished ≡ (O.state client_out.old).finished }
+    ensures open { TurnStaysOpen (O.state client_out.old) (O.state client_out.new) result }
     ensures in_goes_on { SourceGoesOn (S.state client_in.old) (S.state client_in.new) }
     ensures lasts { Lasts
         (record { client_out = O.state client_out.old; dialer = D.state dialer.old; clock = T.state clock.old })
@@ -171,6 +178,7 @@ where
     match read_front(alloc, client_in, ahead, HEAD_LIMIT) {
         Ok(Front::Block(block)) => serve_request(
             alloc,
+            way,
             client,
             number,
             kept,
@@ -185,6 +193,7 @@ where
         ),
         Ok(Front::Over) => serve_request(
             alloc,
+            way,
             client,
             number,
             kept,
@@ -204,8 +213,9 @@ where
 }
 
 /// Serves requests until the session ends, with a store of an entry that the configurations have had. For the notes there is room.
-fn serve<K, S, O, D, T>(
+fn serve<R, K, S, O, D, T>(
     alloc: Global,
+    way: &Way<'_, R>,
     client: &Client<'_>,
     kept: &mut Kept<'_>,
     configs: &mut K,
@@ -216,6 +226,7 @@ fn serve<K, S, O, D, T>(
     notes: &mut Vec<ExchangeNote>,
 ) -> SessionEnd
 where
+    R: Threads + Sync,
     K: Configs<Held = Config>,
     S: Source,
     O: Sink,
@@ -233,7 +244,7 @@ where
         notes.new.items result }
     ensures read_cause { ReadEndCause (S.state client_in.old) (S.state client_in.new) result }
     ensures write_cause { WriteEndCause (O.state client_out.old) (O.state client_out.new) result }
-    ensures open { (O.state client_out.new).finished ≡ (O.state client_out.old).finished }
+    ensures open { StaysOpen (O.state client_out.old) (O.state client_out.new) result }
     ensures in_goes_on { SourceGoesOn (S.state client_in.old) (S.state client_in.new) }
     ensures lasts { Lasts
         (record { client_out = O.state client_out.old; dialer = D.state dialer.old; clock = T.state clock.old })
@@ -243,8 +254,8 @@ where
     let mut number = 0u64;
     'requests: loop {
         match turn(
-            alloc, client, number, kept, configs, client_in, &mut ahead, client_out, dialer, clock,
-            notes,
+            alloc, way, client, number, kept, configs, client_in, &mut ahead, client_out, dialer,
+            clock, notes,
         ) {
             Some(end) => return end,
             None => number += 1,
@@ -253,8 +264,9 @@ where
 }
 
 /// Serves with a store of the entry that is held as the session begins. Without memory for the store nothing is read.
-fn serve_kept<K, S, O, D, T>(
+fn serve_kept<R, K, S, O, D, T>(
     alloc: Global,
+    way: &Way<'_, R>,
     client: &Client<'_>,
     configs: &mut K,
     client_in: &mut S,
@@ -264,6 +276,7 @@ fn serve_kept<K, S, O, D, T>(
     notes: &mut Vec<ExchangeNote>,
 ) -> SessionEnd
 where
+    R: Threads + Sync,
     K: Configs<Held = Config>,
     S: Source,
     O: Sink,
@@ -280,7 +293,7 @@ where
         notes.new.items result }
     ensures read_cause { ReadEndCause (S.state client_in.old) (S.state client_in.new) result }
     ensures write_cause { WriteEndCause (O.state client_out.old) (O.state client_out.new) result }
-    ensures open { (O.state client_out.new).finished ≡ (O.state client_out.old).finished }
+    ensures open { StaysOpen (O.state client_out.old) (O.state client_out.new) result }
     ensures in_goes_on { SourceGoesOn (S.state client_in.old) (S.state client_in.new) }
     ensures lasts { Lasts
         (record { client_out = O.state client_out.old; dialer = D.state dialer.old; clock = T.state clock.old })
@@ -292,7 +305,8 @@ where
             Ok(warm) => {
                 let mut kept = Kept { number, warm };
                 serve(
-                    alloc, client, &mut kept, configs, client_in, client_out, dialer, clock, notes,
+                    alloc, way, client, &mut kept, configs, client_in, client_out, dialer, clock,
+                    notes,
                 )
             }
             Err(Mem) => SessionEnd::NoMemory,
@@ -302,8 +316,9 @@ where
 }
 
 /// Takes room for the notes and serves. The client's sink is left open.
-fn serve_noted<K, S, O, D, T>(
+fn serve_noted<R, K, S, O, D, T>(
     alloc: Global,
+    way: &Way<'_, R>,
     client: &Client<'_>,
     configs: &mut K,
     client_in: &mut S,
@@ -312,6 +327,7 @@ fn serve_noted<K, S, O, D, T>(
     clock: &mut T,
 ) -> Session
 where
+    R: Threads + Sync,
     K: Configs<Held = Config>,
     S: Source,
     O: Sink,
@@ -326,7 +342,7 @@ where
         result.exchanges result.end }
     ensures read_cause { ReadEndCause (S.state client_in.old) (S.state client_in.new) result.end }
     ensures write_cause { WriteEndCause (O.state client_out.old) (O.state client_out.new) result.end }
-    ensures open { (O.state client_out.new).finished ≡ (O.state client_out.old).finished }
+    ensures open { StaysOpen (O.state client_out.old) (O.state client_out.new) result.end }
     ensures in_goes_on { SourceGoesOn (S.state client_in.old) (S.state client_in.new) }
     ensures lasts { Lasts
         (record { client_out = O.state client_out.old; dialer = D.state dialer.old; clock = T.state clock.old })
@@ -335,7 +351,7 @@ where
     match Vec::with_capacity(alloc, REQUEST_LIMIT as usize) {
         Ok(mut notes) => {
             let end = serve_kept(
-                alloc, client, configs, client_in, client_out, dialer, clock, &mut notes,
+                alloc, way, client, configs, client_in, client_out, dialer, clock, &mut notes,
             );
             Session {
                 exchanges: List::from_vec(notes),
@@ -351,8 +367,9 @@ where
 
 /// Serves one connection: its requests one after the other, up to `REQUEST_LIMIT`. Before anything is read, room for the notes
 /// is taken. Whatever the end, the client's sink is finished behind it.
-pub fn serve_connection<K, S, O, D, T>(
+pub fn serve_connection<R, K, S, O, D, T>(
     alloc: Global,
+    way: &Way<'_, R>,
     configs: &mut K,
     client_in: &mut S,
     client_out: &mut O,
@@ -362,6 +379,7 @@ pub fn serve_connection<K, S, O, D, T>(
     tags: &[Text],
 ) -> Session
 where
+    R: Threads + Sync,
     K: Configs<Held = Config>,
     S: Source,
     O: Sink,
@@ -384,7 +402,7 @@ where
 {
     let client = Client { tags, peer };
     let session = serve_noted(
-        alloc, &client, configs, client_in, client_out, dialer, clock,
+        alloc, way, &client, configs, client_in, client_out, dialer, clock,
     );
     client_out.finish();
     session

@@ -3,8 +3,9 @@ use crate::ends::end_after;
 use crate::{SessionEnd, serve_connection};
 use px_base::{Answer, FixedClock, List, MemDialer, MemFiles, Peer, TapeIn, TapeOut, Text};
 use px_config::load;
-use px_exchange::{After, Config, Ending, Page};
+use px_exchange::{After, Conclusion, Config, Ending, Page};
 use px_publish::{Configs, FixedConfig, StepConfig};
+use px_ways::Way;
 use std::alloc::Global;
 use std::process::Abort;
 use std::sync::Arc;
@@ -89,8 +90,10 @@ fn serve_with<K: Configs<Held = Config>>(
     let peer = Peer {
         address: Text::from_bytes(alloc, b"127.0.0.1").expect(rt, "memory"),
     };
+    let way: Way<'_, HostRuntime> = Way::InTurn;
     let session = serve_connection(
         alloc,
+        &way,
         configs,
         &mut client_in,
         &mut client_out,
@@ -314,8 +317,17 @@ fn a_head_of_65_536_bytes_is_sent_on_and_a_longer_one_refused(rt: HostRuntime) {
 
 #[test]
 fn the_hundredth_request_ends_a_session(rt: HostRuntime) {
-    assert_eq!(rt; end_after(true, After::Close), Some(SessionEnd::Spent));
-    assert_eq!(rt; end_after(false, After::Close), Some(SessionEnd::Closed));
+    let closed = Conclusion {
+        ending: Ending::Passed,
+        after: After::Close,
+    };
+    assert_eq!(rt; end_after(true, closed), Some(SessionEnd::Spent));
+    assert_eq!(rt; end_after(false, closed), Some(SessionEnd::Closed));
+    let tunnel = Conclusion {
+        ending: Ending::Tunnel,
+        ..closed
+    };
+    assert_eq!(rt; end_after(true, tunnel), Some(SessionEnd::Closed));
     let mut input = Text::new(rt.alloc());
     for _ in 0..101 {
         input.push_all(ONE_GET).expect(&rt, "memory");

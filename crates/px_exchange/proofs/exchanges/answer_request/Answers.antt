@@ -17,8 +17,8 @@ returns-in-Ok-Local-clause-page_cause g c =
 pub returns-in-Ok-Tunnel-clause-answers : goal.returns-in-Ok-Tunnel-clause-answers
 returns-in-Ok-Tunnel-clause-answers g c s u t =
     let config = ap (λ (x : Given). x.config) c.handed.view_is in
-    tunnel_answers c.args.handed.now c.in-Ok-Tunnel.plan _ (g.D.Dialer.state c.args.dialer.now) _ _ c.refuse_tunnel.result
-    (rw c.in-Ok-Tunnel.field-0-is at c.in-Ok-Tunnel.ensures.judged) refl (rw config at (c.refuse_tunnel.ensures.returns u))
+    tunnel_answers c.args.handed.now c.in-Ok-Tunnel.plan _ (g.D.Dialer.state c.args.dialer.now) (g.D.Dialer.state c.open_tunnel.new.dialer) _ _ c.open_tunnel.result
+    (rw c.in-Ok-Tunnel.field-0-is at c.in-Ok-Tunnel.ensures.judged) (rw config at (c.open_tunnel.ensures.tunnels s u t))
 
 pub returns-in-Ok-Forward-clause-answers : goal.returns-in-Ok-Forward-clause-answers
 returns-in-Ok-Forward-clause-answers g c s u t =

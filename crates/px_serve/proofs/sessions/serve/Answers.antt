@@ -10,7 +10,7 @@ requests-preserved g c =
     let before = c.requests.invariant in
     let e = c.in-None.ensures in
     record {
-      serving = serving_on before.serving e.turned (e.goes_on_below refl) (e.one_more refl) e.read_cause e.write_cause c.turn.ensures.open c.turn.ensures.in_goes_on c.turn.ensures.lasts;
+      serving = serving_on before.serving e.turned (e.goes_on_below refl) (e.one_more refl) e.read_cause e.write_cause e.«open» c.turn.ensures.in_goes_on c.turn.ensures.lasts;
       room = omega (arith, before.room, e.room);
       kept = c.turn.ensures.kept;
     }

@@ -1,4 +1,4 @@
-use Rattle.px_serve.proofs.SessionLemmas.{sink_goes_on}
+use Rattle.px_base.proofs.SinkLemmas.{sink_goes_on}
 use Rattle.px_serve.proofs.sessions.serve_connection.Goals as goal
 
 pub returns-clause-lasts : goal.returns-clause-lasts

@@ -1,0 +1,26 @@
+use Rattle.std.proofs.Common.{◌∙◌, sym, inl}
+use Rattle.px_exchange.specs.Tunnels.{TunnelTalks}
+use Rattle.px_exchange.proofs.DiallingLemmas.{dialed_open, dialed_once}
+use Rattle.px_exchange.proofs.tunnels.dial_tunnel.Goals as goal
+
+pub hang_up-requires-clause-open : goal.hang_up-requires-clause-open
+hang_up-requires-clause-open g c t =
+    let told = sym c.in-Ok.ensures.goes_on.tells_same ∙ t in
+    dialed_open _ _ _ _ (c.in-Ok.ensures.dials told) c.tunnel_over-talked.ensures.in_goes_on
+
+pub returns-in-Ok-clause-talks : goal.returns-in-Ok-clause-talks
+returns-in-Ok-clause-talks g c s u t page_due =
+    let e = c.in-Ok.ensures in
+    let talked = c.tunnel_over-talked.ensures in
+    let told = e.told t in
+    let old = g.D.Dialer.state c.args.dialer.now in
+    let mid = g.D.Dialer.state c.dial.new.self in
+    let new = g.D.Dialer.state c.hang_up.new.self in
+    let i = g.D.In.Source.state c.tunnel_over-talked.new.link_in in
+    let o = g.D.Out.Sink.state c.tunnel_over-talked.new.link_out in
+    let plan = c.args.plan.now in
+    inl (dialed_once old mid new _ i _ o plan.route
+    (TunnelTalks page_due plan _ (g.O.Sink.state c.args.client_out.now).taken (g.O.Sink.state c.tunnel_over-talked.new.client_out).taken c.tunnel_over-talked.result)
+    (e.goes_on.tells_same ∙ t) (rw c.as_bytes.ensures at (e.dials t)) told e.fresh
+    e.coming (λ k. (e.coming_left k, e.goes_on.tells_coming_same ∙ k)) (e.cause.link_reads_same, e.cause.link_writes_same)
+    talked.in_goes_on (λ k. talked.link_calm k e.fresh.not_finished) c.hang_up.ensures.hung_up (talked.talks s told.in_tells told.out_tells u e.fresh page_due))
