@@ -1,5 +1,6 @@
 // A listener over TCP, for clients of this machine.
 ghost use Rattle.std.specs.Prelude.{◌≡◌, IsErr, false, IfOk};
+ghost use Rattle.std.specs.Net.Text.{ip_text};
 ghost use Rattle.std.specs.Str.{is_utf8};
 ghost use Rattle.px_sockets.specs.Untold.{AreNew};
 
@@ -90,7 +91,8 @@ fn receive(
     address: IpAddr,
     mark: u64,
 ) -> Result<Caller, CallerFault>
-    ensures { IfOk result (λ caller. AreNew mark (⟦<SocketSource as Source>⟧.state caller.client_in) (⟦<SocketSink as Sink>⟧.state caller.client_out)) }
+    ensures peer { IfOk result (λ caller. caller.peer.address ≡ ip_text address) }
+    ensures new { IfOk result (λ caller. AreNew mark (⟦<SocketSource as Source>⟧.state caller.client_in) (⟦<SocketSink as Sink>⟧.state caller.client_out)) }
 {
     let Ok(address) = address_text(alloc, address) else {
         return Err(CallerFault::Mem);
@@ -105,8 +107,10 @@ fn receive(
     }
 }
 
-/// An address as the manual writes it: four numbers with dots, or groups with colons and no brackets.
-fn address_text(alloc: Global, address: IpAddr) -> Result<Text, Mem> {
+/// An address in text: four numbers with dots, or groups with colons and no brackets (RFC 5952, section 4).
+fn address_text(alloc: Global, address: IpAddr) -> Result<Text, Mem>
+    ensures { IfOk result (λ text. text ≡ ip_text address) }
+{
     let text = format!(in alloc; "{address}")?;
-    Text::from_bytes(alloc, text.as_bytes())
+    Ok(Text::from_vec(text.into_bytes()))
 }
