@@ -1,0 +1,51 @@
+// Where connections come from.
+ghost use Rattle.std.specs.Prelude.{◌-◌, ◌^◌, ◌<◌, IsTrue, length};
+ghost use Rattle.px_base.specs.Causes.{HasCause};
+ghost use Rattle.px_doors.specs.Conns.{parted_as};
+ghost use Rattle.px_doors.specs.Doors.{DoorsState, DoorsGoesOn, Stays, Accepts, AcceptCause, Parts, accepted_as};
+
+use crate::{Conn, Parted};
+use px_base::{Clock, Dialer, Failed, Sink, Source};
+
+/// Why no connection was accepted: the call failed and the doors' count rose, or memory was wanting.
+#[derive(Clone, Copy, Debug, PartialEq, Eq)]
+pub enum AcceptFault {
+    Failed,
+    Mem,
+}
+
+/// Gives connections, and takes back those that were served. It counts the connections accepted, and the faults of
+/// `listen` and `accept`.
+pub trait Doors: Send {
+    type In: Source;
+
+    type Out: Sink;
+
+    type Dial: Dialer;
+
+    type Time: Clock;
+
+    /// What contracts see of them.
+    ghost state: { Self → DoorsState };
+
+    /// Begins to take connections at a host and port.
+    fn listen(&mut self, host: &[u8], port: u16) -> Result<(), Failed>
+        ensures stays { Stays (state self.old) (state self.new) }
+        ensures cause { HasCause (state self.old).faults (state self.new).faults result }
+        ensures goes_on { DoorsGoesOn (state self.old) (state self.new) };
+
+    /// The next connection; the room that `part` needs for it is made first. `None` where no more come.
+    fn accept(
+        &mut self,
+    ) -> Result<Option<Conn<Self::In, Self::Out, Self::Dial, Self::Time>>, AcceptFault>
+        requires { (state self.old).accepted < 2 ^ 64 - 1 }
+        ensures accepts { Accepts (state self.old) (state self.new) (accepted_as Self.In.state Self.Out.state Self.Dial.state Self.Time.state result) }
+        ensures cause { AcceptCause (state self.old).faults (state self.new).faults result }
+        ensures goes_on { DoorsGoesOn (state self.old) (state self.new) };
+
+    /// Takes back a connection that was served.
+    fn part(&mut self, parted: Parted<Self::In, Self::Out, Self::Dial, Self::Time>)
+        requires { IsTrue (state self.old).tells → length (state self.old).parted < (state self.old).accepted }
+        ensures parts { Parts (state self.old) (state self.new) (parted_as Self.In.state Self.Out.state Self.Dial.state Self.Time.state parted) }
+        ensures goes_on { DoorsGoesOn (state self.old) (state self.new) };
+}

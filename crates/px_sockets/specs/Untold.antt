@@ -1,0 +1,24 @@
+-- What contracts see of a dialer that tells nothing, and of both ends of a stream that is just made.
+use Rattle.std.specs.Prelude.{◌≡◌, ℕ, false, []}
+use Rattle.px_base.specs.Sources.{SourceState, untold_source}
+use Rattle.px_base.specs.Sinks.{SinkState, untold_sink}
+use Rattle.px_base.specs.Dials.{DialerState}
+
+-- a dialer that tells nothing and has these counts of faults
+abbrev pub untold_dialer : (names reach link_reads link_writes mark : ℕ) → DialerState
+untold_dialer names reach link_reads link_writes mark = record {
+  tells = false;
+  dials = [];
+  tells_coming = false;
+  coming = [];
+  names = names;
+  reach = reach;
+  link_reads = link_reads;
+  link_writes = link_writes;
+  mark = mark;
+}
+
+-- both ends have that mark and no faults
+pub record AreNew (mark : ℕ) (i : SourceState) (o : SinkState) : Type 0 where
+  pub source : i ≡ untold_source 0 mark
+  pub sink : o ≡ untold_sink 0 mark
