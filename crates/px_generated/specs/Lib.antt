@@ -1,0 +1,4 @@
+pub mod Draws
+pub mod Files
+pub mod Sessions
+pub mod Jobs
