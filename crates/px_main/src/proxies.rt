@@ -137,7 +137,10 @@ fn serve_loaded<R: Threads + Sync, A: Doors>(
         return Status::NoMemory;
     };
     if doors
-        .listen(config.settings.listen_host.as_bytes(), config.settings.listen_port)
+        .listen(
+            config.settings.listen_host.as_bytes(),
+            config.settings.listen_port,
+        )
         .is_err()
     {
         return Status::DoorsFailed;

@@ -66,13 +66,17 @@ impl SocketListener {
     }
 
     /// Waits for a connection, and gives its ends that mark. One that its client gave up before it was accepted is passed
-    /// over. At a refusal the connection is closed.
+    /// over, and so is one that can't be set up, as where its client is gone. At a refusal the connection is closed.
     pub fn accept(&self, alloc: Global, mark: u64) -> Result<Caller, CallerFault>
         ensures { IfOk result (λ caller. AreNew mark (⟦<SocketSource as Source>⟧.state caller.client_in) (⟦<SocketSink as Sink>⟧.state caller.client_out)) }
     {
         for _ in 0..u64::MAX {
             match self.listener.accept() {
-                Ok((stream, address)) => return receive(alloc, stream, address.ip(), mark),
+                Ok((stream, address)) => match receive(alloc, stream, address.ip(), mark) {
+                    Ok(caller) => return Ok(caller),
+                    Err(CallerFault::Mem) => return Err(CallerFault::Mem),
+                    Err(CallerFault::Failed) => {}
+                },
                 Err(error) => {
                     if error.kind() != ErrorKind::ConnectionAborted {
                         return Err(CallerFault::Failed);
