@@ -3,3 +3,4 @@ pub mod WordLemmas
 pub mod ReadLemmas
 pub mod PassLemmas
 pub mod LoadLemmas
+pub mod ProxyLemmas

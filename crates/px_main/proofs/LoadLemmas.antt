@@ -16,12 +16,12 @@ use Rattle.px_patterns.specs.Urls.{url_of}
 use Rattle.px_show.specs.Showing.{checked, shown}
 use Rattle.px_main.specs.declared.statuses.Status.{Status}
 use Rattle.px_main.specs.declared.statuses.Status.TheVariants as status
-use Rattle.px_main.specs.Loads.{Checks, FailsToLoad, Loads, Prints, RefusesUrl, ReportsOrWants, RunsCheck, RunsShow, ShowsBy, ShowsUrl, load_status, url_fault_line}
+use Rattle.px_main.specs.Loads.{FailsToLoad, Loads, Prints, ReportsOrWants, RunsCheck, RunsShow, ShowsBy, load_status, url_fault_line}
 use Rattle.px_main.specs.Passes.{GivesUp, Outside, ReportCause, Reports, ReportsOn}
 use Rattle.px_main.specs.Passing.{RunsPass}
 
 -- nothing but a text was printed on the error output
-reports_by : (f f' : FilesState) (i : SourceState) (o e e' : SinkState) (t : ClockState) (text : List ℕ) (whole s : Status)
+pub reports_by : (f f' : FilesState) (i : SourceState) (o e e' : SinkState) (t : ClockState) (text : List ℕ) (whole s : Status)
     → (IsTrue f.tells → Unchanged f.contents f'.contents)
     → (IsTrue e.tells → ReportsOn e.taken e'.taken text whole s) → ReportCause e e' whole s
     → Reports (record { files = f; input = i; out = o; errors = e; clock = t }) (record { files = f'; input = i; out = o; errors = e'; clock = t }) text whole s
@@ -29,7 +29,7 @@ reports_by f f' i o e e' t text whole s same reported cause =
     record { untouched = record { files = same; input = refl; out = refl; clock = refl }; reported = reported; cause = cause }
 
 -- nothing was printed, for want of memory
-gives_up : (f f' : FilesState) (i : SourceState) (o e e' : SinkState) (t : ClockState) (s : Status)
+pub gives_up : (f f' : FilesState) (i : SourceState) (o e e' : SinkState) (t : ClockState) (s : Status)
     → (IsTrue f.tells → Unchanged f.contents f'.contents) → s ≡ status.NoMemory → e' ≡ e
     → GivesUp (record { files = f; input = i; out = o; errors = e; clock = t }) (record { files = f'; input = i; out = o; errors = e'; clock = t }) s
 gives_up f f' i o e e' t s same wanting unprinted =
@@ -44,7 +44,7 @@ prints_by f f' i o o' e t text s same printed cause =
     record { files = same; input = refl; errors = refl; clock = refl; printed = printed; cause = cause }
 
 -- a configuration that doesn't load
-fails_by : (config : List ℕ) (f f' : FilesState) (i : SourceState) (o e e' : SinkState) (t : ClockState) (fault : LoadFault) (s : Status)
+pub fails_by : (config : List ℕ) (f f' : FilesState) (i : SourceState) (o e e' : SinkState) (t : ClockState) (fault : LoadFault) (s : Status)
     → (IsTrue f.tells → Unchanged f.contents f'.contents)
     → (IsTrue f.tells → IsLoadFault (spelled (gathered f.contents config)) fault) → LoadCause f.read_faults f'.read_faults fault
     → (IsTrue e.tells → ReportsOn e.taken e'.taken (fault_text fault) (load_status fault) s) → ReportCause e e' (load_status fault) s

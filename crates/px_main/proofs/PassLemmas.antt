@@ -1,7 +1,6 @@
 -- What a command did, step by step.
-use Rattle.std.proofs.Common.{rules, ◌≡◌, ℕ, List, [], ◌∷◌, IsTrue, Option, Some, None, Result, Ok, Err, refl, sym, ap, ◌∙◌, ◌⊎◌, inl, inr, subst}
-use Rattle.px_base.specs.Causes.{Rose}
-use Rattle.px_base.specs.Contents.{Contents, FilesState, FilesGoOn, FilesCause, Unchanged, OthersUnchanged, Puts}
+use Rattle.std.proofs.Common.{rules, ◌≡◌, ℕ, List, [], ◌∷◌, IsTrue, Option, Some, Result, Ok, Err, refl, sym, ◌∙◌, inl, inr, subst}
+use Rattle.px_base.specs.Contents.{Contents, FilesState, FilesGoOn, Unchanged, Puts}
 use Rattle.px_base.specs.Sources.{SourceState, SourceGoesOn}
 use Rattle.px_base.specs.Sinks.{SinkState, SinkGoesOn}
 use Rattle.px_base.specs.Moments.{ClockState, ClockGoesOn}
@@ -18,8 +17,7 @@ use Rattle.px_serve.specs.Histories.{IsFixed, Looks}
 use Rattle.px_serve.specs.Sessions.{Caller, Serves}
 use Rattle.px_main.specs.Sents.{sent_text}
 use Rattle.px_main.specs.declared.statuses.Status.{Status}
-use Rattle.px_main.specs.Statuses.{status_after}
-use Rattle.px_main.specs.Passes.{Outside, Untouched, IsSame, GivesUp, HasAnswers, PutsSent, Withholds, PutsAfter, HasServed, IsServed, caller_of, FailsOnOrigin, RefusesOrigin, Passes, RunsLoaded}
+use Rattle.px_main.specs.Passes.{Outside, IsSame, HasAnswers, PutsAfter, HasServed, caller_of, Passes, RunsLoaded}
 
 -- files that were only read
 pub record OnlyRead (old new : FilesState) : Type 0 where

@@ -1,7 +1,6 @@
 -- What a file holds, by what reading it gave.
-use Rattle.std.proofs.Common.{◌≡◌, ℕ, ◌≤◌, ◌<◌, Bool, true, false, cond, List, [], ◌∷◌, length, Option, None, Some, refl, sym, ap, ◌∙◌, arith, leb}
+use Rattle.std.proofs.Common.{◌≡◌, ℕ, ◌≤◌, ◌<◌, Bool, true, false, cond, List, length, Option, None, Some, refl, sym, ap, arith, leb}
 use Rattle.std.proofs.lemmas.Bool.{leb-true, leb-false}
-use Rattle.px_base.specs.declared.files.Content.{Content}
 use Rattle.px_base.specs.declared.files.Content.TheVariants as content
 use Rattle.px_base.specs.declared.dials.Answer.{Answer}
 use Rattle.px_base.specs.Contents.{content_of}

@@ -1,5 +1,5 @@
 -- The first words of a list.
-use Rattle.std.proofs.Common.{◌≡◌, ℕ, suc, ◌+◌, ◌-◌, ◌≤◌, List, [], ◌∷◌, length, take, drop, get_or, map, refl, sym, ap, ◌∙◌, arith}
+use Rattle.std.proofs.Common.{◌≡◌, ◌-◌, ◌≤◌, List, [], ◌∷◌, length, take, drop, get_or, map, refl, arith}
 use Rattle.std.proofs.lemmas.List.{take_all}
 
 -- a list of just two words
@@ -8,6 +8,12 @@ just_two f [] a b l h i = absurd (omega (arith, l))
 just_two f (w ∷ []) a b l h i = absurd (omega (arith, l))
 just_two f (w ∷ x ∷ []) a b l h i = rw (h, i) refl
 just_two f (w ∷ x ∷ y ∷ xs) a b l h i = absurd (omega (arith, l))
+
+pub first_two : {A B : Type 0} (f : A → B) (xs : List A) (a b : A) → 2 ≤ length xs → a ≡ get_or xs 0 a → b ≡ get_or xs 1 b
+    → map f xs ≡ f a ∷ f b ∷ map f (take (length xs - 2) (drop 2 xs))
+first_two f [] a b l h i = absurd (omega arith)
+first_two f (w ∷ []) a b l h i = absurd (omega arith)
+first_two f (w ∷ x ∷ xs) a b l h i = rw (h, i, take_all (length (w ∷ x ∷ xs) - 2) xs (omega arith)) refl
 
 pub first_three : {A B : Type 0} (f : A → B) (xs : List A) (a b c : A) → 3 ≤ length xs → a ≡ get_or xs 0 a → b ≡ get_or xs 1 b → c ≡ get_or xs 2 c
     → map f xs ≡ f a ∷ f b ∷ f c ∷ map f (take (length xs - 3) (drop 3 xs))

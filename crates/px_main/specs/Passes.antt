@@ -1,5 +1,5 @@
 -- What `pass` does: with its words, the files, the input, the output, the error output and the clock.
-use Rattle.std.specs.Prelude.{◌≡◌, ℕ, ◌≤◌, false, ◌⊎◌, List, [], ◌∷◌, ◌++◌, length, Option, None, Some, Result, codes, IsTrue}
+use Rattle.std.specs.Prelude.{◌≡◌, ℕ, ◌≤◌, false, ◌⊎◌, List, ◌++◌, length, Option, None, Some, Result, codes, IsTrue}
 use Rattle.px_base.specs.Causes.{Rose}
 use Rattle.px_base.specs.Contents.{FilesState, FilesGoOn, FilesCause, Unchanged, Puts, OthersUnchanged}
 use Rattle.px_base.specs.Sources.{SourceState, SourceGoesOn}

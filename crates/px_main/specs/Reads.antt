@@ -1,12 +1,8 @@
 -- What reading ORIGIN gives, and why.
-use Rattle.std.specs.Prelude.{◌≡◌, ℕ, List, [], Option, None, Some, codes}
+use Rattle.std.specs.Prelude.{◌≡◌, ℕ, List, Option}
 use Rattle.px_base.specs.Causes.{Rose}
 use Rattle.px_base.specs.Contents.{FilesState}
 use Rattle.px_base.specs.declared.dials.Answer.{Answer}
-use Rattle.px_base.specs.declared.files.Content.{Content}
-use Rattle.px_base.specs.declared.files.Content.TheVariants as content
-use Rattle.px_main.specs.declared.statuses.Status.{Status}
-use Rattle.px_main.specs.declared.statuses.Status.TheVariants as status
 use Rattle.px_main.specs.declared.answers.OriginRead.{OriginRead}
 use Rattle.px_main.specs.declared.answers.OriginRead.TheVariants as origin
 use Rattle.px_main.specs.Passes.{HasAnswers}

@@ -1,5 +1,5 @@
 -- The statuses of a command, as numbers, and how the end of a session gives one.
-use Rattle.std.specs.Prelude.{◌≡◌, ℕ, Bool, true, false, Result, Ok, Err}
+use Rattle.std.specs.Prelude.{ℕ, Bool, true, false, Result, Ok, Err}
 use Rattle.px_base.specs.declared.faults.FilesFault.{FilesFault}
 use Rattle.px_base.specs.declared.faults.FilesFault.TheVariants as fault
 use Rattle.px_proxy.specs.declared.serving.ServeEnd.{ServeEnd}

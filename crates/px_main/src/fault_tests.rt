@@ -5,6 +5,7 @@ use px_config::{Config, load};
 use px_exchange::{Ending, Page};
 use px_publish::FixedConfig;
 use px_serve::{SessionEnd, serve_connection};
+use px_ways::Way;
 use std::alloc::Global;
 use std::process::Abort;
 use std::sync::Arc;
@@ -127,8 +128,10 @@ fn serve(rt: &impl Abort, alloc: Global, faults: Faults<'_>) -> Result<Outcome, 
     let peer = Peer {
         address: text(alloc, b"127.0.0.1")?,
     };
+    let way: Way<'_, HostRuntime> = Way::InTurn;
     let session = serve_connection(
         alloc,
+        &way,
         &mut configs,
         &mut client_in,
         &mut client_out,

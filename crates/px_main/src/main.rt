@@ -76,4 +76,6 @@ mod fault_tests;
 #[cfg(test)]
 mod load_tests;
 #[cfg(test)]
+mod proxy_tests;
+#[cfg(test)]
 mod tests;

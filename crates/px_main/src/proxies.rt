@@ -1,15 +1,13 @@
 // The command `serve`: connections of doors by a configuration.
-ghost use Rattle.std.specs.Prelude.{◌≡◌, [], List, ℕ, map, string_bytes};
-ghost use Rattle.px_base.specs.Contents.{FilesGoOn};
-ghost use Rattle.px_base.specs.Sinks.{SinkGoesOn, SinkState};
+ghost use Rattle.std.specs.Prelude.{◌≡◌, IsTrue, [], map, string_bytes};
 ghost use Rattle.px_doors.specs.Doors.{DoorsGoesOn};
-ghost use Rattle.px_main.specs.Proxies.{RunsProxy, RunsServe, ServesBy};
+ghost use Rattle.px_main.specs.Proxies.{RunsProxy, RunsServe, ServesBy, ServesLoaded};
 
 use crate::loads::report_load;
 use crate::reports::report;
 use crate::statuses::{Status, USAGE, status_of_serving};
 use crate::words::{ServeWords, read_serve};
-use px_base::{Files, Sink};
+use px_base::{Failed, Files, Sink};
 use px_config::{Config, load};
 use px_doors::Doors;
 use px_proxy::serve_in_turn;
@@ -54,7 +52,7 @@ pub fn run_proxy<R: Threads + Sync, F: Files, A: Doors, E: Sink>(
     parts: Parts<F, A, E>,
 ) -> Proxied<F, A, E>
     requires none_accepted { (A.state parts.doors).accepted ≡ 0 }
-    requires none_parted { (A.state parts.doors).parted ≡ [] }
+    requires none_parted { IsTrue (A.state parts.doors).tells → (A.state parts.doors).parted ≡ [] }
     ensures runs { RunsProxy (map string_bytes words.now)
         (record { files = F.state parts.files; doors = A.state parts.doors; errors = E.state parts.err })
         (record { files = F.state result.parts.files; doors = A.state result.parts.doors; errors = E.state result.parts.err }) result.status }
@@ -88,7 +86,7 @@ fn serve_by<R: Threads + Sync, F: Files, A: Doors, E: Sink>(
     err: &mut E,
 ) -> Status
     requires none_accepted { (A.state doors.old).accepted ≡ 0 }
-    requires none_parted { (A.state doors.old).parted ≡ [] }
+    requires none_parted { IsTrue (A.state doors.old).tells → (A.state doors.old).parted ≡ [] }
     ensures serves { ServesBy (map string_bytes words.now)
         (record { files = F.state files.old; doors = A.state doors.old; errors = E.state err.old })
         (record { files = F.state files.new; doors = A.state doors.new; errors = E.state err.new }) result }
@@ -109,7 +107,7 @@ fn run_serve<R: Threads + Sync, F: Files, A: Doors, E: Sink>(
     err: &mut E,
 ) -> Status
     requires none_accepted { (A.state doors.old).accepted ≡ 0 }
-    requires none_parted { (A.state doors.old).parted ≡ [] }
+    requires none_parted { IsTrue (A.state doors.old).tells → (A.state doors.old).parted ≡ [] }
     ensures runs { RunsServe serve.entry.config.now serve.entry.most
         (record { files = F.state files.old; doors = A.state doors.old; errors = E.state err.old })
         (record { files = F.state files.new; doors = A.state doors.new; errors = E.state err.new }) result }
@@ -129,21 +127,18 @@ fn serve_loaded<R: Threads + Sync, A: Doors>(
     doors: &mut A,
 ) -> Status
     requires none_accepted { (A.state doors.old).accepted ≡ 0 }
-    requires none_parted { (A.state doors.old).parted ≡ [] }
+    requires none_parted { IsTrue (A.state doors.old).tells → (A.state doors.old).parted ≡ [] }
     ensures serves { ServesLoaded loaded most (A.state doors.old) (A.state doors.new) result }
     ensures goes_on { DoorsGoesOn (A.state doors.old) (A.state doors.new) }
 {
     let Ok(config) = Arc::new(alloc, loaded) else {
         return Status::NoMemory;
     };
-    if doors
-        .listen(
-            config.settings.listen_host.as_bytes(),
-            config.settings.listen_port,
-        )
-        .is_err()
-    {
-        return Status::DoorsFailed;
+    match doors.listen(
+        config.settings.listen_host.as_bytes(),
+        config.settings.listen_port,
+    ) {
+        Ok(()) => status_of_serving(serve_in_turn(alloc, &Way::AtOnce(rt), &config, doors, most)),
+        Err(Failed) => Status::DoorsFailed,
     }
-    status_of_serving(serve_in_turn(alloc, &Way::AtOnce(rt), &config, doors, most))
 }

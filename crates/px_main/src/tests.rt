@@ -1,5 +1,6 @@
 use crate::commands::run_tool;
 use px_base::{Clock, Content, Files, FixedClock, List, Mem, MemFiles, TapeIn, TapeOut, Text};
+use px_ways::Way;
 use std::alloc::Global;
 use std::process::Abort;
 use std::test::Fail;

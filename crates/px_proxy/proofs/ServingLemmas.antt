@@ -23,13 +23,13 @@ pub doors_same : (d : DoorsState) → DoorsGoesOn d d
 doors_same d = search rules
 
 -- before the first
-pub serving_none : (config : Config) (most : ℕ) (d : DoorsState) → d.accepted ≡ 0 → d.parted ≡ [] → Serving config most 0 d d
+pub serving_none : (config : Config) (most : ℕ) (d : DoorsState) → d.accepted ≡ 0 → (IsTrue d.tells → d.parted ≡ []) → Serving config most 0 d d
 serving_none config most d accepted parted = record {
   within = omega arith;
   accepted = accepted;
   faults_same = refl;
-  parted = λ t. rw parted tt;
-  all_parted = λ t. ap (λ (ps : List PartedState). length ps) parted;
+  parted = λ t. rw (parted t) tt;
+  all_parted = λ t. ap (λ (ps : List PartedState). length ps) (parted t);
   goes_on = doors_same d;
 }
 

@@ -109,7 +109,7 @@ pub fn serve_in_turn<R: Threads + Sync, A: Doors>(
     most: u64,
 ) -> ServeEnd
     requires none_accepted { (A.state doors.old).accepted ≡ 0 }
-    requires none_parted { (A.state doors.old).parted ≡ [] }
+    requires none_parted { IsTrue (A.state doors.old).tells → (A.state doors.old).parted ≡ [] }
     ensures serves { ServesAll (arc_value config.now) most (A.state doors.old) (A.state doors.new) result }
     ensures goes_on { DoorsGoesOn (A.state doors.old) (A.state doors.new) }
 {

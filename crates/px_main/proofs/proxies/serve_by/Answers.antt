@@ -1,0 +1,10 @@
+use Rattle.std.proofs.Common.{map, refl}
+use Rattle.std.specs.Prelude.{string_bytes}
+use Rattle.px_main.proofs.ProxyLemmas.{serve_refused}
+use Rattle.px_main.proofs.proxies.serve_by.Goals as goal
+
+pub returns-in-None : goal.returns-in-None
+returns-in-None g c = record {
+  serves = serve_refused (map string_bytes c.args.words.now) (g.F.Files.state c.args.files.now) (g.A.Doors.state c.args.doors.now) (g.E.Sink.state c.args.err.now) (g.E.Sink.state c.report.new.err) c.report.result
+      (λ config most. c.in-None.ensures.other refl config most) c.report.ensures.reports c.report.ensures.cause;
+}
