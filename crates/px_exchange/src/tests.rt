@@ -6,6 +6,7 @@ use px_publish::Snapshot;
 use std::alloc::Global;
 use std::process::Abort;
 use std::test::Fail;
+use std::thread::Threads;
 
 /// A request, the lines of the main file and of the actions file, and the client's calls that fail.
 #[derive(Clone, Copy)]
@@ -96,7 +97,12 @@ fn links_of(alloc: Global, dialer: &MemDialer) -> Result<Text, Fail> {
 }
 
 /// Answers a request, the dial giving that answer.
-fn answer(rt: &impl Abort, alloc: Global, row: &Row<'_>, answer: Answer) -> Result<Outcome, Fail> {
+fn answer<R: Abort + Threads + Sync>(
+    rt: &R,
+    alloc: Global,
+    row: &Row<'_>,
+    answer: Answer,
+) -> Result<Outcome, Fail> {
     let mut answers = List::new(alloc);
     answers.add(answer)?;
     let config = config_of(rt, alloc, row.main, row.actions)?;
@@ -111,7 +117,7 @@ fn answer(rt: &impl Abort, alloc: Global, row: &Row<'_>, answer: Answer) -> Resu
     let peer = Peer {
         address: text(alloc, b"127.0.0.1")?,
     };
-    let way: Way<'_, HostRuntime> = Way::InTurn;
+    let way: Way<'_, R> = Way::InTurn;
     let exchanged = exchange(
         alloc,
         &way,

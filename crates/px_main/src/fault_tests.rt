@@ -10,6 +10,7 @@ use std::alloc::Global;
 use std::process::Abort;
 use std::sync::Arc;
 use std::test::Fail;
+use std::thread::Threads;
 
 const INPUT: &[u8] =
     b"POST http://a.test/up HTTP/1.1\r\nExpect: 100-continue\r\nContent-Length: 2\r\n\r\nokGET http://a.test/page HTTP/1.1\r\n\r\nGET http://ads.test/x HTTP/1.1\r\n\r\nGET http://a.test/plain HTTP/1.1\r\n\r\n";
@@ -110,7 +111,11 @@ fn answer(alloc: Global, bytes: &[u8], fault: LinkFault) -> Result<Answer, Fail>
 }
 
 /// Serves the four requests. The client's reads give 40 bytes each.
-fn serve(rt: &impl Abort, alloc: Global, faults: Faults<'_>) -> Result<Outcome, Fail> {
+fn serve<R: Abort + Threads + Sync>(
+    rt: &R,
+    alloc: Global,
+    faults: Faults<'_>,
+) -> Result<Outcome, Fail> {
     let mut answers = List::new(alloc);
     for (number, bytes) in ANSWERS.iter().enumerate() {
         let fault = if number == faults.link {
@@ -128,10 +133,9 @@ fn serve(rt: &impl Abort, alloc: Global, faults: Faults<'_>) -> Result<Outcome, 
     let peer = Peer {
         address: text(alloc, b"127.0.0.1")?,
     };
-    let way: Way<'_, HostRuntime> = Way::InTurn;
     let session = serve_connection(
         alloc,
-        &way,
+        &Way::AtOnce(rt),
         &mut configs,
         &mut client_in,
         &mut client_out,

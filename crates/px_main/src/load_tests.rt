@@ -1,9 +1,11 @@
 //! `check` and `show` over files in memory.
 use crate::tests::{Outside, Run, cut_so, run_over};
 use px_base::Mem;
+use px_ways::Way;
 use std::alloc::Global;
 use std::process::Abort;
 use std::test::Fail;
+use std::thread::Threads;
 
 /// The files of the worked configuration.
 const MATCH_ALL: &str =
@@ -75,14 +77,19 @@ const RUNS: &[(&[&str], u8, &str, &str)] = &[
 ];
 
 /// Runs the tool over the files.
-fn run(alloc: Global, words: &[&str], outside: Outside<'_>) -> Result<Run, Mem> {
-    run_over(alloc, words, FILES, "", outside)
+fn run<R: Threads + Sync>(
+    alloc: Global,
+    way: &Way<'_, R>,
+    words: &[&str],
+    outside: Outside<'_>,
+) -> Result<Run, Mem> {
+    run_over(alloc, way, words, FILES, "", outside)
 }
 
 #[test]
 fn check_and_show_print_what_the_files_spell(rt: HostRuntime) -> Result<(), Fail> {
     for (words, status, out, err) in RUNS {
-        let run = run(rt.alloc(), words, cut_so(&[], &[9, 9]))?;
+        let run = run(rt.alloc(), &Way::AtOnce(&rt), words, cut_so(&[], &[9, 9]))?;
         assert_eq!(rt; run.status, *status, "{words:?}");
         assert_eq!(rt; run.out.as_bytes(), out.as_bytes(), "{words:?}");
         assert_eq!(rt; run.err.as_bytes(), err.as_bytes(), "{words:?}");
@@ -104,7 +111,7 @@ const OTHER_WORDS: &[&[&str]] = &[
 #[test]
 fn other_words_print_the_usage(rt: HostRuntime) -> Result<(), Fail> {
     for words in OTHER_WORDS {
-        let run = run(rt.alloc(), words, cut_so(&[], &[]))?;
+        let run = run(rt.alloc(), &Way::AtOnce(&rt), words, cut_so(&[], &[]))?;
         assert_eq!(rt; run.status, 2, "{words:?}");
         assert!(rt; run.out.is_empty());
     }
@@ -116,7 +123,7 @@ fn a_failing_call_of_check_has_its_status(rt: HostRuntime) -> Result<(), Fail> {
     let fails = [1];
     let mut outside = cut_so(&[], &[]);
     outside.files_fails = &fails;
-    let unread = run(rt.alloc(), &["check", "c"], outside)?;
+    let unread = run(rt.alloc(), &Way::AtOnce(&rt), &["check", "c"], outside)?;
     assert_eq!(rt; unread.status, 3);
     assert_eq!(rt;
         unread.err.as_bytes(),
@@ -124,11 +131,11 @@ fn a_failing_call_of_check_has_its_status(rt: HostRuntime) -> Result<(), Fail> {
     );
     let mut outside = cut_so(&[], &[]);
     outside.out_fails = &fails[..0];
-    let written = run(rt.alloc(), &["check", "c"], outside)?;
+    let written = run(rt.alloc(), &Way::AtOnce(&rt), &["check", "c"], outside)?;
     assert_eq!(rt; written.status, 0);
     let mut outside = cut_so(&[], &[4]);
     outside.out_fails = &fails;
-    let cut = run(rt.alloc(), &["check", "c"], outside)?;
+    let cut = run(rt.alloc(), &Way::AtOnce(&rt), &["check", "c"], outside)?;
     assert_eq!(rt; cut.status, 4);
     assert_eq!(rt; cut.out.as_bytes(), b"ok: ".as_slice());
     Ok(())

@@ -4,6 +4,7 @@ use px_ways::Way;
 use std::alloc::Global;
 use std::process::Abort;
 use std::test::Fail;
+use std::thread::Threads;
 
 /// Answer A: 40 bytes, with a body of two.
 const ANSWER: &str = "40\nHTTP/1.1 200 OK\r\nContent-Length: 2\r\n\r\nhi";
@@ -51,8 +52,9 @@ pub fn cut_so<'a>(input_cuts: &'a [usize], out_cuts: &'a [usize]) -> Outside<'a>
 }
 
 /// Runs the tool over files in memory, where each file is a name and its content.
-pub fn run_over(
+pub fn run_over<R: Threads + Sync>(
     alloc: Global,
+    way: &Way<'_, R>,
     words: &[&str],
     named: &[(&str, &str)],
     input: &str,
@@ -85,9 +87,8 @@ pub fn run_over(
         moments.push(moment)?;
     }
     let mut clock = FixedClock::new(List::from_vec(moments));
-    let way: Way<'_, HostRuntime> = Way::InTurn;
     let status = run_tool(
-        alloc, &way, &given, &mut files, &mut input, &mut out, &mut err, &mut clock,
+        alloc, way, &given, &mut files, &mut input, &mut out, &mut err, &mut clock,
     );
     let sent = match files.read("s", 1_000) {
         Ok(Content::Found(text)) => Some(text),
@@ -160,9 +161,16 @@ const SESSIONS: &[(&str, &str, &str, &str)] = &[
 ];
 
 /// Runs `pass` over an empty CONFIG.
-fn pass(alloc: Global, origin: &str, input: &str, outside: Outside<'_>) -> Result<Run, Mem> {
+fn pass<R: Threads + Sync>(
+    alloc: Global,
+    way: &Way<'_, R>,
+    origin: &str,
+    input: &str,
+    outside: Outside<'_>,
+) -> Result<Run, Mem> {
     run_over(
         alloc,
+        way,
         &["pass", "c", "o", "s"],
         &[("c", ""), ("o", origin)],
         input,
@@ -175,7 +183,13 @@ fn pass_serves_its_input_however_it_is_cut(rt: HostRuntime) -> Result<(), Fail> 
     for (origin, input, out, sent) in SESSIONS {
         for cut in [1, 7, 100] {
             let cuts = [cut, cut, cut, cut, cut, cut];
-            let run = pass(rt.alloc(), origin, input, cut_so(&cuts, &cuts))?;
+            let run = pass(
+                rt.alloc(),
+                &Way::AtOnce(&rt),
+                origin,
+                input,
+                cut_so(&cuts, &cuts),
+            )?;
             assert_eq!(rt; run.status, 0, "at {input}");
             assert_eq!(rt; run.out.as_bytes(), out.as_bytes(), "at {input}");
             assert!(rt; run.err.is_empty(), "at {input}");
@@ -188,15 +202,21 @@ fn pass_serves_its_input_however_it_is_cut(rt: HostRuntime) -> Result<(), Fail> 
 }
 
 /// Runs `pass` with the streams cut so, and checks what is returned.
-fn check_cut(
-    rt: &impl Abort,
+fn check_cut<R: Abort + Threads + Sync>(
+    rt: &R,
     alloc: Global,
     row: (&str, &str, &str, &str),
     input_cut: usize,
     out_cut: usize,
 ) -> Result<(), Fail> {
     let (origin, input, out, sent) = row;
-    let run = pass(alloc, origin, input, cut_so(&[input_cut], &[out_cut]))?;
+    let run = pass(
+        alloc,
+        &Way::AtOnce(rt),
+        origin,
+        input,
+        cut_so(&[input_cut], &[out_cut]),
+    )?;
     assert_eq!(rt; run.status, 0, "cut at {input_cut} and {out_cut}");
     assert_eq!(rt;
         run.out.as_bytes(),
@@ -222,7 +242,7 @@ fn both_streams_are_cut_after_each_byte(rt: HostRuntime) -> Result<(), Fail> {
 
 /// The lines of the commands that are built.
 const USAGE_TEXT: &str =
-    "usage: pass CONFIG ORIGIN SENT [TAG]...\n       show CONFIG URL [TAG]...\n       check CONFIG\n";
+    "usage: pass CONFIG ORIGIN SENT [TAG]...\n       show CONFIG URL [TAG]...\n       check CONFIG\n       serve CONFIG [WORKERS [CONNECTIONS]]\n";
 
 /// Words, CONFIG and ORIGIN where they are there, the status, and what is printed.
 const REFUSALS: &[(&[&str], Option<&str>, Option<&str>, u8, &str)] = &[
@@ -284,7 +304,14 @@ fn pass_refuses_other_words_and_files(rt: HostRuntime) -> Result<(), Fail> {
         if let Some(origin) = origin {
             named.push(("o", *origin))?;
         }
-        let run = run_over(rt.alloc(), words, &named, GET, cut_so(&SEVENS, &SEVENS))?;
+        let run = run_over(
+            rt.alloc(),
+            &Way::AtOnce(&rt),
+            words,
+            &named,
+            GET,
+            cut_so(&SEVENS, &SEVENS),
+        )?;
         assert_eq!(rt; run.status, *status, "{err}");
         assert_eq!(rt; run.err.as_bytes(), err.as_bytes());
         assert!(rt; run.out.is_empty());
@@ -305,7 +332,7 @@ fn a_failing_call_of_the_files_gives_its_status(rt: HostRuntime) -> Result<(), F
         let fails = [call];
         let mut outside = cut_so(&SEVENS, &SEVENS);
         outside.files_fails = &fails;
-        let run = pass(rt.alloc(), ANSWER, GET, outside)?;
+        let run = pass(rt.alloc(), &Way::AtOnce(&rt), ANSWER, GET, outside)?;
         assert_eq!(rt; run.status, status);
         assert_eq!(rt; run.err.as_bytes(), err.as_bytes());
         assert_eq!(rt; run.out.as_bytes(), out.as_bytes());
@@ -337,7 +364,7 @@ fn a_failing_read_of_the_input_gives_its_status(rt: HostRuntime) -> Result<(), F
         let fails = [call];
         let mut outside = cut_so(&SEVENS, &[]);
         outside.input_fails = &fails;
-        let run = pass(rt.alloc(), ANSWER, GET, outside)?;
+        let run = pass(rt.alloc(), &Way::AtOnce(&rt), ANSWER, GET, outside)?;
         assert_eq!(rt; run.status, status, "at call {call}");
         assert_eq!(rt; run.out.as_bytes(), out.as_bytes(), "at call {call}");
         assert!(rt; put(&run, sent), "SENT at call {call}");
@@ -373,7 +400,7 @@ fn a_failing_write_of_the_output_gives_its_status(rt: HostRuntime) -> Result<(),
         let fails = [call];
         let mut outside = cut_so(&[], &SEVENS);
         outside.out_fails = &fails;
-        let run = pass(rt.alloc(), ANSWER, GET, outside)?;
+        let run = pass(rt.alloc(), &Way::AtOnce(&rt), ANSWER, GET, outside)?;
         assert_eq!(rt; run.status, status, "at call {call}");
         assert_eq!(rt; run.out.as_bytes(), out.as_bytes(), "at call {call}");
         assert!(rt; put(&run, SENT), "SENT at call {call}");
@@ -387,7 +414,14 @@ fn a_failing_write_of_the_error_output_takes_the_place_of_the_status(
 ) -> Result<(), Fail> {
     let mut outside = cut_so(&[], &[]);
     outside.err_fails = &[0];
-    let run = run_over(rt.alloc(), &["pass", "c", "o", "s"], &[], GET, outside)?;
+    let run = run_over(
+        rt.alloc(),
+        &Way::AtOnce(&rt),
+        &["pass", "c", "o", "s"],
+        &[],
+        GET,
+        outside,
+    )?;
     assert_eq!(rt; run.status, 4);
     assert!(rt; run.err.is_empty());
     assert!(rt; run.sent.is_none());

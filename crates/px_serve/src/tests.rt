@@ -9,6 +9,7 @@ use px_ways::Way;
 use std::alloc::Global;
 use std::process::Abort;
 use std::sync::Arc;
+use std::thread::Threads;
 
 /// A client's bytes and how they are cut, how often the origin answers, and the calls of the two ends that fail.
 struct Row<'a> {
@@ -51,7 +52,7 @@ fn no_config(rt: &impl Abort, alloc: Global) -> Config {
 }
 
 /// Serves a row with one configuration.
-fn serve(rt: &impl Abort, alloc: Global, row: Row<'_>) -> Outcome {
+fn serve<R: Abort + Threads + Sync>(rt: &R, alloc: Global, row: Row<'_>) -> Outcome {
     let config = Arc::new(alloc, no_config(rt, alloc)).expect(rt, "memory");
     let mut configs = FixedConfig::new(config);
     let outcome = serve_with(rt, alloc, &mut configs, row);
@@ -62,8 +63,8 @@ fn serve(rt: &impl Abort, alloc: Global, row: Row<'_>) -> Outcome {
 }
 
 /// Serves a row with these configurations, at one moment for each request.
-fn serve_with<K: Configs<Held = Config>>(
-    rt: &impl Abort,
+fn serve_with<R: Abort + Threads + Sync, K: Configs<Held = Config>>(
+    rt: &R,
     alloc: Global,
     configs: &mut K,
     row: Row<'_>,
@@ -90,7 +91,7 @@ fn serve_with<K: Configs<Held = Config>>(
     let peer = Peer {
         address: Text::from_bytes(alloc, b"127.0.0.1").expect(rt, "memory"),
     };
-    let way: Way<'_, HostRuntime> = Way::InTurn;
+    let way: Way<'_, R> = Way::InTurn;
     let session = serve_connection(
         alloc,
         &way,
