@@ -1,0 +1,124 @@
+-- What came of sessions, one after the other.
+use Rattle.std.proofs.Common.{◌≡◌, ◌≢◌, ◌+◌, ℕ, zero, suc, List, [], ◌∷◌, ◌++◌, length, map, refl, sym, ap, ◌∙◌, subst, arith, IsTrue}
+use Rattle.std.proofs.lemmas.List.Elements.{All-cons, All-head, All-nil, All-push, All-tail}
+use Rattle.std.proofs.lemmas.List.{flat_map_more}
+use Rattle.std.proofs.lemmas.List.Sums.{sum_by_push}
+use Rattle.std.specs.List.{flat_map, sum_by}
+use Rattle.std.specs.Prelude.{All, true}
+use Rattle.px_base.specs.Causes.{Rose}
+use Rattle.px_base.specs.Dials.{DialerState, fresh_dialer}
+use Rattle.px_base.specs.Moments.{ClockState}
+use Rattle.px_base.specs.Sinks.{SinkState}
+use Rattle.px_base.specs.Sources.{SourceGoesOn, SourceState, fresh_source}
+use Rattle.px_config.specs.declared.configs.Config.{Config}
+use Rattle.px_publish.specs.Views.{Entry}
+use Rattle.px_exchange.specs.declared.notes.ExchangeNote.{ExchangeNote}
+use Rattle.px_serve.specs.Ends.{ReadEndCause}
+use Rattle.px_serve.specs.Histories.{Begun, Looks, Take, entry_of, firsts, moment_of}
+use Rattle.px_serve.specs.Sessions.{Caller, Objects, Serves}
+use Rattle.px_serve.specs.declared.ends.SessionEnd.{SessionEnd}
+use Rattle.px_serve.specs.declared.ends.SessionEnd.TheVariants as end
+use Rattle.px_generated.specs.Jobs.{draws_before, first_sessions, job_sessions, session_at}
+use Rattle.px_generated.specs.declared.sessions.JobSession.{JobSession}
+use Rattle.px_exercise.specs.Runs.{AreRuns, AreRunsOf, GivesOnly, HasRun, IsRun, UsesOnly, client, total_of}
+use Rattle.px_exercise.specs.declared.runs.Run.{Run}
+use Rattle.px_exercise.specs.declared.runs.Total.{Total}
+
+-- each of the first values of what gives one value is that value
+all_firsts : {E : Type 0} (f : ℕ → E) (e : E) (n : ℕ) → ((k : ℕ) → f k ≡ e) → All (λ x. x ≡ e) (firsts f n)
+all_firsts f e zero h = All-nil (λ x. x ≡ e)
+all_firsts f e (suc n) h = All-push (λ x. x ≡ e) (firsts f n) (f n) (all_firsts f e n h) (h n)
+
+-- what holds of each value of a function holds so of what it was given
+all_before_map : {X Y : Type 0} (P : Y → Type 0) (f : X → Y) (xs : List X) → All P (map f xs) → All (λ x. P (f x)) xs
+all_before_map P f [] h = All-nil (λ x. P (f x))
+all_before_map P f (x ∷ xs) h = All-cons (λ x. P (f x)) x xs (All-head P (f x) (map f xs) h) (all_before_map P f xs (All-tail P (f x) (map f xs) h))
+
+-- exchanges that took one value each from what gives one value have that value
+takes_one : {E : Type 0} (value : Begun → E) (coming coming' : ℕ → E) (e : E) (begun : List Begun) → ((k : ℕ) → coming k ≡ e) → Take value coming coming' begun → All (λ b. value b ≡ e) begun
+takes_one value coming coming' e begun h t = all_before_map (λ x. x ≡ e) value begun (subst (All (λ x. x ≡ e)) (sym t.taken) (all_firsts coming e (length begun) h))
+
+-- an exchange with that entry, at the moment 0
+uses_only : (config : Config) (b : Begun) → entry_of b ≡ record { number = 0; config = config } → b.moment ≡ 0 → UsesOnly config b
+uses_only config b e m = record { number_is = ap (λ (x : Entry Config). x.number) e; config_is = ap (λ (x : Entry Config). x.config) e; moment_is = m }
+
+-- exchanges took each look from what gives one configuration, and each moment from what gives 0
+all_use_only : (config : Config) (coming coming' : ℕ → Entry Config) (moments moments' : ℕ → ℕ) (begun : List Begun)
+    → GivesOnly config coming → ((k : ℕ) → moments k ≡ 0) → Take entry_of coming coming' begun → Take moment_of moments moments' begun → All (UsesOnly config) begun
+all_use_only config coming coming' moments moments' begun only zeros entries taken =
+    let same = takes_one entry_of coming coming' (record { number = 0; config = config }) begun only entries in
+    let at_zero = takes_one moment_of moments moments' 0 begun zeros taken in
+    λ k d h. uses_only config _ (same k d h) (at_zero k d h)
+
+-- what is left of what gives one value gives that value
+left_gives : (config : Config) (coming coming' : ℕ → Entry Config) (begun : List Begun) → GivesOnly config coming → Take entry_of coming coming' begun → GivesOnly config coming'
+left_gives config coming coming' begun only t k = t.left k ∙ only (k + length begun)
+
+-- a steady source that is just made doesn't fail
+no_read_failed : (i i' : SourceState) (e : SessionEnd) → IsTrue i.steady → i.faults ≡ 0 → SourceGoesOn i i' → ReadEndCause i i' e → e ≢ end.ReadFailed
+no_read_failed i i' e steady none on cause is =
+    let rose : Rose i.faults i'.faults = subst (ReadEndCause i i') is cause in
+    omega (arith, (on.steady_kept steady).1, none, rose)
+
+-- a session that was served over memory
+pub is_run : {config : Config} {session : JobSession} {caller : Caller} {looks looks' : Looks} {i i' : SourceState} {o o' : SinkState} {d d' : DialerState} {t t' : ClockState} {notes : List ExchangeNote} {e : SessionEnd}
+    → Serves caller looks looks' i i' (record { client_out = o; dialer = d; clock = t }) (record { client_out = o'; dialer = d'; clock = t' }) notes e
+    → caller ≡ client → IsTrue looks.tells → GivesOnly config looks.coming → i ≡ fresh_source session.input true → IsTrue o.tells → o.taken ≡ [] → d ≡ fresh_dialer session.answers
+    → IsTrue t.tells → ((k : ℕ) → t.coming k ≡ 0) → e ≢ end.NoMemory → e ≢ end.WriteFailed → SourceGoesOn i i' → ReadEndCause i i' e
+    → IsRun config session (record { notes = notes; taken = o'.taken })
+is_run {config = config} {looks = looks} {looks' = looks'} {i = i} {i' = i'} {d' = d'} {t = t} {t' = t'} {e = e} serves caller_is looks_tell only source_is out_tells none dialer_is clock_tells zeros memory no_write_failed on cause = record {
+  begun = serves.begun;
+  notes_are = serves.notes_are;
+  uses = all_use_only config looks.coming looks'.coming t.coming t'.coming serves.begun only zeros (serves.noted.entries looks_tell) (serves.noted.moments clock_tells);
+  left = i'.left;
+  dialer = d';
+  ended = e;
+  served = rw (caller_is, none, dialer_is, source_is) at (serves.session (record { client_in = ap (λ (s : SourceState). s.tells) source_is; client_out = out_tells; dialer = ap (λ (x : DialerState). x.tells) dialer_is }));
+  memory = memory;
+  no_read_failed = no_read_failed i i' e (ap (λ (s : SourceState). s.steady) source_is) (ap (λ (s : SourceState). s.faults) source_is) on cause;
+  no_write_failed = no_write_failed;
+}
+
+-- behind a session each look still gives that configuration
+pub fixed_behind : {config : Config} {caller : Caller} {looks looks' : Looks} {i i' : SourceState} {old new : Objects} {notes : List ExchangeNote} {e : SessionEnd}
+    → Serves caller looks looks' i i' old new notes e → IsTrue looks.tells → GivesOnly config looks.coming → GivesOnly config looks'.coming
+fixed_behind {config = config} {looks = looks} {looks' = looks'} serves tell only = left_gives config looks.coming looks'.coming serves.begun only (serves.noted.entries tell)
+
+-- what came of one session more
+total_more : (runs : List Run) (run : Run) (total : Total) → total.notes ≡ (total_of runs).notes ++ run.notes → total.returned ≡ (total_of runs).returned + length run.taken
+    → total ≡ total_of (runs ++ run ∷ [])
+total_more runs run total n r =
+    let notes : total.notes ≡ flat_map (λ (x : Run). x.notes) (runs ++ run ∷ []) = n ∙ flat_map_more (λ (x : Run). x.notes) [] runs run in
+    let returned : total.returned ≡ sum_by (λ (x : Run). length x.taken) (runs ++ run ∷ []) = r ∙ sym (sum_by_push (λ (x : Run). length x.taken) runs run) in
+    rw (← notes, ← returned) refl
+
+-- one more session was run
+runs_more : (config : Config) (sessions : List JobSession) (runs : List Run) (session : JobSession) (run : Run) → AreRuns config sessions runs → IsRun config session run
+    → AreRuns config (sessions ++ session ∷ []) (runs ++ run ∷ [])
+runs_more config [] [] session run h ran = (ran, tt)
+runs_more config [] (r ∷ rs) session run h ran = absurd h
+runs_more config (s ∷ ss) [] session run h ran = absurd h
+runs_more config (s ∷ ss) (r ∷ rs) session run h ran = (h.0, runs_more config ss rs session run h.1 ran)
+
+-- so it was behind the first sessions
+pub has_run_more : {config : Config} {number count : ℕ} {coming coming' : ℕ → Entry Config} {draws draws' : ℕ} {total : Total} (total' : Total) (session : JobSession) (run : Run)
+    → HasRun config number count coming draws total → session ≡ session_at count number
+    → first_sessions (count + 1) number ≡ first_sessions count number ++ session_at count number ∷ []
+    → IsRun config session run → GivesOnly config coming' → draws' ≡ draws_before (count + 1) number
+    → total'.notes ≡ total.notes ++ run.notes → total'.returned ≡ total.returned + length run.taken → HasRun config number (count + 1) coming' draws' total'
+has_run_more {config = config} {number = number} {count = count} total' session run h is one_more ran only drawn notes returned = record {
+  fixed = only;
+  drawn = drawn;
+  runs = h.runs ++ run ∷ [];
+  each = rw one_more (runs_more config (first_sessions count number) h.runs (session_at count number) run h.each (rw is at ran));
+  total_is = total_more h.runs run total' (rw h.total_is at notes) (rw h.total_is at returned);
+}
+
+-- the ten sessions were run
+pub are_runs_of : {config : Config} {number count : ℕ} {coming : ℕ → Entry Config} {draws : ℕ} {total : Total} → HasRun config number count coming draws total → count ≡ 10
+    → first_sessions 10 number ≡ job_sessions number → AreRunsOf config number total
+are_runs_of {config = config} {number = number} h ten all = record {
+  runs = h.runs;
+  each = rw (← all) (rw ten at h.each);
+  total_is = h.total_is;
+}

@@ -1,0 +1,39 @@
+-- What the five lines count, and how they are spelled.
+use Rattle.std.specs.Prelude.{ℕ, Bool, true, false, List, ◌++◌, length, codes, decimal, count_by}
+use Rattle.px_exchange.specs.declared.notes.ExchangeNote.{ExchangeNote}
+use Rattle.px_pumps.specs.declared.notes.Ending.{Ending}
+use Rattle.px_pumps.specs.declared.notes.Ending.TheVariants as ending
+use Rattle.px_templates.specs.declared.pages.Page.TheVariants as page
+use Rattle.px_exercise.specs.declared.runs.Total.{Total}
+
+-- the page of a block was returned
+abbrev pub is_blocked : Ending → Bool
+is_blocked (ending.Page page.Blocked) = true
+is_blocked e = false
+
+-- the answer was returned filtered
+abbrev pub is_filtered : Ending → Bool
+is_filtered ending.Filtered = true
+is_filtered e = false
+
+-- the answer was returned unfiltered with its body
+abbrev pub is_passed : Ending → Bool
+is_passed ending.Passed = true
+is_passed e = false
+
+-- how many notes have such an ending
+abbrev pub count_of : (Ending → Bool) → List ExchangeNote → ℕ
+count_of is_such notes = count_by (λ n. is_such n.ending) notes
+
+-- a name and a number, ended by LF
+abbrev pub line : List ℕ → ℕ → List ℕ
+line name number = name ++ codes " " ++ decimal number ++ codes "\n"
+
+-- the five lines
+unfoldable pub lines : Total → List ℕ
+lines total =
+    line (codes "requests") (length total.notes)
+    ++ line (codes "blocked") (count_of is_blocked total.notes)
+    ++ line (codes "filtered") (count_of is_filtered total.notes)
+    ++ line (codes "passed") (count_of is_passed total.notes)
+    ++ line (codes "returned") total.returned

@@ -1,0 +1,40 @@
+// Why a job gives no lines.
+use px_base::Mem;
+use px_config::LoadFault;
+
+/// Why a job gives no lines.
+#[derive(Drop)]
+pub enum ExerciseFault {
+    /// The job's files don't spell a configuration. The fault is `Spelled`.
+    NotLoaded(LoadFault),
+    /// The sink of a session's client failed.
+    SinkFailed,
+    /// Want of memory.
+    Mem,
+}
+
+impl From<LoadFault> for ExerciseFault {
+    ghost use Rattle.std.specs.Prelude.{◌≡◌};
+    ghost use Rattle.px_exercise.specs.Faults.{fault_of};
+
+    ghost from_gives = { λ f e. e ≡ fault_of f };
+
+    fn from(fault: LoadFault) -> Self {
+        if matches!(&fault, LoadFault::Mem) {
+            ExerciseFault::Mem
+        } else {
+            ExerciseFault::NotLoaded(fault)
+        }
+    }
+}
+
+impl From<Mem> for ExerciseFault {
+    ghost use Rattle.std.specs.Prelude.{◌≡◌};
+    ghost use Rattle.px_exercise.specs.declared.faults.ExerciseFault.TheVariants as fault;
+
+    ghost from_gives = { λ _ e. e ≡ fault.Mem };
+
+    fn from(_: Mem) -> Self {
+        ExerciseFault::Mem
+    }
+}
