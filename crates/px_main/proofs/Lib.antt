@@ -4,3 +4,4 @@ pub mod ReadLemmas
 pub mod PassLemmas
 pub mod LoadLemmas
 pub mod ProxyLemmas
+pub mod ExerciseLemmas

@@ -36,7 +36,7 @@ gives_up f f' i o e e' t s same wanting unprinted =
     record { wanting = wanting; same = record { untouched = record { files = same; input = refl; out = refl; clock = refl }; errors = unprinted } }
 
 -- nothing but a text was put out
-prints_by : (f f' : FilesState) (i : SourceState) (o o' e : SinkState) (t : ClockState) (text : List ℕ) (s : Status)
+pub prints_by : (f f' : FilesState) (i : SourceState) (o o' e : SinkState) (t : ClockState) (text : List ℕ) (s : Status)
     → (IsTrue f.tells → Unchanged f.contents f'.contents)
     → (IsTrue o.tells → ReportsOn o.taken o'.taken text status.Done s) → ReportCause o o' status.Done s
     → Prints (record { files = f; input = i; out = o; errors = e; clock = t }) (record { files = f'; input = i; out = o'; errors = e; clock = t }) text s

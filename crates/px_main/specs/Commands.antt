@@ -7,13 +7,15 @@ use Rattle.px_main.specs.Loads.{RunsCheck, RunsShow}
 use Rattle.px_main.specs.Passes.{Outside, Reports}
 use Rattle.px_main.specs.Passing.{RunsPass}
 use Rattle.px_main.specs.Statuses.{code_of}
-use Rattle.px_main.specs.Words.{IsPass, IsCheck, IsShow}
+use Rattle.px_main.specs.Exercising.{RunsExercise}
+use Rattle.px_main.specs.Words.{IsPass, IsCheck, IsExercise, IsShow}
 
 -- the words are those of no command
 pub record RefusesWords (words : List (List ℕ)) (old new : Outside) (s : Status) : Type 0 where
   pub no_pass : (config origin sent : List ℕ) → (tags : List (List ℕ)) → ¬ IsPass words config origin sent tags
   pub no_check : (config : List ℕ) → ¬ IsCheck words config
   pub no_show : (config url : List ℕ) → (tags : List (List ℕ)) → ¬ IsShow words config url tags
+  pub no_exercise : (n : ℕ) → ¬ IsExercise words n
   pub reports : Reports old new USAGE.now status.Usage s
 
 -- the words are those of `pass`
@@ -39,8 +41,14 @@ pub record ShowsUrlBy (words : List (List ℕ)) (old new : Outside) (s : Status)
   pub is_show : IsShow words config url tags
   pub runs : RunsShow config url tags old new s
 
+-- the words are those of `exercise`
+pub record ExercisesBy (words : List (List ℕ)) (old new : Outside) (s : Status) : Type 0 where
+  pub number : ℕ
+  pub is_exercise : IsExercise words number
+  pub runs : RunsExercise number old new s
+
 -- how a command ends: by one status, with what it did and why
 pub record RunsTool (words : List (List ℕ)) (old new : Outside) (code : ℕ) : Type 0 where
   pub ended : Status
   pub code_is : code ≡ code_of ended
-  pub runs : RefusesWords words old new ended ⊎ (PassesBy words old new ended ⊎ (ChecksBy words old new ended ⊎ ShowsUrlBy words old new ended))
+  pub runs : RefusesWords words old new ended ⊎ (PassesBy words old new ended ⊎ (ChecksBy words old new ended ⊎ (ShowsUrlBy words old new ended ⊎ ExercisesBy words old new ended)))

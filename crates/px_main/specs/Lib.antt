@@ -7,5 +7,6 @@ pub mod Passes
 pub mod Reads
 pub mod Loads
 pub mod Passing
+pub mod Exercising
 pub mod Commands
 pub mod Proxies

@@ -26,13 +26,17 @@ pub record IsShow (words : List (List ℕ)) (config url : List ℕ) (tags : List
   pub words_are : words ≡ codes "show" ∷ config ∷ url ∷ tags
   pub none_is_flag : no_flags (config ∷ url ∷ tags) ≡ true
 
+-- a number up to that one, of one to ten digits
+abbrev pub number_of : ℕ → List ℕ → Option ℕ
+number_of most word = if nat_le (length word) 10 then decimal most word else None
+
 -- a number from 1 to that one, of one to ten digits
 abbrev pub above_none : Option ℕ → Option ℕ
 above_none None = None
 above_none (Some n) = if n == 0 then None else Some n
 
 abbrev pub count_of : ℕ → List ℕ → Option ℕ
-count_of most word = if nat_le (length word) 10 then above_none (decimal most word) else None
+count_of most word = above_none (number_of most word)
 
 abbrev pub behind_workers : Option ℕ → Option ℕ → Option ℕ
 behind_workers None most = None
@@ -51,3 +55,9 @@ pub record IsServe (words : List (List ℕ)) (config : List ℕ) (most : ℕ) : 
   pub words_are : words ≡ codes "serve" ∷ config ∷ counts
   pub most_is : most_of counts ≡ Some most
   pub none_is_flag : no_flags (config ∷ counts) ≡ true
+
+-- exercise N
+pub record IsExercise (words : List (List ℕ)) (n : ℕ) : Type 0 where
+  pub word : List ℕ
+  pub words_are : words ≡ codes "exercise" ∷ word ∷ []
+  pub number_is : number_of 2147483647 word ≡ Some n

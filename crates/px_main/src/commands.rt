@@ -3,11 +3,12 @@ ghost use Rattle.std.specs.Prelude.{◌≡◌, map, string_bytes};
 ghost use Rattle.px_main.specs.Commands.{RunsTool};
 ghost use Rattle.px_main.specs.Passes.{Outside, OutsideGoesOn};
 
+use crate::exercises::run_exercise;
 use crate::loads::{run_check, run_show};
 use crate::passes::run_pass;
 use crate::reports::report;
 use crate::statuses::{Status, USAGE};
-use crate::words::{read_check, read_pass, read_show};
+use crate::words::{read_check, read_exercise, read_pass, read_show};
 use px_base::{Clock, Files, Sink, Source};
 use px_ways::Way;
 use std::alloc::Global;
@@ -39,7 +40,10 @@ pub fn run_tool<R: Threads + Sync, F: Files, S: Source, O: Sink, E: Sink, T: Clo
             Some(config) => run_check(alloc, config, files, out, err).code(),
             None => match read_show(words) {
                 Some(words) => run_show(alloc, words, files, out, err).code(),
-                None => report(err, USAGE, Status::Usage).code(),
+                None => match read_exercise(words) {
+                    Some(number) => run_exercise(alloc, way, number, out, err).code(),
+                    None => report(err, USAGE, Status::Usage).code(),
+                },
             },
         },
     }

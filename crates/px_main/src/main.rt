@@ -3,6 +3,7 @@
 
 mod answers;
 mod commands;
+mod exercises;
 mod loads;
 mod origins;
 mod passes;

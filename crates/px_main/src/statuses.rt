@@ -8,11 +8,11 @@ use px_serve::SessionEnd;
 
 /// How the commands are used, a line for each that is built.
 pub const USAGE: &[u8] =
-    b"usage: pass CONFIG ORIGIN SENT [TAG]...\n       show CONFIG URL [TAG]...\n       check CONFIG\n       serve CONFIG [WORKERS [CONNECTIONS]]\n";
+    b"usage: pass CONFIG ORIGIN SENT [TAG]...\n       show CONFIG URL [TAG]...\n       check CONFIG\n       exercise N\n       serve CONFIG [WORKERS [CONNECTIONS]]\n";
 
 /// What the text of the usage is.
 pub fn constants()
-    ensures { USAGE.now ≡ codes "usage: pass CONFIG ORIGIN SENT [TAG]...\n       show CONFIG URL [TAG]...\n       check CONFIG\n       serve CONFIG [WORKERS [CONNECTIONS]]\n" }
+    ensures { USAGE.now ≡ codes "usage: pass CONFIG ORIGIN SENT [TAG]...\n       show CONFIG URL [TAG]...\n       check CONFIG\n       exercise N\n       serve CONFIG [WORKERS [CONNECTIONS]]\n" }
 {}
 
 /// How a command ended.

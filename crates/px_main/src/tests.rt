@@ -242,7 +242,7 @@ fn both_streams_are_cut_after_each_byte(rt: HostRuntime) -> Result<(), Fail> {
 
 /// The lines of the commands that are built.
 const USAGE_TEXT: &str =
-    "usage: pass CONFIG ORIGIN SENT [TAG]...\n       show CONFIG URL [TAG]...\n       check CONFIG\n       serve CONFIG [WORKERS [CONNECTIONS]]\n";
+    "usage: pass CONFIG ORIGIN SENT [TAG]...\n       show CONFIG URL [TAG]...\n       check CONFIG\n       exercise N\n       serve CONFIG [WORKERS [CONNECTIONS]]\n";
 
 /// Words, CONFIG and ORIGIN where they are there, the status, and what is printed.
 const REFUSALS: &[(&[&str], Option<&str>, Option<&str>, u8, &str)] = &[

@@ -1,6 +1,6 @@
 // The words after the program's name.
-ghost use Rattle.std.specs.Prelude.{◌≡◌, not, map, string_bytes, IfSome, IsNone, List, ℕ};
-ghost use Rattle.px_main.specs.Words.{IsPass, IsCheck, IsServe, IsShow, count_of, is_flag, most_of, no_flags};
+ghost use Rattle.std.specs.Prelude.{◌≡◌, ◌≤◌, not, map, string_bytes, IfSome, IsNone, List, ℕ};
+ghost use Rattle.px_main.specs.Words.{IsPass, IsCheck, IsExercise, IsServe, IsShow, count_of, is_flag, most_of, no_flags, number_of};
 
 use px_base::read_decimal;
 
@@ -69,6 +69,20 @@ pub fn read_show(words: &[String]) -> Option<ShowWords<'_>>
     })
 }
 
+/// Reads `exercise N`, where N is 0 to 2,147,483,647, of one to ten digits.
+pub fn read_exercise(words: &[String]) -> Option<u32>
+    ensures exercise { IfSome result (λ n. IsExercise (map string_bytes words.now) n) }
+    ensures other { IsNone result → (n : ℕ) → ¬ IsExercise (map string_bytes words.now) n }
+{
+    if words.len() != 2 || words[0].as_str() != "exercise" {
+        return None;
+    }
+    match read_number(words[1].as_bytes(), 2_147_483_647) {
+        Some(number) => Some(number as u32),
+        None => None,
+    }
+}
+
 /// The words of `serve`.
 #[derive(Clone, Copy)]
 pub struct ServeWords<'w> {
@@ -114,14 +128,22 @@ fn read_counts(words: &[String]) -> Option<u64>
     }
 }
 
-/// A number from 1 to `most`, of one to ten digits.
-fn read_count(word: &[u8], most: u64) -> Option<u64>
-    ensures { result ≡ count_of most word.now }
+/// A number up to `most`, of one to ten digits.
+fn read_number(word: &[u8], most: u64) -> Option<u64>
+    ensures value { result ≡ number_of most word.now }
+    ensures within { IfSome result (λ n. n ≤ most) }
 {
     if word.len() > 10 {
         return None;
     }
-    match read_decimal(word, most) {
+    read_decimal(word, most)
+}
+
+/// A number from 1 to `most`, of one to ten digits.
+fn read_count(word: &[u8], most: u64) -> Option<u64>
+    ensures { result ≡ count_of most word.now }
+{
+    match read_number(word, most) {
         Some(0) => None,
         number => number,
     }

@@ -17,11 +17,22 @@ pub returns-in-Some-read_show-clause-runs : goal.returns-in-Some-read_show-claus
 returns-in-Some-read_show-clause-runs g c = record {
   ended = c.run_show.result;
   code_is = c.code-in-Some-read_show.ensures;
-  runs = inr (inr (inr (record {
+  runs = inr (inr (inr (inl (record {
     config = c.in-Some-read_show.words.config.now;
     url = c.in-Some-read_show.words.url.now;
     tags = map string_bytes c.in-Some-read_show.words.tags.now;
     is_show = c.in-Some-read_show.ensures.show;
     runs = c.run_show.ensures.runs (g.S.Source.state c.args.input.now) (g.T.Clock.state c.args.clock.now);
-  })));
+  }))));
+}
+
+pub returns-in-Some-read_exercise-clause-runs : goal.returns-in-Some-read_exercise-clause-runs
+returns-in-Some-read_exercise-clause-runs g c = record {
+  ended = c.run_exercise.result;
+  code_is = c.code-in-Some-read_exercise.ensures;
+  runs = inr (inr (inr (inr (record {
+    number = c.in-Some-read_exercise.number;
+    is_exercise = c.in-Some-read_exercise.ensures.exercise;
+    runs = c.run_exercise.ensures.runs (g.F.Files.state c.args.files.now) (g.S.Source.state c.args.input.now) (g.T.Clock.state c.args.clock.now);
+  }))));
 }
