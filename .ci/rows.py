@@ -132,6 +132,11 @@ row("a tunnel by a parent that isn't found",[("c","forward / p.test:8080\n")],"n
 row("a tunnel to a host that isn't found",[("c","")],"no-name",CONNECT+"abc",page("404 Not Found","no-such-domain"),"")
 row("a tunnel to a host that isn't reached",[("c","")],"not-reached",CONNECT+"abc",page("503 Service Unavailable","connect-failed"),"")
 row("requests before a tunnel",[("c","")],origin_of(ANSWER)+"3\nxyz",GET+CONNECT+"abc",REPLY+GREETING+"xyz",LINK+link("abc",port=443))
+# forward lines: the last that matches counts
+OTHER="GET http://b.test/ HTTP/1.1\r\nHost: b.test\r\n\r\n"
+BY_PARENT=link("GET http://b.test/ HTTP/1.1\r\nHost: b.test\r\nConnection: close\r\n\r\n","p.test",8000)
+row("a host without its parent, and another by it",[("c","forward / p.test\nforward .a.test .\n")],origin_of(ANSWER)*2,GET+OTHER,REPLY*2,LINK+BY_PARENT)
+row("the same lines the other way round",[("c","forward .a.test .\nforward / p.test\n")],origin_of(ANSWER)*2,GET+OTHER,REPLY*2,link("GET http://a.test/x HTTP/1.1\r\nHost: a.test\r\nConnection: close\r\n\r\n","p.test",8000)+BY_PARENT)
 
 
 def run(program, files, origin, given):
@@ -147,8 +152,33 @@ def run(program, files, origin, given):
             return ran.returncode, ran.stdout.decode(), file.read()
 
 
+def exercised(program, *words):
+    """The status of `exercise` and what it prints."""
+    ran = subprocess.run([program, "exercise", *words], capture_output=True, timeout=100)
+    return ran.returncode, ran.stdout.decode()
+
+
+def exercises(program):
+    """`exercise` prints five lines that add up, and the same ones again; other words are refused."""
+    first = exercised(program, "7")
+    names = [line.split(" ")[0] for line in first[1].splitlines()]
+    counts = [int(line.split(" ")[1]) for line in first[1].splitlines()]
+    return (
+        first[0] == 0
+        and names == ["requests", "blocked", "filtered", "passed", "returned"]
+        and counts[0] == 1000
+        and sum(counts[1:4]) == 1000
+        and first == exercised(program, "7")
+        and exercised(program, "x") == (2, "")
+        and exercised(program, "2147483648") == (2, "")
+    )
+
+
 failed = 0
 for program in sys.argv[1:]:
+    if not exercises(os.path.abspath(program)):
+        failed += 1
+        print(f"rows.py: {program}: exercise")
     for name, files, origin, given, returned, sent_on in rows:
         got = run(os.path.abspath(program), files, origin, given)
         if got != (0, returned, sent_on):

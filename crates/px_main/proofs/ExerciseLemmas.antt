@@ -1,5 +1,5 @@
 -- What came of the command `exercise`.
-use Rattle.std.proofs.Common.{◌≡◌, ℕ, List, IsTrue, refl, inl, inr}
+use Rattle.std.proofs.Common.{ℕ, List, IsTrue, refl, inl, inr}
 use Rattle.px_base.specs.Contents.{FilesState}
 use Rattle.px_base.specs.Moments.{ClockState}
 use Rattle.px_base.specs.Sinks.{SinkState}
