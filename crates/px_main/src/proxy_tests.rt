@@ -1,6 +1,10 @@
 //! The command `serve` over doors in memory.
+ghost use Rattle.std.specs.Prelude.{IfOk};
+ghost use Rattle.px_doors.specs.Conns.{IsFreshConn};
+ghost use Rattle.px_doors.specs.MemConns.{mem_conn};
+
 use crate::proxies::{Parts, Proxied, run_proxy};
-use px_base::{Answer, FixedClock, List, MemDialer, MemFiles, Peer, TapeIn, TapeOut, Text};
+use px_base::{Answer, FixedClock, List, Mem, MemDialer, MemFiles, Peer, TapeIn, TapeOut, Text};
 use px_doors::{Conn, MemConn, MemDoors};
 use std::alloc::Global;
 use std::test::Fail;
@@ -13,7 +17,9 @@ const ANSWER: &[u8] = b"HTTP/1.1 200 OK\r\nContent-Length: 2\r\n\r\nhi";
 const REPLY: &[u8] = b"HTTP/1.1 200 OK\r\nContent-Length: 2\r\nConnection: keep-alive\r\n\r\nhi";
 
 /// A connection with one request, whose one dial has one answer.
-fn conn(alloc: Global) -> Result<MemConn, Fail> {
+fn conn(alloc: Global) -> Result<MemConn, Mem>
+    ensures { IfOk result (λ conn. IsFreshConn (mem_conn conn)) }
+{
     let mut answers = List::new(alloc);
     answers.add(Answer::Link {
         bytes: Text::from_bytes(alloc, ANSWER)?,
@@ -42,13 +48,10 @@ fn proxied<R: Threads + Sync>(
     state.add((Text::from_bytes(alloc, b"c")?, Text::new(alloc)))?;
     let mut states = List::new(alloc);
     states.add(state)?;
-    let mut conns = List::new(alloc);
-    for _ in 0..3 {
-        conns.add(conn(alloc)?)?;
-    }
+    let conns = vec![in alloc; conn(alloc)?, conn(alloc)?, conn(alloc)?]?;
     let parts = Parts {
         files: MemFiles::new(alloc, states, &[])?,
-        doors: MemDoors::new(alloc, conns, fails)?,
+        doors: MemDoors::new(alloc, List::from_vec(conns), fails)?,
         err: TapeOut::new(alloc, &[], &[])?,
     };
     let mut words = Vec::new(alloc);

@@ -1,8 +1,8 @@
 -- Connections served one after another.
-use Rattle.std.proofs.Common.{rules, ◌≡◌, ℕ, ◌+◌, ◌≤◌, ◌<◌, IsTrue, List, [], ◌∷◌, ◌++◌, length, None, Some, sym, subst, ap, ◌∙◌, refl, arith, length-append, inl, inr}
+use Rattle.std.proofs.Common.{rules, ◌≡◌, ℕ, ◌+◌, ◌≤◌, ◌<◌, IsTrue, List, [], ◌∷◌, ◌++◌, length, sym, subst, ap, ◌∙◌, refl, arith, length-append, inl, inr}
 use Rattle.px_config.specs.declared.configs.Config.{Config}
 use Rattle.px_doors.specs.Conns.{ConnState, PartedState}
-use Rattle.px_doors.specs.Doors.{DoorsState, DoorsGoesOn, left}
+use Rattle.px_doors.specs.Doors.{DoorsState, DoorsGoesOn}
 use Rattle.px_proxy.specs.Serving.{EndsBefore, EndsServing, ServesAll, ServesFrom, ServesNth, ServesOne, WhyBefore}
 use Rattle.px_proxy.specs.declared.serving.ServeEnd.{ServeEnd}
 use Rattle.px_proxy.specs.declared.serving.ServeEnd.TheVariants as end

@@ -1,9 +1,9 @@
 -- Serving connections one after another, by one configuration.
-use Rattle.std.specs.Prelude.{◌≡◌, ℕ, ◌+◌, ◌≤◌, zero, suc, IsTrue, ◌⊎◌, List, [], ◌∷◌, ◌++◌, length, slice_get, Option, Some, None}
+use Rattle.std.specs.Prelude.{◌≡◌, ℕ, ◌+◌, ◌≤◌, IsTrue, ◌⊎◌, List, [], ◌∷◌, ◌++◌, length, slice_get, Option, Some, None}
 use Rattle.px_base.specs.Causes.{Rose}
 use Rattle.px_config.specs.declared.configs.Config.{Config}
 use Rattle.px_doors.specs.Conns.{ConnState, PartedState}
-use Rattle.px_doors.specs.Doors.{DoorsState, DoorsGoesOn, left}
+use Rattle.px_doors.specs.Doors.{DoorsState, left}
 use Rattle.px_serve.specs.Ends.{ReadEndCause, WriteEndCause}
 use Rattle.px_serve.specs.Histories.{IsFixed, Looks}
 use Rattle.px_serve.specs.Sessions.{Caller, Objects, Serves}

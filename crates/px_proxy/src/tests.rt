@@ -1,6 +1,10 @@
 //! Serving over doors in memory.
+ghost use Rattle.std.specs.Prelude.{◌≡◌, [], IfOk};
+ghost use Rattle.px_doors.specs.Conns.{IsFreshConn};
+ghost use Rattle.px_doors.specs.MemConns.{mem_conn};
+
 use crate::{Conn, Doors, ServeEnd, serve_in_turn};
-use px_base::{Answer, FixedClock, List, MemDialer, MemFiles, Peer, TapeIn, TapeOut, Text};
+use px_base::{Answer, FixedClock, List, Mem, MemDialer, MemFiles, Peer, TapeIn, TapeOut, Text};
 use px_config::{Config, load};
 use px_doors::{MemConn, MemDoors};
 use px_serve::SessionEnd;
@@ -30,7 +34,9 @@ fn empty(rt: &impl Abort, alloc: Global) -> Result<Arc<Config>, Fail> {
 }
 
 /// A connection with one request, whose one dial has one answer.
-fn conn(alloc: Global) -> Result<MemConn, Fail> {
+fn conn(alloc: Global) -> Result<MemConn, Mem>
+    ensures { IfOk result (λ conn. IsFreshConn (mem_conn conn)) }
+{
     let mut answers = List::new(alloc);
     answers.add(Answer::Link {
         bytes: Text::from_bytes(alloc, ANSWER)?,
@@ -50,12 +56,12 @@ fn conn(alloc: Global) -> Result<MemConn, Fail> {
 }
 
 /// Doors with three such connections.
-fn three(alloc: Global, fails: &[u64]) -> Result<MemDoors, Fail> {
-    let mut conns = List::new(alloc);
-    for _ in 0..3 {
-        conns.add(conn(alloc)?)?;
-    }
-    Ok(MemDoors::new(alloc, conns, fails)?)
+fn three(alloc: Global, fails: &[u64]) -> Result<MemDoors, Mem>
+    ensures accepted { IfOk result (λ doors. (⟦<MemDoors as Doors>⟧.state doors).accepted ≡ 0) }
+    ensures parted { IfOk result (λ doors. (⟦<MemDoors as Doors>⟧.state doors).parted ≡ []) }
+{
+    let conns = vec![in alloc; conn(alloc)?, conn(alloc)?, conn(alloc)?]?;
+    MemDoors::new(alloc, List::from_vec(conns), fails)
 }
 
 #[test]
