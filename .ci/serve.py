@@ -18,6 +18,11 @@ import time
 LARGE = bytes(range(256)) * 40960
 WAIT = 20
 
+# A page with an image that is there to count readers, and what conf/ makes of it.
+PAGE = b'<p>Hello<img src="/count.gif" width="1" height="1"></p>'
+CLEAN = b"<p>Hello<!-- tiny image taken out --></p>"
+CONF = os.path.join(os.path.dirname(os.path.abspath(__file__)), "..", "conf")
+
 failed = 0
 
 
@@ -47,6 +52,8 @@ class Origin(http.server.BaseHTTPRequestHandler):
     def do_GET(self):
         if self.path == "/large":
             self.reply(LARGE)
+        elif self.path == "/page":
+            self.reply(PAGE, "text/html")
         elif self.path == "/reset":
             self.wfile.write(b"HTTP/1.1 200 OK\r\nContent-Length: 100\r\n\r\nshort")
             self.close_connection = True
@@ -230,6 +237,28 @@ def served(program, folder, origin, echo):
         proxy.wait()
 
 
+def newcomer(program, folder, origin):
+    """The configuration of conf/, as the manual's first ten minutes use it: a blocked advertisement and a clean page."""
+    port = free_port()
+    copy = os.path.join(folder, "conf")
+    shutil.copytree(CONF, copy)
+    main = os.path.join(copy, "config")
+    with open(main, encoding="utf-8") as file:
+        text = file.read()
+    with open(main, "w", encoding="utf-8") as file:
+        file.write(text.replace("listen-address 127.0.0.1:8118", "listen-address 127.0.0.1:%d" % port))
+    proxy = subprocess.Popen([program, "serve", main])
+    try:
+        check("the proxy of conf/ listens", wait_for(port))
+        got = raw(port, b"GET http://ads.example.net/offer HTTP/1.1\r\nConnection: close\r\n\r\n")
+        check("conf/ blocks an advertisement", got.startswith(b"HTTP/1.1 403") and b"Advertisements come from here." in got)
+        got = raw(port, b"GET http://127.0.0.1:%d/page HTTP/1.1\r\nConnection: close\r\n\r\n" % origin)
+        check("conf/ cleans a page", got.startswith(b"HTTP/1.1 200") and got.endswith(CLEAN))
+    finally:
+        proxy.kill()
+        proxy.wait()
+
+
 def counted(program, folder, origin):
     """So many connections, and then the end with status 0."""
     port = free_port()
@@ -257,6 +286,7 @@ def main():
             statuses(program, folder)
             served(program, folder, server.server_address[1], echo.port)
             counted(program, folder, server.server_address[1])
+            newcomer(program, folder, server.server_address[1])
     print("serve: %d failed" % failed)
     sys.exit(1 if failed else 0)
 
