@@ -238,7 +238,8 @@ def served(program, folder, origin, echo):
 
 
 def newcomer(program, folder, origin):
-    """The configuration of conf/, as the manual's first ten minutes use it: a blocked advertisement and a clean page."""
+    """The configuration of conf/, as the manual's first ten minutes use it: a blocked advertisement and a clean page. Hosts of this
+    machine are left alone by conf/, so its user.action switches the filter on for the origin."""
     port = free_port()
     copy = os.path.join(folder, "conf")
     shutil.copytree(CONF, copy)
@@ -247,6 +248,8 @@ def newcomer(program, folder, origin):
         text = file.read()
     with open(main, "w", encoding="utf-8") as file:
         file.write(text.replace("listen-address 127.0.0.1:8118", "listen-address 127.0.0.1:%d" % port))
+    with open(os.path.join(copy, "user.action"), "a", encoding="utf-8") as file:
+        file.write("\n{+filter{tiny-images}}\n127.0.0.1\n")
     proxy = subprocess.Popen([program, "serve", main])
     try:
         check("the proxy of conf/ listens", wait_for(port))
