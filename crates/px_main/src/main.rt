@@ -77,6 +77,4 @@ mod fault_tests;
 #[cfg(test)]
 mod load_tests;
 #[cfg(test)]
-mod proxy_tests;
-#[cfg(test)]
 mod tests;
