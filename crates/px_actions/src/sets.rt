@@ -92,7 +92,7 @@ impl ActionSet {
         self.table.values(kind)
     }
 
-    /// An equal set. It takes memory once for each text and once for each list that isn't empty.
+    /// An equal set. It takes memory once for the values where there are some, for each text and for each list that isn't empty.
     pub fn copy(&self) -> Result<ActionSet, Mem>
         ensures { IfOk result (λ set. set ≡ self.now) }
     {

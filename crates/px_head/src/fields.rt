@@ -4,7 +4,7 @@ ghost use Rattle.httparse.specs.Spans.{IsHeaderWithin};
 ghost use Rattle.px_head.specs.Fields.{field_at};
 ghost use Rattle.px_head.specs.Prints.{field_line};
 
-use crate::prints::push_field;
+use crate::prints::{FIELD_SEPARATOR, push_field};
 use httparse::spans::{EMPTY_HEADER_SPAN, HeaderSpan};
 use memchr::memchr_iter;
 use px_base::{List, Mem, Text};
@@ -22,7 +22,8 @@ impl Field {
     pub fn line(&self, alloc: Global) -> Result<Text, Mem>
         ensures { IfOk result (λ line. line ≡ field_line self.now) }
     {
-        let mut line = Text::new(alloc);
+        let room = self.name.len().saturating_add(self.value.len());
+        let mut line = Text::with_capacity(alloc, room.saturating_add(FIELD_SEPARATOR.len()))?;
         push_field(&mut line, self)?;
         Ok(line)
     }

@@ -10,7 +10,7 @@ use px_base::{Mem, Text};
 const LINE_END: &[u8] = b"\r\n";
 
 /// What stands between a field's name and its value.
-const FIELD_SEPARATOR: &[u8] = b": ";
+pub const FIELD_SEPARATOR: &[u8] = b": ";
 
 /// Adds a head to `out`: the first line, the fields' lines and the empty line, each ended by CR LF (RFC 9112, section 2.1).
 /// It takes its room first, in one allocation at most. After `Mem`, `out` is as it was.
