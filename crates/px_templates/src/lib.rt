@@ -16,7 +16,7 @@ mod tests;
 
 pub use assembling::included_names;
 pub use faults::TemplateFault;
-pub use pages::{PAGES, Page, built_in};
+pub use pages::{PAGES, Page, built_in, constants};
 pub use replies::{Local, local_reply};
 pub use symbols::Symbols;
 pub use templates::Template;
