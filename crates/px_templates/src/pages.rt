@@ -1,6 +1,5 @@
 // The pages that are returned in place of an answer.
-ghost use Rattle.std.specs.Prelude.{◌≡◌, ◌∷◌, [], Some, slice_get};
-ghost use Rattle.px_templates.specs.declared.pages.Page.TheVariants as page;
+ghost use Rattle.std.specs.Prelude.{◌≡◌, Some, slice_get};
 ghost use Rattle.px_templates.specs.Pages.{built_in, page_name, page_rank, page_status};
 
 /// A page that is returned in place of an answer.
@@ -44,12 +43,6 @@ pub const PAGES: [Page; 11] = [
     Page::ConnectDenied,
     Page::BadRewrite,
 ];
-
-/// What the constant of this crate is: the pages, in the order in which their templates are kept.
-pub fn constants()
-    ensures { PAGES ≡ page.Blocked ∷ page.ConnectFailed ∷ page.NoSuchDomain ∷ page.ForwardingFailed ∷ page.NoServerData ∷ page.InvalidRequest
-        ∷ page.HeadTooLong ∷ page.BadReply ∷ page.SendFailed ∷ page.ConnectDenied ∷ page.BadRewrite ∷ [] }
-{}
 
 impl Page {
     /// The name of the file that holds the page's template.
