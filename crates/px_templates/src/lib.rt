@@ -14,12 +14,6 @@ mod replies;
 mod runs;
 mod symbols;
 mod templates;
-/// What the constant of this crate is: the pages, in the order in which their templates are kept.
-pub fn constants()
-    ensures { PAGES ≡ page.Blocked ∷ page.ConnectFailed ∷ page.NoSuchDomain ∷ page.ForwardingFailed ∷ page.NoServerData ∷ page.InvalidRequest
-        ∷ page.HeadTooLong ∷ page.BadReply ∷ page.SendFailed ∷ page.ConnectDenied ∷ page.BadRewrite ∷ [] }
-{}
-
 #[cfg(test)]
 mod tests;
 
@@ -29,3 +23,9 @@ pub use pages::{PAGES, Page, built_in};
 pub use replies::{Local, local_reply};
 pub use symbols::Symbols;
 pub use templates::Template;
+
+/// What the constant of this crate is: the pages, in the order in which their templates are kept.
+pub fn constants()
+    ensures { PAGES ≡ page.Blocked ∷ page.ConnectFailed ∷ page.NoSuchDomain ∷ page.ForwardingFailed ∷ page.NoServerData ∷ page.InvalidRequest
+        ∷ page.HeadTooLong ∷ page.BadReply ∷ page.SendFailed ∷ page.ConnectDenied ∷ page.BadRewrite ∷ [] }
+{}
