@@ -1,11 +1,20 @@
 -- What a head settles by a configuration and by what was asked.
-use Rattle.std.proofs.Common.{◌≡◌, refl}
+use Rattle.std.proofs.Common.{◌≡◌, ◌∙◌, ℕ, Bool, List, ap, refl}
 use Rattle.px_head.specs.declared.responses.ResponseHead.{ResponseHead}
 use Rattle.px_framing.specs.declared.rules.BodyRule.{BodyRule}
+use Rattle.px_actions.specs.Sets.{values}
+use Rattle.px_actions.specs.declared.kinds.Kind.TheVariants as kind
+use Rattle.px_actions.specs.declared.settings.Setting.{Setting}
 use Rattle.px_config.specs.declared.configs.Config.{Config}
+use Rattle.px_headers.specs.Kinds.{is_text}
+use Rattle.px_headers.specs.ServerRows.{server_out}
+use Rattle.px_headers.specs.declared.server.ServerOut.{ServerOut}
 use Rattle.px_answers.specs.Framings as answers
 use Rattle.px_answers.specs.declared.asked.Asked.{Asked}
-use Rattle.px_pumps.specs.Asking.{framed_of}
+use Rattle.px_answers.specs.declared.forms.Framed.{Framed}
+use Rattle.px_answers.specs.declared.framings.BodyPlan.{BodyPlan}
+use Rattle.px_answers.specs.declared.framings.HeaderLines.{HeaderLines}
+use Rattle.px_pumps.specs.Asking.{framed_by, framed_of, response_set, returned_lines, terms_of}
 
 -- its body's rule is the head's
 pub framed_rule : (config : Config) (asked : Asked) (head : ResponseHead) (r : BodyRule) → (framed_of config asked head r).rule ≡ r
@@ -16,3 +25,16 @@ framed_rule config asked head r = refl
 pub framed_limit : (config : Config) (asked : Asked) (head : ResponseHead) (r : BodyRule) → (framed_of config asked head r).limit ≡ config.settings.buffer_limit
 unfolding framed_of answers.plan_of
 framed_limit config asked head r = refl
+
+-- a plan by the head as received, behind the lines that the header actions made
+pub settled_as : (config : Config) (asked : Asked) (head : ResponseHead) (r : BodyRule) (set : List Setting) (text : Bool) (filters : List (List ℕ)) (plan : BodyPlan) (out : ServerOut) (lines : HeaderLines) (framed : Framed)
+    → set ≡ response_set config asked.set asked.tags asked.vars head → text ≡ is_text set head.fields → filters ≡ values set kind.Filter
+    → plan ≡ answers.plan_of config.filters head r (record { minor = asked.minor; keep = asked.keep; text = text; filters = filters; limit = config.settings.buffer_limit })
+    → out ≡ server_out set config.filters asked.vars asked.moment head → lines ≡ returned_lines out → framed ≡ answers.framed_so plan lines → framed ≡ framed_of config asked head r
+unfolding framed_of
+settled_as config asked head r set text filters plan out lines framed is_set is_named are planned made printed is =
+    is
+    ∙ ap (λ (p : BodyPlan). answers.framed_so p lines) (planned ∙ ap (λ (t : Bool). answers.plan_of config.filters head r (record { minor = asked.minor; keep = asked.keep; text = t; filters = filters; limit = config.settings.buffer_limit })) is_named
+    ∙ ap (λ (fs : List (List ℕ)). answers.plan_of config.filters head r (record { minor = asked.minor; keep = asked.keep; text = is_text set head.fields; filters = fs; limit = config.settings.buffer_limit })) are)
+    ∙ ap (λ (ls : HeaderLines). answers.framed_so (answers.plan_of config.filters head r (terms_of config asked set head.fields)) ls) (printed ∙ ap returned_lines made)
+    ∙ ap (λ (s : List Setting). framed_by config asked s head r) is_set
