@@ -10,3 +10,4 @@ pub mod NumberLemmas
 pub mod WalkLemmas
 pub mod HostLemmas
 pub mod TagLemmas
+pub mod FinderLemmas

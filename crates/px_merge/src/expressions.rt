@@ -1,6 +1,6 @@
 // Expressions that patterns search for.
-ghost use Rattle.std.specs.Prelude.{◌≡◌, IfSome, IsTrue, Some, option_copied, slice_get};
-ghost use Rattle.px_merge.specs.Expressions.{expression_at, expression_in};
+ghost use Rattle.std.specs.Prelude.{◌≡◌, ◌++◌, IfOk, IfSome, IsTrue, OnOk, Some, is_some, option_copied, slice_get};
+ghost use Rattle.px_merge.specs.Expressions.{expression_at, expression_in, expression_places, places_in};
 ghost use Rattle.px_merge.specs.Indexes.{pattern_at};
 
 use crate::places::{Place, Placed};
@@ -54,18 +54,35 @@ pub fn expression_at(sections: &[Placed], place: Place) -> Option<&Expression>
     }
 }
 
-/// The places of all patterns with an expression, in ascending order.
-pub fn expression_places(alloc: Global, sections: &[Placed]) -> Result<Vec<Place>, Mem> {
-    let mut places = Vec::new(alloc);
-    for (number, placed) in sections.iter().enumerate() {
-        for (at, pattern) in placed.section.patterns.as_slice().iter().enumerate() {
-            if expression_in(pattern).is_some() {
-                places.push(Place {
-                    section: number,
-                    pattern: at,
-                })?;
-            }
+/// Whether a pattern has an expression.
+fn has_expression(pattern: &Pattern) -> bool
+    ensures { result ≡ is_some (expression_in pattern.now) }
+{
+    expression_in(pattern).is_some()
+}
+
+/// Adds the places of those patterns of the section with a number that have an expression.
+fn add_places(number: usize, patterns: &[Pattern], places: &mut Vec<Place>) -> Result<(), Mem>
+    ensures { OnOk result (places.new.items ≡ places.old.items ++ places_in number 0 patterns.now) }
+{
+    for (at, shown) in patterns.iter().enumerate() {
+        if has_expression(shown) {
+            places.push(Place {
+                section: number,
+                pattern: at,
+            })?;
         }
+    }
+    Ok(())
+}
+
+/// The places of all patterns with an expression, in ascending order.
+pub fn expression_places(alloc: Global, sections: &[Placed]) -> Result<Vec<Place>, Mem>
+    ensures { IfOk result (λ places. places.items ≡ expression_places 0 sections.now) }
+{
+    let mut places = Vec::new(alloc);
+    for (number, shown) in sections.iter().enumerate() {
+        add_places(number, shown.section.patterns.as_slice(), &mut places)?;
     }
     Ok(places)
 }
