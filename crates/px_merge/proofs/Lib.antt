@@ -11,3 +11,4 @@ pub mod WalkLemmas
 pub mod HostLemmas
 pub mod TagLemmas
 pub mod FinderLemmas
+pub mod Crossing
