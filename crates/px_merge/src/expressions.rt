@@ -87,8 +87,19 @@ pub fn expression_places(alloc: Global, sections: &[Placed]) -> Result<Vec<Place
     Ok(places)
 }
 
+/// The number of a pattern's place among places in ascending order, if it is there. That of a pattern without an expression isn't
+/// looked for.
+pub fn number_at(places: &[Place], place: Place, pattern: &Pattern) -> Option<usize>
+    ensures { IfSome result (λ number. slice_get places.now number ≡ Some place) }
+{
+    if !has_expression(pattern) {
+        return None;
+    }
+    number_of(places, place)
+}
+
 /// The number of a place among places in ascending order, if it is there.
-pub fn number_of(places: &[Place], place: Place) -> Option<usize>
+fn number_of(places: &[Place], place: Place) -> Option<usize>
     ensures { IfSome result (λ number. slice_get places.now number ≡ Some place) }
 {
     let number = first_from(places, place);
