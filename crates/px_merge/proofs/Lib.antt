@@ -10,3 +10,5 @@ pub mod NumberLemmas
 pub mod WalkLemmas
 pub mod HostLemmas
 pub mod TagLemmas
+pub mod FinderLemmas
+pub mod Crossing

@@ -5,3 +5,4 @@ pub mod Keys
 pub mod Candidates
 pub mod Indexes
 pub mod Expressions
+pub mod Finders

@@ -7,8 +7,8 @@ use Rattle.px_merge.specs.declared.places.Placed.{Placed}
 use Rattle.px_merge.specs.declared.places.SectionCounts.{SectionCounts}
 use Rattle.px_merge.specs.declared.lists.Purpose.{Purpose}
 use Rattle.px_merge.specs.declared.lists.Purpose.TheVariants as purpose
-use Rattle.px_merge.specs.declared.indexes.Index.{Index}
-use Rattle.px_merge.specs.Indexes.{IsIndexed}
+use Rattle.px_merge.specs.declared.finders.Finder.{Finder}
+use Rattle.px_merge.specs.Finders.{CanFind}
 use Rattle.px_merge.specs.Merged.{pattern_count}
 use Rattle.px_merge.specs.declared.sides.Side.TheVariants as side
 use Rattle.px_merge.specs.declared.sides.TagTest.{TagTest}
@@ -52,12 +52,12 @@ is_of (purpose.Absent side.Response) (pattern.NoResponseTag p) = true
 is_of purpose (pattern.ClientTag p) = false
 
 -- what is kept of sections beside them
-pub record AreKept (names : List (List ℕ)) (sections : List Placed) (counts : SectionCounts) (index : Index) (tags requests responses : List ℕ) : Type 0 where
+pub record AreKept (names : List (List ℕ)) (sections : List Placed) (counts : SectionCounts) (finder : Finder) (tags requests responses : List ℕ) : Type 0 where
   pub files : counts.files ≡ length names
   pub all : counts.sections ≡ length sections
   pub patterns : counts.patterns ≡ pattern_count sections
   pub within : All (λ p. p.file < length names) sections
-  pub indexed : IsIndexed index sections
+  pub found : CanFind finder sections
   pub tags_are : Selects (is_of purpose.Tag) sections tags
   pub requests_are : Selects (is_of (purpose.Absent side.Request)) sections requests
   pub responses_are : Selects (is_of (purpose.Absent side.Response)) sections responses

@@ -1,6 +1,6 @@
 // Expressions that patterns search for.
-ghost use Rattle.std.specs.Prelude.{◌≡◌, IfSome, IsTrue, Some, option_copied, slice_get};
-ghost use Rattle.px_merge.specs.Expressions.{expression_at, expression_in};
+ghost use Rattle.std.specs.Prelude.{◌≡◌, ◌++◌, IfOk, IfSome, IsTrue, OnOk, Some, is_some, option_copied, slice_get};
+ghost use Rattle.px_merge.specs.Expressions.{expression_at, expression_in, expression_places, places_in};
 ghost use Rattle.px_merge.specs.Indexes.{pattern_at};
 
 use crate::places::{Place, Placed};
@@ -54,24 +54,52 @@ pub fn expression_at(sections: &[Placed], place: Place) -> Option<&Expression>
     }
 }
 
-/// The places of all patterns with an expression, in ascending order.
-pub fn expression_places(alloc: Global, sections: &[Placed]) -> Result<Vec<Place>, Mem> {
-    let mut places = Vec::new(alloc);
-    for (number, placed) in sections.iter().enumerate() {
-        for (at, pattern) in placed.section.patterns.as_slice().iter().enumerate() {
-            if expression_in(pattern).is_some() {
-                places.push(Place {
-                    section: number,
-                    pattern: at,
-                })?;
-            }
+/// Whether a pattern has an expression.
+fn has_expression(pattern: &Pattern) -> bool
+    ensures { result ≡ is_some (expression_in pattern.now) }
+{
+    expression_in(pattern).is_some()
+}
+
+/// Adds the places of those patterns of the section with a number that have an expression.
+fn add_places(number: usize, patterns: &[Pattern], places: &mut Vec<Place>) -> Result<(), Mem>
+    ensures { OnOk result (places.new.items ≡ places.old.items ++ places_in number 0 patterns.now) }
+{
+    for (at, shown) in patterns.iter().enumerate() {
+        if has_expression(shown) {
+            places.push(Place {
+                section: number,
+                pattern: at,
+            })?;
         }
+    }
+    Ok(())
+}
+
+/// The places of all patterns with an expression, in ascending order.
+pub fn expression_places(alloc: Global, sections: &[Placed]) -> Result<Vec<Place>, Mem>
+    ensures { IfOk result (λ places. places.items ≡ expression_places 0 sections.now) }
+{
+    let mut places = Vec::new(alloc);
+    for (number, shown) in sections.iter().enumerate() {
+        add_places(number, shown.section.patterns.as_slice(), &mut places)?;
     }
     Ok(places)
 }
 
+/// The number of a pattern's place among places in ascending order, if it is there. That of a pattern without an expression isn't
+/// looked for.
+pub fn number_at(places: &[Place], place: Place, pattern: &Pattern) -> Option<usize>
+    ensures { IfSome result (λ number. slice_get places.now number ≡ Some place) }
+{
+    if !has_expression(pattern) {
+        return None;
+    }
+    number_of(places, place)
+}
+
 /// The number of a place among places in ascending order, if it is there.
-pub fn number_of(places: &[Place], place: Place) -> Option<usize>
+fn number_of(places: &[Place], place: Place) -> Option<usize>
     ensures { IfSome result (λ number. slice_get places.now number ≡ Some place) }
 {
     let number = first_from(places, place);

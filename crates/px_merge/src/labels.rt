@@ -1,5 +1,5 @@
 // The label under which a URL pattern is kept.
-ghost use Rattle.std.specs.Prelude.{◌≡◌, ℕ, Bool, List, option_copied, true};
+ghost use Rattle.std.specs.Prelude.{◌≡◌, ℕ, Bool, IfOk, List, length, option_copied, true};
 ghost use Rattle.px_merge.specs.Indexes.{KeepsUnder, PassesPlain, PlainPass};
 
 use crate::keys::slot_number;
@@ -10,7 +10,9 @@ use px_patterns::{Bucket, LabelPattern, UrlPattern};
 use std::alloc::Global;
 
 /// Counts a label.
-fn count_label(counts: &mut Vec<usize>, label: &LabelPattern) {
+fn count_label(counts: &mut Vec<usize>, label: &LabelPattern)
+    ensures { length counts.new.items ≡ length counts.old.items }
+{
     if let Some(text) = label.plain() {
         let at = slot_number(counts.len(), text);
         if at < counts.len() {
@@ -20,21 +22,32 @@ fn count_label(counts: &mut Vec<usize>, label: &LabelPattern) {
 }
 
 /// Counts the labels of a URL pattern.
-fn count_labels(counts: &mut Vec<usize>, pattern: &Pattern) {
+fn count_labels(counts: &mut Vec<usize>, pattern: &Pattern)
+    ensures { length counts.new.items ≡ length counts.old.items }
+{
     if let Pattern::Url(pattern) = pattern {
-        for label in pattern.host().labels() {
+        'labels: for label in pattern.host().labels() {
             count_label(counts, label);
         }
     }
 }
 
+/// Counts the labels of URL patterns.
+fn count_all(counts: &mut Vec<usize>, patterns: &[Pattern])
+    ensures { length counts.new.items ≡ length counts.old.items }
+{
+    'patterns: for pattern in patterns {
+        count_labels(counts, pattern);
+    }
+}
+
 /// How many labels of URL patterns there are for each of some slots.
-pub fn label_counts(alloc: Global, sections: &[Placed], count: usize) -> Result<Vec<usize>, Mem> {
+pub fn label_counts(alloc: Global, sections: &[Placed], count: usize) -> Result<Vec<usize>, Mem>
+    ensures { IfOk result (λ counts. length counts.items ≡ count) }
+{
     let mut counts = vec![in alloc; 0; count]?;
-    for placed in sections {
-        for pattern in placed.section.patterns.as_slice() {
-            count_labels(&mut counts, pattern);
-        }
+    'sections: for placed in sections {
+        count_all(&mut counts, placed.section.patterns.as_slice());
     }
     Ok(counts)
 }

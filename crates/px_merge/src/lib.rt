@@ -3,6 +3,7 @@
 
 mod building;
 mod expressions;
+mod finders;
 mod hosts;
 mod indexes;
 mod keys;
@@ -10,6 +11,7 @@ mod labels;
 mod lists;
 mod matchers;
 mod numbers;
+mod parts;
 mod places;
 mod sections;
 mod selections;

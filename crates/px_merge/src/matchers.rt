@@ -5,7 +5,7 @@ ghost use Rattle.px_merge.specs.Indexes.{cost_of, passes, pattern_at};
 ghost use Rattle.px_merge.specs.Merging.{is_for_url};
 ghost use Rattle.px_merge.specs.Selections.{is_for_test, patterns_in};
 
-use crate::expressions::{expression_at, number_of, pattern_at};
+use crate::expressions::{expression_at, number_at, pattern_at};
 use crate::places::{Place, Placed};
 use crate::selections::section_at;
 use crate::sides::TagTest;
@@ -83,7 +83,7 @@ impl<'c> Matchers<'c> {
         let Some(pattern) = pattern_at(self.sections, place) else {
             return Ok(false);
         };
-        match number_of(self.places, place) {
+        match number_at(self.places, place, pattern) {
             Some(number) => try_tags(alloc, pattern, &mut self.kept[number], test),
             None => try_tags(alloc, pattern, &mut None, test),
         }
@@ -105,7 +105,7 @@ impl<'c> Matchers<'c> {
         let Some(pattern) = pattern_at(self.sections, place) else {
             return Ok(false);
         };
-        match number_of(self.places, place) {
+        match number_at(self.places, place, pattern) {
             Some(number) => { try_url(alloc, pattern, &mut self.kept[number], url, tags, steps) }
             None => try_url(alloc, pattern, &mut None, url, tags, steps),
         }

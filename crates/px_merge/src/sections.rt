@@ -2,15 +2,15 @@
 ghost use Rattle.std.specs.Prelude.{◌≡◌, ◌+◌, ◌<◌, ◌≤◌, All, IfOk, OnErr, OnOk, Some, length, map, slice_get};
 ghost use Rattle.px_actions.specs.Sets.{IsUpdatedByFront};
 ghost use Rattle.px_merge.specs.Candidates.{candidate_count};
+ghost use Rattle.px_merge.specs.Finders.{CanFind};
 ghost use Rattle.px_merge.specs.Merged.{names_of, pattern_count, sections_of};
-ghost use Rattle.px_merge.specs.Indexes.{IsIndexed};
 ghost use Rattle.px_merge.specs.Merging.{absent, applied, matching, ref_of, tagged, updates_in, url_actions};
 ghost use Rattle.px_merge.specs.Selections.{Selects, is_of};
 ghost use Rattle.px_merge.specs.declared.lists.Purpose.TheVariants.{Absent, Tag};
 
 use crate::building::{add_files, counts_of};
 use crate::expressions::expression_places;
-use crate::indexes::Index;
+use crate::finders::Finder;
 use crate::lists::{Purpose, numbers_of};
 use crate::places::{Place, Placed, SectionCounts, SectionRef};
 use crate::sides::Side;
@@ -30,7 +30,7 @@ pub struct Sections {
     sections: Vec<Placed>,
     counts: SectionCounts,
     /// The places of all patterns that apply to URLs.
-    index: Index,
+    finder: Finder,
     /// The places of all patterns with an expression, in ascending order.
     expressions: Vec<Place>,
     /// The sections with TAG patterns.
@@ -50,7 +50,7 @@ impl Model for Sections {
 
     ghost view = { λ s. record { names = s.names.items; sections = s.sections.items } };
 
-    ghost invariant = { λ s. AreKept s.names.items s.sections.items s.counts s.index s.tags.items s.requests.items s.responses.items };
+    ghost invariant = { λ s. AreKept s.names.items s.sections.items s.counts s.finder s.tags.items s.requests.items s.responses.items };
 }
 
 impl Sections {
@@ -64,7 +64,7 @@ impl Sections {
         let mut sections = Vec::new(alloc);
         add_files(files, &mut names, &mut sections)?;
         let counts = counts_of(names.as_slice(), sections.as_slice())?;
-        let index = Index::new(alloc, sections.as_slice(), counts.patterns as usize)?;
+        let finder = Finder::new(alloc, sections.as_slice(), counts.patterns as usize)?;
         let expressions = expression_places(alloc, sections.as_slice())?;
         let tags = numbers_of(alloc, sections.as_slice(), Purpose::Tag)?;
         let requests = numbers_of(alloc, sections.as_slice(), Purpose::Absent(Side::Request))?;
@@ -73,7 +73,7 @@ impl Sections {
             names,
             sections,
             counts,
-            index,
+            finder,
             expressions,
             tags,
             requests,
@@ -173,10 +173,11 @@ impl Sections {
         self.sections.as_slice()
     }
 
-    pub(crate) fn index(&self) -> &Index
-        ensures { IsIndexed result.now self.now.sections }
+    /// The places of all patterns that apply to URLs.
+    pub(crate) fn finder(&self) -> &Finder
+        ensures { CanFind result.now self.now.sections }
     {
-        &self.index
+        &self.finder
     }
 
     /// The places of all patterns with an expression, in ascending order.

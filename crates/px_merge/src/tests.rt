@@ -122,6 +122,13 @@ fn sets(
     sets_for(alloc, sections, &url, tags.as_slice(), wanted)
 }
 
+/// Sections on the paths of every host.
+const PATHS: &[&[Row]] = &[&[
+    (1, &["+block{a}"], &["/ads/"]),
+    (3, &["+block{b}"], &["/(.*/)?banner", ":8080/x"]),
+    (6, &["+filter{every}"], &["/"]),
+]];
+
 /// Files, a URL, the tags of a client, and what is set.
 const URLS: &[(&[&[Row]], &str, &[&str], Wanted)] = &[
     (
@@ -173,6 +180,36 @@ const URLS: &[(&[&[Row]], &str, &[&str], Wanted)] = &[
         "http://[::1]/",
         &[],
         ("+block{c}\n", &[(0, 5)]),
+    ),
+    (
+        PATHS,
+        "http://a.test/y",
+        &[],
+        ("+filter{every}\n", &[(0, 6)]),
+    ),
+    (
+        PATHS,
+        "http://a.test/x",
+        &[],
+        ("+filter{every}\n", &[(0, 6)]),
+    ),
+    (
+        PATHS,
+        "http://b.test/ADS/",
+        &[],
+        ("+block{a}\n+filter{every}\n", &[(0, 1), (0, 6)]),
+    ),
+    (
+        PATHS,
+        "http://b.test/y/Banner1",
+        &[],
+        ("+block{b}\n+filter{every}\n", &[(0, 3), (0, 6)]),
+    ),
+    (
+        PATHS,
+        "http://a.test:8080/x",
+        &[],
+        ("+block{b}\n+filter{every}\n", &[(0, 3), (0, 6)]),
     ),
 ];
 
@@ -289,5 +326,20 @@ fn one_of_a_thousand_hosts_is_found(rt: HostRuntime) {
             Some(true),
             "{url}"
         );
+    }
+}
+
+fn shared<T: Send + Sync>(_value: &T) {}
+
+fn sent<T: Send>(_value: &T) {}
+
+#[test]
+fn threads_may_share_sections(rt: HostRuntime) {
+    let alloc = rt.alloc();
+    let sections = merged(alloc, TAGGED).expect(&rt, "sections");
+    shared(&sections);
+    match sections.warm(alloc) {
+        Ok(warm) => sent(&warm),
+        Err(_) => panic!(rt; "no store"),
     }
 }

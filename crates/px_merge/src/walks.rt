@@ -2,17 +2,19 @@
 ghost use Rattle.std.specs.Prelude.{◌≡◌, ◌+◌, ◌++◌, ◌≤◌, IfOk, OnOk};
 ghost use Rattle.std.specs.List.{flat_map};
 ghost use Rattle.px_merge.specs.Candidates.{candidate_count};
-ghost use Rattle.px_merge.specs.Indexes.{IsIndexed, cost_at, hits_in, slot_at, weight};
+ghost use Rattle.px_merge.specs.Finders.{AreAsked, CanFind};
+ghost use Rattle.px_merge.specs.Indexes.{cost_at, hits_in, slot_at, weight};
 ghost use Rattle.px_merge.specs.Merging.{is_for_url};
 ghost use Rattle.px_merge.specs.Selections.{Selects};
 
+use crate::finders::Finder;
 use crate::hosts::host_slots;
 use crate::indexes::Index;
 use crate::matchers::Matchers;
 use crate::numbers::put_in_order;
 use crate::places::Place;
 use px_base::{Mem, Steps, Text};
-use px_patterns::Url;
+use px_patterns::{KeptUnion, Url};
 use std::alloc::Global;
 use std::sync::ledger::Ledger;
 
@@ -38,6 +40,56 @@ fn try_places<L: Ledger>(
         }
         rest = others;
     }
+    Ok(())
+}
+
+/// The same of the places whose expressions are asked together, and of none of them where the union finds nothing.
+fn try_paths<L: Ledger>(
+    alloc: Global,
+    places: &[Place],
+    union: &mut KeptUnion<'_>,
+    matchers: &mut Matchers<'_>,
+    url: &Url,
+    tags: &[Text],
+    hits: &mut Vec<usize>,
+    steps: &mut Steps<L>,
+) -> Result<(), Mem>
+    requires { AreAsked matchers.old union.old places.now }
+    ensures hits { OnOk result (hits.new.items ≡ hits.old.items ++ hits_in matchers.old (is_for_url url.now tags.now) places.now) }
+    ensures steps { steps.new ≤ steps.old + weight (cost_at matchers.old url.now.host) places.now }
+    ensures same { matchers.new ≡ matchers.old }
+    ensures union { union.new ≡ union.old }
+{
+    if places.is_empty() {
+        return Ok(());
+    }
+    if !union.finds_any(alloc, url.path.as_bytes())? {
+        return Ok(());
+    }
+    try_places(alloc, matchers, places, url, tags, hits, steps)
+}
+
+/// The same of the places that are kept under no label.
+fn try_every<L: Ledger>(
+    alloc: Global,
+    finder: &Finder,
+    union: &mut KeptUnion<'_>,
+    matchers: &mut Matchers<'_>,
+    url: &Url,
+    tags: &[Text],
+    hits: &mut Vec<usize>,
+    steps: &mut Steps<L>,
+) -> Result<(), Mem>
+    requires { AreAsked matchers.old union.old finder.now.paths }
+    ensures hits { OnOk result (hits.new.items ≡ hits.old.items ++ hits_in matchers.old (is_for_url url.now tags.now) (finder.now.index.always ++ finder.now.paths)) }
+    ensures steps { steps.new ≤ steps.old + weight (cost_at matchers.old url.now.host) (finder.now.index.always ++ finder.now.paths) }
+    ensures same { matchers.new ≡ matchers.old }
+    ensures union { union.new ≡ union.old }
+{
+    let always = finder.index.always.as_slice();
+    try_places(alloc, matchers, always, url, tags, hits, steps)?;
+    let paths = finder.paths.as_slice();
+    try_paths(alloc, paths, union, matchers, url, tags, hits, steps)?;
     Ok(())
 }
 
@@ -68,28 +120,24 @@ fn try_slots<L: Ledger>(
 /// candidates are tried, each once.
 pub fn url_hits<L: Ledger>(
     alloc: Global,
-    index: &Index,
+    finder: &Finder,
+    union: &mut KeptUnion<'_>,
     matchers: &mut Matchers<'_>,
     url: &Url,
     tags: &[Text],
     steps: &mut Steps<L>,
 ) -> Result<Vec<usize>, Mem>
-    requires { IsIndexed index.now matchers.old }
+    requires finder { CanFind finder.now matchers.old }
+    requires union { union.old ≡ finder.now.union }
     ensures selects { IfOk result (λ hits. Selects (is_for_url url.now tags.now) matchers.old hits.items) }
     ensures steps { steps.new ≤ steps.old + candidate_count matchers.old url.now.host }
     ensures same { matchers.new ≡ matchers.old }
+    ensures union { union.new ≡ union.old }
 {
+    let index = &finder.index;
     let mut hits = Vec::new(alloc);
     let numbers = host_slots(alloc, index.slots.len(), url.host.as_bytes())?;
-    try_places(
-        alloc,
-        matchers,
-        index.always.as_slice(),
-        url,
-        tags,
-        &mut hits,
-        steps,
-    )?;
+    try_every(alloc, finder, union, matchers, url, tags, &mut hits, steps)?;
     try_slots(
         alloc,
         index,

@@ -5,7 +5,7 @@ ghost use Rattle.px_merge.specs.Candidates.{candidate_count};
 ghost use Rattle.px_merge.specs.Merging.{absent, applied, is_for_url, matching, ref_of, sections_with, tagged, updates_in, url_actions};
 ghost use Rattle.px_merge.specs.Selections.{Selects, is_for_test, picked};
 
-use crate::indexes::Index;
+use crate::finders::Finder;
 use crate::matchers::Matchers;
 use crate::places::SectionRef;
 use crate::sections::Sections;
@@ -15,7 +15,7 @@ use crate::tag_walks::tag_hits;
 use crate::walks::url_hits;
 use px_actions::ActionSet;
 use px_base::{List, Mem, Steps, Text};
-use px_patterns::Url;
+use px_patterns::{KeptUnion, Url};
 use std::alloc::Global;
 use std::marker::Model;
 use std::sync::ledger::Ledger;
@@ -25,20 +25,22 @@ use std::sync::ledger::Ledger;
 #[derive(Drop)]
 pub struct Warm<'c> {
     sections: &'c Sections,
-    index: &'c Index,
+    finder: &'c Finder,
+    /// The expressions that are asked together, and what is kept of them.
+    union: KeptUnion<'c>,
     matchers: Matchers<'c>,
 }
 
 impl<'c> Model for Warm<'c> {
     ghost use Rattle.std.specs.Prelude.{◌≡◌};
-    ghost use Rattle.px_merge.specs.Indexes.{IsIndexed};
+    ghost use Rattle.px_merge.specs.Finders.{CanFind};
     ghost use Rattle.px_merge.specs.Merged.{Merged};
 
     ghost Value = { Merged };
 
     ghost view = { λ w. w.sections.now };
 
-    ghost invariant = { λ w. (w.matchers ≡ w.sections.now.sections) × IsIndexed w.index.now w.sections.now.sections };
+    ghost invariant = { λ w. ((w.matchers ≡ w.sections.now.sections) × (w.union ≡ w.finder.now.union)) × CanFind w.finder.now w.sections.now.sections };
 }
 
 impl<'c> Warm<'c> {
@@ -46,9 +48,11 @@ impl<'c> Warm<'c> {
         ensures { IfOk result (λ warm. warm ≡ sections.now) }
     {
         let matchers = Matchers::new(alloc, sections.placed(), sections.expressions())?;
+        let finder = sections.finder();
         Ok(Warm {
             sections,
-            index: sections.index(),
+            finder,
+            union: KeptUnion::new(&finder.union),
             matchers,
         })
     }
@@ -65,7 +69,15 @@ impl<'c> Warm<'c> {
         ensures steps { steps.new ≤ steps.old + candidate_count self.old.sections url.now.host }
         ensures same { self.new ≡ self.old }
     {
-        url_hits(alloc, self.index, &mut self.matchers, url, tags, steps)
+        url_hits(
+            alloc,
+            self.finder,
+            &mut self.union,
+            &mut self.matchers,
+            url,
+            tags,
+            steps,
+        )
     }
 
     /// What the sections set for a URL and the tags of a client: from the empty set, the updates of each section that has

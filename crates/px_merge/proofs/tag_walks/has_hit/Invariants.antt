@@ -1,5 +1,4 @@
 use Rattle.std.proofs.Common.{◌≡◌, ℕ, ◌<◌, false}
-use Rattle.std.specs.Prelude.{slice_get}
 use Rattle.px_merge.specs.Indexes.{passes, pattern_at, place_of}
 use Rattle.px_merge.specs.Selections.{is_for_test}
 use Rattle.px_merge.proofs.tag_walks.has_hit.Given as goal
