@@ -11,6 +11,8 @@ use Rattle.px_doors.specs.declared.doors.AcceptFault.{AcceptFault}
 use Rattle.px_doors.specs.declared.doors.AcceptFault.TheVariants as fault
 
 pub record DoorsState : Type 0 where
+  -- the port at which they were told to listen, if they were
+  pub listens_at : Option ℕ
   -- whether they tell their connections
   pub tells : Bool
   -- all connections in order, those accepted and those left, as they come
@@ -83,8 +85,8 @@ pub record Parts (old new : DoorsState) (p : PartedState) : Type 0 where
 
 -- doors in memory that are just made
 abbrev pub fresh_doors : List ConnState → Bool → DoorsState
-fresh_doors conns steady = record { tells = true; conns = conns; accepted = 0; parted = []; faults = 0; steady = steady }
+fresh_doors conns steady = record { listens_at = None; tells = true; conns = conns; accepted = 0; parted = []; faults = 0; steady = steady }
 
--- doors that tell nothing and may fail
-abbrev pub untold_doors : ℕ → ℕ → DoorsState
-untold_doors accepted faults = record { tells = false; conns = []; accepted = accepted; parted = []; faults = faults; steady = false }
+-- doors that listen there, if they do, tell nothing else and may fail
+abbrev pub untold_doors : Option ℕ → ℕ → ℕ → DoorsState
+untold_doors port accepted faults = record { listens_at = port; tells = false; conns = []; accepted = accepted; parted = []; faults = faults; steady = false }

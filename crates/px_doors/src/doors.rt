@@ -1,5 +1,5 @@
 // Where connections come from.
-ghost use Rattle.std.specs.Prelude.{◌-◌, ◌^◌, ◌<◌, IsTrue, length};
+ghost use Rattle.std.specs.Prelude.{◌≡◌, ◌-◌, ◌^◌, ◌<◌, IsTrue, OnOk, Some, length};
 ghost use Rattle.px_base.specs.Causes.{HasCause};
 ghost use Rattle.px_doors.specs.Conns.{parted_as};
 ghost use Rattle.px_doors.specs.Doors.{DoorsState, DoorsGoesOn, Stays, Accepts, AcceptCause, Parts, accepted_as};
@@ -30,6 +30,7 @@ pub trait Doors: Send {
 
     /// Begins to take connections at a host and port.
     fn listen(&mut self, host: &[u8], port: u16) -> Result<(), Failed>
+        ensures listens { OnOk result ((state self.new).listens_at ≡ Some port) }
         ensures stays { Stays (state self.old) (state self.new) }
         ensures cause { HasCause (state self.old).faults (state self.new).faults result }
         ensures goes_on { DoorsGoesOn (state self.old) (state self.new) };
@@ -40,6 +41,7 @@ pub trait Doors: Send {
     ) -> Result<Option<Conn<Self::In, Self::Out, Self::Dial, Self::Time>>, AcceptFault>
         requires { (state self.old).accepted < 2 ^ 64 - 1 }
         ensures accepts { Accepts (state self.old) (state self.new) (accepted_as Self.In.state Self.Out.state Self.Dial.state Self.Time.state result) }
+        ensures listens { (state self.new).listens_at ≡ (state self.old).listens_at }
         ensures cause { AcceptCause (state self.old).faults (state self.new).faults result }
         ensures goes_on { DoorsGoesOn (state self.old) (state self.new) };
 
@@ -47,5 +49,6 @@ pub trait Doors: Send {
     fn part(&mut self, parted: Parted<Self::In, Self::Out, Self::Dial, Self::Time>)
         requires { IsTrue (state self.old).tells → length (state self.old).parted < (state self.old).accepted }
         ensures parts { Parts (state self.old) (state self.new) (parted_as Self.In.state Self.Out.state Self.Dial.state Self.Time.state parted) }
+        ensures listens { (state self.new).listens_at ≡ (state self.old).listens_at }
         ensures goes_on { DoorsGoesOn (state self.old) (state self.new) };
 }

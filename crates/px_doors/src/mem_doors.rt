@@ -32,6 +32,7 @@ pub struct MemDoors {
     accepted: u64,
     parted: Vec<MemParted>,
     failures: Failures,
+    listens_at: Option<u16>,
     all: Snapshot<List<MemConn>>,
     ghost rest: { waiting.items ≡ drop accepted all.value },
     ghost fewer: { vec_len parted ≤ accepted },
@@ -56,7 +57,15 @@ impl MemDoors {
             accepted: 0,
             parted: Vec::new(alloc),
             failures,
+            listens_at: None,
         })
+    }
+
+    /// The port at which the doors were told to listen, if they were.
+    pub fn listens_at(&self) -> Option<u16>
+        ensures { result ≡ (⟦<MemDoors as Doors>⟧.state self.now).listens_at }
+    {
+        self.listens_at
     }
 
     /// The connections that were parted, in order.
@@ -112,6 +121,7 @@ impl Doors for MemDoors {
     type Time = FixedClock;
 
     ghost state = { λ d. record {
+      listens_at = d.listens_at;
       tells = true;
       conns = numbered 0 (map mem_conn d.all.value);
       accepted = d.accepted;
@@ -120,12 +130,12 @@ impl Doors for MemDoors {
       steady = length d.failures.fails.items == 0;
     } };
 
-    fn listen(&mut self, _host: &[u8], _port: u16) -> Result<(), Failed> {
+    fn listen(&mut self, _host: &[u8], port: u16) -> Result<(), Failed> {
         if self.failures.next_fails() {
-            Err(Failed)
-        } else {
-            Ok(())
+            return Err(Failed);
         }
+        self.listens_at = Some(port);
+        Ok(())
     }
 
     #[tactic(auto, using(crate::proofs::DoorLemmas::drop_more, crate::proofs::DoorLemmas::none_left))]
@@ -148,6 +158,7 @@ impl Doors for MemDoors {
     fn part(&mut self, parted: MemParted)
         requires { IsTrue (⟦<MemDoors as Doors>⟧.state self.old).tells → length (⟦<MemDoors as Doors>⟧.state self.old).parted < (⟦<MemDoors as Doors>⟧.state self.old).accepted }
         ensures parts { Parts (⟦<MemDoors as Doors>⟧.state self.old) (⟦<MemDoors as Doors>⟧.state self.new) (mem_parted parted) }
+        ensures listens { (⟦<MemDoors as Doors>⟧.state self.new).listens_at ≡ (⟦<MemDoors as Doors>⟧.state self.old).listens_at }
         ensures goes_on { DoorsGoesOn (⟦<MemDoors as Doors>⟧.state self.old) (⟦<MemDoors as Doors>⟧.state self.new) }
     {
         self.parted.push_reserved(parted);

@@ -1,5 +1,5 @@
 // Doors over TCP.
-ghost use Rattle.std.specs.Prelude.{◌≡◌, IfOk};
+ghost use Rattle.std.specs.Prelude.{◌≡◌, IfOk, None};
 ghost use Rattle.px_sockets.specs.Untold.{AreNew};
 ghost use Rattle.px_doors.specs.Conns.{parted_as};
 ghost use Rattle.px_doors.specs.Doors.{DoorsGoesOn, Parts, untold_doors};
@@ -31,6 +31,7 @@ pub struct SocketDoors<'r> {
     alloc: Global,
     rt: &'r HostRuntime,
     listener: Option<SocketListener>,
+    listens_at: Option<u16>,
     accepted: u64,
     faults: u64,
 }
@@ -38,18 +39,19 @@ pub struct SocketDoors<'r> {
 impl<'r> SocketDoors<'r> {
     /// Doors that don't listen yet.
     pub fn new(alloc: Global, rt: &'r HostRuntime) -> SocketDoors<'r>
-        ensures { ⟦<SocketDoors<'r> as Doors>⟧.state result ≡ untold_doors 0 0 }
+        ensures { ⟦<SocketDoors<'r> as Doors>⟧.state result ≡ untold_doors None 0 0 }
     {
         SocketDoors {
             alloc,
             rt,
             listener: None,
+            listens_at: None,
             accepted: 0,
             faults: 0,
         }
     }
 
-    /// The port at which the doors listen, if they do.
+    /// The port at which the doors listen, if they do: for port 0 the one that was free.
     pub fn port(&self) -> Option<u16> {
         match &self.listener {
             Some(listener) => listener.port().ok(),
@@ -81,12 +83,13 @@ impl<'r> Doors for SocketDoors<'r> {
 
     type Time = SystemClock<'r, HostRuntime>;
 
-    ghost state = { λ d. untold_doors d.accepted d.faults };
+    ghost state = { λ d. untold_doors d.listens_at d.accepted d.faults };
 
     fn listen(&mut self, host: &[u8], port: u16) -> Result<(), Failed> {
         match SocketListener::listen(self.rt, host, port) {
             Ok(listener) => {
                 self.listener = Some(listener);
+                self.listens_at = Some(port);
                 Ok(())
             }
             Err(_) => {
@@ -120,6 +123,7 @@ impl<'r> Doors for SocketDoors<'r> {
 
     fn part(&mut self, parted: SocketParted<'r>)
         ensures parts { Parts (⟦<SocketDoors<'r> as Doors>⟧.state self.old) (⟦<SocketDoors<'r> as Doors>⟧.state self.new) (parted_as ⟦<SocketSource as Source>⟧.state ⟦<SocketSink as Sink>⟧.state ⟦<SocketDialer<'r, HostRuntime> as Dialer>⟧.state ⟦<SystemClock<'r, HostRuntime> as Clock>⟧.state parted.entry) }
+        ensures listens { (⟦<SocketDoors<'r> as Doors>⟧.state self.new).listens_at ≡ (⟦<SocketDoors<'r> as Doors>⟧.state self.old).listens_at }
         ensures goes_on { DoorsGoesOn (⟦<SocketDoors<'r> as Doors>⟧.state self.old) (⟦<SocketDoors<'r> as Doors>⟧.state self.new) }
     {
         drop(parted);

@@ -69,6 +69,7 @@ fn doors_in_memory_give_their_connections_in_order(rt: HostRuntime) -> Result<()
     let alloc = rt.alloc();
     let mut doors = three_clients(alloc, &[])?;
     assert_eq!(rt; doors.listen(b"127.0.0.1", 8118), Ok(()));
+    assert_eq!(rt; doors.listens_at(), Some(8118));
     assert_eq!(rt; pass_by(alloc, &mut doors, 0), Ok(true));
     assert_eq!(rt; pass_by(alloc, &mut doors, 1), Ok(true));
     assert_eq!(rt; pass_by(alloc, &mut doors, 2), Ok(true));
@@ -87,6 +88,7 @@ fn the_calls_of_doors_in_memory_fail_by_their_numbers(rt: HostRuntime) -> Result
     let alloc = rt.alloc();
     let mut doors = three_clients(alloc, &[0, 2])?;
     assert_eq!(rt; doors.listen(b"127.0.0.1", 8118), Err(Failed));
+    assert_eq!(rt; doors.listens_at(), None);
     assert_eq!(rt; pass_by(alloc, &mut doors, 0), Ok(true));
     assert_eq!(rt; pass_by(alloc, &mut doors, 1), Err(AcceptFault::Failed));
     assert_eq!(rt; pass_by(alloc, &mut doors, 1), Ok(true));
@@ -117,4 +119,16 @@ fn doors_over_tcp_give_who_calls(rt: HostRuntime) {
     assert_eq!(rt; &piece, b"call");
     assert_eq!(rt; conn.peer.address.as_bytes(), "127.0.0.1".as_bytes());
     assert!(rt; conn.clock.now() > 1_700_000_000);
+}
+
+/// Takes what may go to another thread.
+fn sent<T: Send>(value: &T) {
+    let _ = value;
+}
+
+#[test]
+fn doors_in_memory_may_go_to_another_thread(rt: HostRuntime) -> Result<(), Fail> {
+    let doors = three_clients(rt.alloc(), &[])?;
+    sent(&doors);
+    Ok(())
 }

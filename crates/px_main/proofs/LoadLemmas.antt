@@ -35,6 +35,11 @@ pub gives_up : (f f' : FilesState) (i : SourceState) (o e e' : SinkState) (t : C
 gives_up f f' i o e e' t s same wanting unprinted =
     record { wanting = wanting; same = record { untouched = record { files = same; input = refl; out = refl; clock = refl }; errors = unprinted } }
 
+-- nothing was done, for want of memory
+pub same_for_memory : (f : FilesState) (i : SourceState) (o e : SinkState) (t : ClockState)
+    → GivesUp (record { files = f; input = i; out = o; errors = e; clock = t }) (record { files = f; input = i; out = o; errors = e; clock = t }) status.NoMemory
+same_for_memory f i o e t = gives_up f f i o e e t status.NoMemory (λ told name. refl) refl refl
+
 -- nothing but a text was put out
 pub prints_by : (f f' : FilesState) (i : SourceState) (o o' e : SinkState) (t : ClockState) (text : List ℕ) (s : Status)
     → (IsTrue f.tells → Unchanged f.contents f'.contents)

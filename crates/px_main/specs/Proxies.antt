@@ -1,5 +1,5 @@
 -- What `serve` does: with its words, the files, the doors and the error output.
-use Rattle.std.specs.Prelude.{◌≡◌, ℕ, ◌⊎◌, List, IsTrue}
+use Rattle.std.specs.Prelude.{◌≡◌, ℕ, ◌⊎◌, List, Some, IsTrue}
 use Rattle.px_base.specs.Causes.{Rose}
 use Rattle.px_base.specs.Contents.{FilesState, Unchanged}
 use Rattle.px_base.specs.Moments.{ClockState}
@@ -37,9 +37,10 @@ pub record FailsToListen (old new : DoorsState) (s : Status) : Type 0 where
   pub cause : Rose old.faults new.faults
   pub stays : Stays old new
 
--- the doors listened, and their connections were served; `listening` are the doors behind that
+-- the doors listened at the port of the configuration, and their connections were served; `listening` are the doors behind that
 pub record Serves (config : Config) (most : ℕ) (old new : DoorsState) (s : Status) : Type 0 where
   pub listening : DoorsState
+  pub listens_at : listening.listens_at ≡ Some config.settings.listen_port
   pub stays : Stays old listening
   pub goes_on : DoorsGoesOn old listening
   pub calm : listening.faults ≡ old.faults

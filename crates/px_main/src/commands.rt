@@ -5,11 +5,12 @@ ghost use Rattle.px_main.specs.Passes.{Outside, OutsideGoesOn};
 
 use crate::exercises::run_exercise;
 use crate::loads::{run_check, run_show};
+use crate::parses::{parse_check, parse_exercise, parse_pass, parse_show};
 use crate::passes::run_pass;
 use crate::reports::report;
 use crate::statuses::{Status, USAGE};
 use crate::words::{read_check, read_exercise, read_pass, read_show};
-use px_base::{Clock, Files, Sink, Source};
+use px_base::{Clock, Files, Mem, Sink, Source};
 use px_ways::Way;
 use std::alloc::Global;
 use std::thread::Threads;
@@ -35,13 +36,25 @@ pub fn run_tool<R: Threads + Sync, F: Files, S: Source, O: Sink, E: Sink, T: Clo
         (record { files = F.state files.new; input = S.state input.new; out = O.state out.new; errors = E.state err.new; clock = T.state clock.new }) }
 {
     match read_pass(words) {
-        Some(pass) => run_pass(alloc, way, pass, files, input, out, err, clock).code(),
+        Some(pass) => match parse_pass(alloc, words, pass) {
+            Ok(pass) => run_pass(alloc, way, pass, files, input, out, err, clock).code(),
+            Err(Mem) => Status::NoMemory.code(),
+        },
         None => match read_check(words) {
-            Some(config) => run_check(alloc, config, files, out, err).code(),
+            Some(config) => match parse_check(alloc, words, config) {
+                Ok(config) => run_check(alloc, config, files, out, err).code(),
+                Err(Mem) => Status::NoMemory.code(),
+            },
             None => match read_show(words) {
-                Some(words) => run_show(alloc, words, files, out, err).code(),
+                Some(show) => match parse_show(alloc, words, show) {
+                    Ok(show) => run_show(alloc, show, files, out, err).code(),
+                    Err(Mem) => Status::NoMemory.code(),
+                },
                 None => match read_exercise(words) {
-                    Some(number) => run_exercise(alloc, way, number, out, err).code(),
+                    Some(number) => match parse_exercise(alloc, words, number) {
+                        Ok(number) => run_exercise(alloc, way, number, out, err).code(),
+                        Err(Mem) => Status::NoMemory.code(),
+                    },
                     None => report(err, USAGE, Status::Usage).code(),
                 },
             },

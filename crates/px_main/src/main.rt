@@ -6,6 +6,7 @@ mod commands;
 mod exercises;
 mod loads;
 mod origins;
+mod parses;
 mod passes;
 mod proxies;
 mod reports;
@@ -76,5 +77,7 @@ fn main(rt: HostRuntime) -> ExitCode {
 mod fault_tests;
 #[cfg(test)]
 mod load_tests;
+#[cfg(test)]
+mod proxy_tests;
 #[cfg(test)]
 mod tests;

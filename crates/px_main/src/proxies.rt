@@ -4,10 +4,11 @@ ghost use Rattle.px_doors.specs.Doors.{DoorsGoesOn};
 ghost use Rattle.px_main.specs.Proxies.{RunsProxy, RunsServe, ServesBy, ServesLoaded};
 
 use crate::loads::report_load;
+use crate::parses::parse_serve;
 use crate::reports::report;
 use crate::statuses::{Status, USAGE, status_of_serving};
 use crate::words::{ServeWords, read_serve};
-use px_base::{Failed, Files, Sink};
+use px_base::{Failed, Files, Mem, Sink};
 use px_config::{Config, load};
 use px_doors::Doors;
 use px_proxy::serve_in_turn;
@@ -92,7 +93,10 @@ fn serve_by<R: Threads + Sync, F: Files, A: Doors, E: Sink>(
         (record { files = F.state files.new; doors = A.state doors.new; errors = E.state err.new }) result }
 {
     match read_serve(words) {
-        Some(serve) => run_serve(alloc, rt, serve, files, doors, err),
+        Some(serve) => match parse_serve(alloc, words, serve) {
+            Ok(serve) => run_serve(alloc, rt, serve, files, doors, err),
+            Err(Mem) => Status::NoMemory,
+        },
         None => report(err, USAGE, Status::Usage),
     }
 }

@@ -9,3 +9,5 @@ pub use ways::{Carried, Way, carry};
 
 #[cfg(test)]
 mod tests;
+#[cfg(test)]
+mod waiting_tests;
