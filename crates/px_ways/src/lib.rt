@@ -6,6 +6,3 @@ mod ways;
 
 pub use directions::{DIRECTION_LIMIT, Stop, carry_direction, constants};
 pub use ways::{Carried, Way, carry};
-
-#[cfg(test)]
-mod tests;

@@ -1,6 +1,6 @@
 use Rattle.std.proofs.Common.{◌≡◌, ◌<◌, length, sym, subst, arith}
 use Rattle.px_publish.specs.Published.{reader_pair}
-use Rattle.px_publish.proofs.tests.first_of.Goals as goal
+use Rattle.px_tests_outside.proofs.publish.first_of.Goals as goal
 
 pub returns : goal.returns
 returns c = λ pair all.

@@ -2,8 +2,9 @@ ghost use Rattle.std.specs.Prelude.{◌≡◌, ◌+◌, ◌<◌, ◌≤◌, ◌^
 ghost use Rattle.px_publish.specs.Published.{published, pair_of, told, receipt_pair, reader_pair};
 ghost use Rattle.px_publish.specs.Views.{Pair};
 
-use crate::*;
+use crate::common::{holds, same};
 use px_base::List;
+use px_publish::*;
 use std::alloc::Global;
 use std::process::Abort;
 use std::sync::{Arc, Wait};
@@ -12,6 +13,12 @@ use std::thread::{Threads, join};
 /// The number and the configuration of the entry that a source holds.
 fn entry<K: Configs<Held = u64>>(configs: &K) -> (u64, u64) {
     let snapshot = configs.current();
+    (snapshot.number, *snapshot.config)
+}
+
+/// The number and the configuration of a receipt's entry.
+fn receipt_entry(receipt: &Receipt<u64>) -> (u64, u64) {
+    let snapshot = receipt.snapshot();
     (snapshot.number, *snapshot.config)
 }
 
@@ -78,24 +85,21 @@ fn publish<R: Abort + Wait>(
 fn a_reader_that_looks_after_each_publish_sees_it(rt: HostRuntime) {
     let alloc = rt.alloc();
     let (mut publisher, mut reader) = pair_of_one(&rt, alloc);
-    assert_eq!(rt; entry(&reader), (0, 70));
+    same(&rt, entry(&reader), (0, 70));
     let first = publish(&rt, alloc, &mut publisher, 80);
-    assert_eq!(rt;
-        (first.snapshot().number, *first.snapshot().config),
-        (1, 80)
-    );
-    assert_eq!(rt; entry(&reader), (0, 70));
+    same(&rt, receipt_entry(&first), (1, 80));
+    same(&rt, entry(&reader), (0, 70));
     reader.look();
-    assert_eq!(rt; entry(&reader), (1, 80));
+    same(&rt, entry(&reader), (1, 80));
     let second = publish(&rt, alloc, &mut publisher, 90);
-    assert_eq!(rt; second.snapshot().number, 2);
+    same(&rt, receipt_entry(&second), (2, 90));
     reader.look();
-    assert_eq!(rt; entry(&reader), (2, 90));
+    same(&rt, entry(&reader), (2, 90));
     reader.look();
-    assert_eq!(rt; entry(&reader), (2, 90));
+    same(&rt, entry(&reader), (2, 90));
     publisher.end(&rt);
     reader.look();
-    assert_eq!(rt; entry(&reader), (2, 90));
+    same(&rt, entry(&reader), (2, 90));
 }
 
 #[test]
@@ -106,21 +110,18 @@ fn a_reader_learns_receipts(rt: HostRuntime) {
     let second = publish(&rt, alloc, &mut publisher, 90);
     assert!(rt; publisher.covers(&reader));
     reader.learn(second);
-    assert_eq!(rt; entry(&reader), (2, 90));
+    same(&rt, entry(&reader), (2, 90));
     reader.learn(first);
-    assert_eq!(rt; entry(&reader), (2, 90));
+    same(&rt, entry(&reader), (2, 90));
     reader.look();
-    assert_eq!(rt; entry(&reader), (2, 90));
+    same(&rt, entry(&reader), (2, 90));
     assert!(rt; publisher.covers(&reader));
     match publisher.receipt() {
-        Ok(newest) => assert_eq!(rt;
-            (newest.snapshot().number, *newest.snapshot().config),
-            (2, 90)
-        ),
+        Ok(newest) => same(&rt, receipt_entry(&newest), (2, 90)),
         Err(_) => panic!(rt; "no receipt"),
     }
     match reader.owner() {
-        Ok(owner) => assert_eq!(rt; *owner, 90),
+        Ok(owner) => same(&rt, *owner, 90),
         Err(_) => panic!(rt; "no owner"),
     }
     publisher.end(&rt);
@@ -130,15 +131,15 @@ fn a_reader_learns_receipts(rt: HostRuntime) {
 fn a_reader_that_learns_each_receipt_sees_each_entry(rt: HostRuntime) {
     let alloc = rt.alloc();
     let (mut publisher, mut reader) = pair_of_one(&rt, alloc);
-    assert_eq!(rt; entry(&reader), (0, 70));
+    same(&rt, entry(&reader), (0, 70));
     reader.learn(publish(&rt, alloc, &mut publisher, 80));
-    assert_eq!(rt; entry(&reader), (1, 80));
+    same(&rt, entry(&reader), (1, 80));
     reader.look();
-    assert_eq!(rt; entry(&reader), (1, 80));
+    same(&rt, entry(&reader), (1, 80));
     reader.learn(publish(&rt, alloc, &mut publisher, 90));
-    assert_eq!(rt; entry(&reader), (2, 90));
+    same(&rt, entry(&reader), (2, 90));
     reader.look();
-    assert_eq!(rt; entry(&reader), (2, 90));
+    same(&rt, entry(&reader), (2, 90));
     publisher.end(&rt);
 }
 
@@ -146,13 +147,13 @@ fn a_reader_that_learns_each_receipt_sees_each_entry(rt: HostRuntime) {
 fn sixty_four_readers_look(rt: HostRuntime) {
     let alloc = rt.alloc();
     let (mut publisher, mut readers) = pair(&rt, alloc, 64);
-    assert_eq!(rt; readers.len(), 64);
+    same(&rt, readers.len(), 64);
     let receipt = publish(&rt, alloc, &mut publisher, 80);
-    assert_eq!(rt; receipt.snapshot().number, 1);
+    same(&rt, receipt_entry(&receipt), (1, 80));
     for reader in &mut readers {
-        assert_eq!(rt; entry(reader), (0, 70));
+        same(&rt, entry(reader), (0, 70));
         reader.look();
-        assert_eq!(rt; entry(reader), (1, 80));
+        same(&rt, entry(reader), (1, 80));
     }
     publisher.end(&rt);
 }
@@ -167,10 +168,10 @@ fn configurations_are_taken_in_turn(rt: HostRuntime) {
         panic!(rt; "nothing to take");
     }
     let mut source = StepConfig::new(configs);
-    assert_eq!(rt; entry(&source), (0, 70));
+    same(&rt, entry(&source), (0, 70));
     for expected in [(0, 70), (1, 80), (1, 80)] {
         source.look();
-        assert_eq!(rt; entry(&source), expected);
+        same(&rt, entry(&source), expected);
     }
     assert!(rt; source.owner().is_ok());
 }
@@ -179,9 +180,9 @@ fn configurations_are_taken_in_turn(rt: HostRuntime) {
 fn one_configuration_stays(rt: HostRuntime) {
     let mut source = FixedConfig::new(config(&rt, rt.alloc(), 70));
     source.look();
-    assert_eq!(rt; entry(&source), (0, 70));
+    same(&rt, entry(&source), (0, 70));
     match source.owner() {
-        Ok(owner) => assert_eq!(rt; *owner, 70),
+        Ok(owner) => same(&rt, *owner, 70),
         Err(_) => panic!(rt; "no owner"),
     }
 }
@@ -238,7 +239,10 @@ fn no_number_falls_beside_a_publisher(rt: HostRuntime) {
     let (mut publisher, reader) = pair_of_one(&rt, alloc);
     let (published, (rose, last)) = side_by_side(&rt, alloc, &mut publisher, reader);
     publisher.end(&rt);
-    assert!(rt; published);
-    assert!(rt; rose);
-    assert!(rt; last <= 1000);
+    holds(
+        &rt,
+        published && rose,
+        "all were published, and no number fell",
+    );
+    holds(&rt, last <= 1000, "no number is greater");
 }

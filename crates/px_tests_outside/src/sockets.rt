@@ -1,8 +1,9 @@
-use crate::*;
+use crate::common::{same, same_text};
 use px_base::{DialFault, Dialer, Failed, Sink, SinkFault, Source, write_all};
+use px_sockets::*;
 use std::alloc::Global;
 use std::net::{Net, TcpListener, TcpStream};
-use std::test::Fail;
+use std::process::Abort;
 
 /// Both sides of a link over this machine.
 #[derive(Drop)]
@@ -36,13 +37,12 @@ fn open_pair<R: Net<Listener = TcpListener, Stream = TcpStream> + Sync>(
     })
 }
 
-/// Whether a source gives just those bytes at its next read.
-fn gives<S: Source>(source: &mut S, bytes: &str) -> bool {
+/// Asserts that a source gives just those bytes at its next read.
+fn same_read<S: Source>(rt: &impl Abort, source: &mut S, bytes: &str) {
     let mut piece = [0; 16];
-    match source.read(&mut piece) {
-        Ok(count) => count <= piece.len() && &piece[..count] == bytes.as_bytes(),
-        Err(Failed) => false,
-    }
+    let count = source.read(&mut piece).ok().expect(rt, "a read");
+    assert!(rt; count <= piece.len());
+    same(rt, &piece[..count], bytes.as_bytes());
 }
 
 #[test]
@@ -62,17 +62,21 @@ fn a_link_carries_bytes_both_ways_to_their_end(rt: HostRuntime) {
         mut client_out,
         peer,
     } = caller;
-    assert_eq!(rt; peer.address.as_bytes(), "127.0.0.1".as_bytes());
-    assert_eq!(rt; write_all(&mut link_out, b"asked"), Ok(()));
+    same_text(&rt, &peer.address, "127.0.0.1");
+    same(&rt, write_all(&mut link_out, b"asked"), Ok(()));
     link_out.finish();
     link_out.finish();
-    assert!(rt; gives(&mut client_in, "asked"));
-    assert!(rt; gives(&mut client_in, ""));
-    assert_eq!(rt; write_all(&mut client_out, b"answered"), Ok(()));
-    assert!(rt; gives(&mut link_in, "answered"));
-    assert!(rt; !link_out.has_failed());
-    assert_eq!(rt; write_all(&mut link_out, b"more"), Err(SinkFault::Failed));
-    assert!(rt; link_out.has_failed());
+    same_read(&rt, &mut client_in, "asked");
+    same_read(&rt, &mut client_in, "");
+    same(&rt, write_all(&mut client_out, b"answered"), Ok(()));
+    same_read(&rt, &mut link_in, "answered");
+    same(&rt, link_out.has_failed(), false);
+    same(
+        &rt,
+        write_all(&mut link_out, b"more"),
+        Err(SinkFault::Failed),
+    );
+    same(&rt, link_out.has_failed(), true);
 }
 
 #[test]
@@ -87,13 +91,17 @@ fn a_reset_and_a_write_to_a_closed_peer_are_faults(rt: HostRuntime) {
     else {
         panic!(rt; "no link");
     };
-    assert_eq!(rt; write_all(&mut link_out, b"unread"), Ok(()));
+    same(&rt, write_all(&mut link_out, b"unread"), Ok(()));
     drop(caller);
     let mut piece = [0; 4];
-    assert_eq!(rt; link_in.read(&mut piece), Err(Failed));
-    assert!(rt; link_in.has_failed());
-    assert_eq!(rt; write_all(&mut link_out, b"late"), Err(SinkFault::Failed));
-    assert!(rt; link_out.has_failed());
+    same(&rt, link_in.read(&mut piece), Err(Failed));
+    same(&rt, link_in.has_failed(), true);
+    same(
+        &rt,
+        write_all(&mut link_out, b"late"),
+        Err(SinkFault::Failed),
+    );
+    same(&rt, link_out.has_failed(), true);
     SocketDialer::new(&rt, 0).hang_up(link_in, link_out);
 }
 
@@ -107,13 +115,10 @@ fn dials_that_reach_nothing_say_why(rt: HostRuntime) {
     };
     drop(listener);
     let mut dialer = SocketDialer::new(&rt, 0);
-    assert_eq!(rt;
-        dialer.dial(b"127.0.0.1", port).err(),
-        Some(DialFault::NotReached)
-    );
-    assert_eq!(rt;
-        dialer.dial(b"\xff.test", port).err(),
-        Some(DialFault::NoName)
-    );
-    assert!(rt; SocketListener::listen(&rt, b"192.0.2.1", 0).is_err());
+    let not_reached = dialer.dial(b"127.0.0.1", port).err();
+    same(&rt, not_reached, Some(DialFault::NotReached));
+    let no_name = dialer.dial(b"\xff.test", port).err();
+    same(&rt, no_name, Some(DialFault::NoName));
+    let is_refused = SocketListener::listen(&rt, b"192.0.2.1", 0).is_err();
+    same(&rt, is_refused, true);
 }

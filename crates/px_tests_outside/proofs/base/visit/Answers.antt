@@ -4,7 +4,7 @@ use Rattle.px_base.specs.declared.dials.Dial.{Dial}
 use Rattle.px_base.specs.declared.dials.DialOutcome.TheVariants as outcome
 use Rattle.px_base.specs.Dials.{is_open, is_open_at}
 use Rattle.px_base.specs.Entries.{merged}
-use Rattle.px_base.proofs.tests.visit.Goals as goal
+use Rattle.px_tests_outside.proofs.base.visit.Goals as goal
 
 -- a link that was just dialled is open
 open_last : (host : List ℕ) (port mark : ℕ) (offered : List ℕ) (ds : List Dial) → is_open mark (ds ++ record { host = host; port = port; outcome = outcome.Open mark offered } ∷ []) ≡ true
