@@ -4,3 +4,4 @@ pub mod RuleLemmas
 pub mod SetLemmas
 pub mod Table
 pub mod UpdateLemmas
+pub mod TableLemmas

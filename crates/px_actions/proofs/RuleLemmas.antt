@@ -1,5 +1,5 @@
 -- What a value is that keeps the rule of its kind.
-use Rattle.std.proofs.Common.{◌≡◌, ℕ, true, false, List, Option, Some, None, is_some, arith, sym, subst}
+use Rattle.std.proofs.Common.{◌≡◌, ℕ, true, false, List, Option, Some, None, is_some, arith, subst}
 use Rattle.std.specs.Prelude.{IsTrue}
 use Rattle.std.specs.Str.{is_utf8}
 use Rattle.px_base.specs.Numbers.{decimal}
@@ -10,7 +10,6 @@ use Rattle.px_actions.specs.Kinds.{entry_of}
 use Rattle.px_actions.specs.Rules.{is_plain, override_hop, may_add, meets, keeps}
 use Rattle.px_actions.specs.declared.kinds.Kind.TheVariants as kind
 use Rattle.px_actions.specs.declared.kinds.Rule.{Rule}
-use Rattle.px_actions.specs.declared.kinds.Rule.TheVariants as rule
 
 -- it is UTF-8
 pub keeps_text : (r : Rule) (text : List ℕ) → IsTrue (keeps r text) → is_utf8 text ≡ true

@@ -28,7 +28,7 @@ empty-fits shape.Flag rule = refl
 empty-fits shape.Single rule = refl
 empty-fits shape.Multi rule = refl
 
-setting_of-empty : (k : Kind) → setting_of empty_set k ≡ empty_setting (entry_of k).shape
+pub setting_of-empty : (k : Kind) → setting_of empty_set k ≡ empty_setting (entry_of k).shape
 unfolding empty_set
 setting_of-empty k =
     get_or-map (λ kind. empty_setting (entry_of kind).shape) KINDS (entry_of k).place k (setting.Flag false) (place_within k)
@@ -127,12 +127,15 @@ sound-set set k new h fit = record {
   each = λ j. set-fits set k j new h fit (cases_eq (entry_of j).place (entry_of k).place);
 }
 
-pub sound_after : {T E : Type 0} (set : List Setting) (k : Kind) (old new : Setting) (change : Change) (r : Result T E) → IsSound set → old ≡ setting_of set k
-    → OnOk r (new ≡ changed old change) → OnErr r (new ≡ old) → fits k change ≡ true → IsSound (slice_set set (entry_of k).place new)
-unfolding fits
-sound_after set k old new change (Ok t) h is_old ok err fit =
-    sound-set set k new h (rw (ok, is_old) (changed-fits (entry_of k).shape (entry_of k).rule (setting_of set k) change (h.each k) fit))
-sound_after set k old new change (Err e) h is_old ok err fit = sound-set set k new h (rw (err, is_old) (h.each k))
+-- a set stays sound behind an update that fits its kind
+sound_updated : (set : List Setting) (k : Kind) (change : Change) → IsSound set → fits k change ≡ true → IsSound (updated set k change)
+unfolding fits updated
+sound_updated set k change h fit = sound-set set k (changed (setting_of set k) change) h (changed-fits (entry_of k).shape (entry_of k).rule (setting_of set k) change (h.each k) fit)
+
+pub sound_by : {T E : Type 0} (old new : List Setting) (k : Kind) (change : Change) (r : Result T E) → IsSound old → fits k change ≡ true
+    → OnOk r (new ≡ updated old k change) → OnErr r (new ≡ old) → IsSound new
+sound_by old new k change (Ok t) h fit ok err = subst IsSound (sym ok) (sound_updated old k change h fit)
+sound_by old new k change (Err e) h fit ok err = subst IsSound (sym err) h
 
 -- what is read of a sound set at a kind's place
 pub read_at : (set : List Setting) (k : Kind) (at : ℕ) (d : Setting) → IsSound set → at ≡ (entry_of k).place → slice_index_or set at d ≡ setting_of set k

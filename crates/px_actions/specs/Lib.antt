@@ -6,3 +6,4 @@ pub mod Faults
 pub mod Shapes
 pub mod Updates
 pub mod Sets
+pub mod Tables

@@ -1,5 +1,5 @@
 -- The words of sections, and the updates that they stand for (the manual's chapter on actions files).
-use Rattle.std.specs.Prelude.{ℕ, ◌+◌, ◌-◌, ◌==◌, ◌&&◌, Bool, true, false, if◌then◌else◌, List, [], ◌∷◌, length, take, drop, Option, Some, None, Result, Ok, Err, option_map}
+use Rattle.std.specs.Prelude.{ℕ, ◌+◌, ◌-◌, ◌==◌, ◌&&◌, Bool, if◌then◌else◌, List, [], ◌∷◌, length, take, drop, Option, Some, None, Result, Ok, Err, option_map}
 use Rattle.std.specs.List.{position, before_first}
 use Rattle.std.specs.Str.{byte}
 use Rattle.px_base.specs.Blanks.{trimmed}

@@ -10,6 +10,7 @@ mod laws;
 mod rules;
 mod sets;
 mod settings;
+mod tables;
 mod updates;
 mod values;
 

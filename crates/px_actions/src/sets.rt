@@ -4,10 +4,10 @@ ghost use Rattle.std.specs.List.{flat_map, list_all};
 ghost use Rattle.px_actions.specs.Kinds.{entry_of};
 ghost use Rattle.px_actions.specs.Rules.{keeps};
 ghost use Rattle.px_actions.specs.Shapes.{TakesMemory};
-ghost use Rattle.px_actions.specs.Sets.{updated, updated_all, IsUpdatedByFront, empty_set, is_on, value, values, is_distinct, set_lines, setting_lines, setting_of};
+ghost use Rattle.px_actions.specs.Sets.{IsSound, updated, updated_all, IsUpdatedByFront, empty_set, is_on, value, values, is_distinct, set_lines, setting_lines, setting_of};
 
 use crate::kinds::{KINDS, Kind};
-use crate::settings::Setting;
+use crate::tables::Table;
 use crate::updates::Update;
 use px_base::{Mem, Text};
 use std::alloc::Global;
@@ -18,8 +18,7 @@ use std::marker::Model;
 #[derive(Drop)]
 pub struct ActionSet {
     alloc: Global,
-    /// What is set of each kind, by the kind's number.
-    settings: [Setting; 41],
+    table: Table,
 }
 
 impl Model for ActionSet {
@@ -30,9 +29,9 @@ impl Model for ActionSet {
 
     ghost use Rattle.px_actions.specs.Sets.{IsSound};
 
-    ghost view = { λ s. s.settings };
+    ghost view = { λ s. s.table };
 
-    ghost invariant = { λ s. IsSound s.settings };
+    ghost invariant = { λ s. IsSound s.table };
 }
 
 impl ActionSet {
@@ -42,19 +41,17 @@ impl ActionSet {
     {
         ActionSet {
             alloc,
-            settings: empty_settings(alloc),
+            table: Table::empty(),
         }
     }
 
     /// Applies an update. After `Mem`, which comes only of `Set` and `Add`, the set is as it was.
-    #[tactic(auto, unfolding(crate::specs::Sets::updated))]
     pub fn apply(&mut self, update: &Update) -> Result<(), Mem>
         ensures ok { OnOk result (self.new ≡ updated self.old update.now.kind update.now.change) }
         ensures err { OnErr result (self.new ≡ self.old) }
         ensures memory { IsErr result → TakesMemory update.now.change }
     {
-        let setting = &mut self.settings[update.kind.place()];
-        setting.change(self.alloc, &update.change)
+        self.table.change(self.alloc, update.kind, &update.change)
     }
 
     /// Applies updates in their order. After `Mem` some first ones of them are applied.
@@ -73,7 +70,7 @@ impl ActionSet {
     pub fn is_on(&self, kind: Kind) -> bool
         ensures { result ≡ is_on self.now kind }
     {
-        self.settings[kind.place()].is_switched()
+        self.table.is_switched(kind)
     }
 
     /// The value of a single kind, if it has one. Another kind has none.
@@ -82,7 +79,7 @@ impl ActionSet {
         ensures value { option_copied result ≡ value self.now kind }
         ensures kept { IfSome result (λ v. IsTrue (keeps (entry_of kind).rule v.now)) }
     {
-        self.settings[kind.place()].value()
+        self.table.value(kind)
     }
 
     /// The values of a list, in its order. Another kind has none.
@@ -92,7 +89,7 @@ impl ActionSet {
         ensures kept { IsTrue (list_all (keeps (entry_of kind).rule) result.now) }
         ensures distinct { IsTrue (is_distinct result.now) }
     {
-        self.settings[kind.place()].values()
+        self.table.values(kind)
     }
 
     /// An equal set. It takes memory once for each text and once for each list that isn't empty.
@@ -101,7 +98,7 @@ impl ActionSet {
     {
         Ok(ActionSet {
             alloc: self.alloc,
-            settings: copy_settings(self.alloc, &self.settings)?,
+            table: self.table.copy(self.alloc)?,
         })
     }
 
@@ -112,32 +109,17 @@ impl ActionSet {
         ensures { IfOk result (λ text. text ≡ set_lines self.now) }
     {
         let mut out = Text::new(self.alloc);
-        print_settings(&self.settings, &KINDS, &mut out)?;
+        print_settings(&self.table, &KINDS, &mut out)?;
         Ok(out)
     }
 }
 
-fn print_settings(settings: &[Setting; 41], kinds: &[Kind], out: &mut Text) -> Result<(), Mem>
-    ensures { OnOk result (out.new ≡ out.old ++ flat_map (λ kind. setting_lines (entry_of kind).name (setting_of settings.now kind)) kinds.now) }
+fn print_settings(table: &Table, kinds: &[Kind], out: &mut Text) -> Result<(), Mem>
+    requires { IsSound table.now }
+    ensures { OnOk result (out.new ≡ out.old ++ flat_map (λ kind. setting_lines (entry_of kind).name (setting_of table.now kind)) kinds.now) }
 {
     for kind in kinds {
-        settings[kind.place()].print(kind.name().as_bytes(), out)?;
+        table.print(*kind, out)?;
     }
     Ok(())
-}
-
-fn empty_settings(alloc: Global) -> [Setting; 41]
-    ensures { result ≡ empty_set }
-{
-    KINDS.map(|kind| Setting::empty(alloc, kind.shape()))
-}
-
-fn copy_settings(alloc: Global, settings: &[Setting; 41]) -> Result<[Setting; 41], Mem>
-    ensures { IfOk result (λ copies. copies ≡ settings.now) }
-{
-    let mut copies = empty_settings(alloc);
-    for i in 0..41 {
-        copies[i] = settings[i].copy(alloc)?;
-    }
-    Ok(copies)
 }

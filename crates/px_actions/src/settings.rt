@@ -110,7 +110,7 @@ impl Setting {
     }
 }
 
-fn change_flag(on: &mut bool, change: &Change)
+pub fn change_flag(on: &mut bool, change: &Change)
     ensures { setting.Flag on.new ≡ changed (setting.Flag on.old) change.now }
 {
     match change {
@@ -184,7 +184,7 @@ fn copy_texts(alloc: Global, texts: &[Text]) -> Result<List<Text>, Mem>
     Ok(List::from_vec(copies))
 }
 
-fn print_flag(name: &[u8], out: &mut Text) -> Result<(), Mem>
+pub fn print_flag(name: &[u8], out: &mut Text) -> Result<(), Mem>
     ensures { OnOk result (out.new ≡ out.old ++ flag_line name.now) }
 {
     out.push(b'+')?;

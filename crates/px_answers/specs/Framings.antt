@@ -14,6 +14,7 @@ use Rattle.px_filter_files.specs.declared.kinds.FilterKind.TheVariants as kind
 use Rattle.px_answers.specs.declared.forms.Framed.{Framed}
 use Rattle.px_answers.specs.declared.forms.Form.{Form}
 use Rattle.px_answers.specs.declared.forms.Form.TheVariants as form
+use Rattle.px_answers.specs.declared.framings.BodyPlan.{BodyPlan}
 use Rattle.px_answers.specs.declared.framings.Terms.{Terms}
 use Rattle.px_answers.specs.declared.framings.HeaderLines.{HeaderLines}
 use Rattle.px_answers.specs.Forms.{length_field}
@@ -97,11 +98,9 @@ filters_if allowed names = if allowed then Some names else None
 abbrev pub is_old : Terms → Bool
 is_old terms = terms.minor == 0
 
--- what an answer's head settles
-unfoldable pub framed_of : FiltersOfFiles → ResponseHead → BodyRule → Terms → HeaderLines → Framed
-framed_of files head r terms lines = record {
-  first_line = lines.first_line;
-  fields = lines.fields;
+-- how the body is returned, by the head as received
+unfoldable pub plan_of : FiltersOfFiles → ResponseHead → BodyRule → Terms → BodyPlan
+plan_of files head r terms = record {
   rule = r;
   form = form_by (is_old terms) r head.fields;
   framing = framing_of (form_by (is_old terms) r head.fields) r head.fields;
@@ -109,3 +108,20 @@ framed_of files head r terms lines = record {
   limit = terms.limit;
   keep = terms.keep && not (is_old terms);
 }
+
+-- a plan behind the lines of a head
+abbrev pub framed_so : BodyPlan → HeaderLines → Framed
+framed_so plan lines = record {
+  first_line = lines.first_line;
+  fields = lines.fields;
+  rule = plan.rule;
+  form = plan.form;
+  framing = plan.framing;
+  filters = plan.filters;
+  limit = plan.limit;
+  keep = plan.keep;
+}
+
+-- what an answer's head settles
+abbrev pub framed_of : FiltersOfFiles → ResponseHead → BodyRule → Terms → HeaderLines → Framed
+framed_of files head r terms lines = framed_so (plan_of files head r terms) lines

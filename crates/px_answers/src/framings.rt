@@ -2,7 +2,7 @@
 ghost use Rattle.std.specs.Prelude.{◌≡◌, ◌++◌, [], ◌∷◌, IfOk, OnOk};
 ghost use Rattle.std.specs.List.{list_all, list_any};
 ghost use Rattle.px_framing.specs.Rules.{codings_of};
-ghost use Rattle.px_answers.specs.Framings.{coding_fields, filters_if, form_by, framed_of, framing_of, has_body, is_filter, is_length, is_filterable, is_identity, is_old, is_plainly_coded, joined, length_fields, raw_framing, stated_length};
+ghost use Rattle.px_answers.specs.Framings.{coding_fields, filters_if, form_by, framed_so, framing_of, has_body, is_filter, is_length, is_filterable, is_identity, is_old, is_plainly_coded, joined, length_fields, plan_of, raw_framing, stated_length};
 ghost use Rattle.px_answers.specs.Forms.{length_field};
 
 use crate::fields::{push_field, push_length};
@@ -43,42 +43,73 @@ pub struct HeaderLines {
     pub fields: List<Field>,
 }
 
-/// What the head of an answer settles, whose body is read by that rule. `files` are the filters that there are.
-#[tactic(auto, unfolding(crate::specs::Framings::framed_of))]
-pub fn frame(
-    alloc: Global,
-    files: &Filters,
-    head: &ResponseHead,
-    rule: BodyRule,
-    terms: Terms,
-    lines: HeaderLines,
-) -> Result<Framed, Mem>
-    ensures { IfOk result (λ framed. framed ≡ framed_of files.now head.now rule terms lines) }
-{
-    let old = terms.minor == 0;
-    let received = head.fields.as_slice();
-    let form = form_by(old, rule, received);
-    let codings = transfer_codings(alloc, received)?;
-    let framing = framing_of(alloc, form, rule, received, codings.as_slice())?;
-    let filterable = is_filterable(files, head, rule, &terms, codings.as_slice());
-    let Terms {
-        minor: _,
-        keep,
-        text: _,
-        filters,
-        limit,
-    } = terms;
-    let HeaderLines { first_line, fields } = lines;
-    Ok(Framed {
-        first_line,
-        fields,
-        rule,
-        form,
-        framing,
-        filters: if filterable { Some(filters) } else { None },
-        limit,
-        keep: keep && !old,
-    })
+/// How the body of an answer is returned, by the answer's head as received.
+#[derive(Drop)]
+pub struct BodyPlan {
+    /// By which rule the body is read.
+    pub rule: BodyRule,
+    /// Which bytes of an unfiltered body are returned.
+    pub form: Form,
+    /// What frames an unfiltered body: one field, or none.
+    pub framing: List<Field>,
+    /// The content filters by name. None: filtering is excluded by the head.
+    pub filters: Option<List<Text>>,
+    /// The most raw bytes of a body that is filtered.
+    pub limit: u64,
+    /// Whether the connection may be kept behind the answer.
+    pub keep: bool,
+}
+
+impl BodyPlan {
+    /// How the body of an answer with that head is returned, which is read by that rule. `files` are the filters that there are.
+    #[tactic(auto, unfolding(crate::specs::Framings::plan_of))]
+    pub fn new(
+        alloc: Global,
+        files: &Filters,
+        head: &ResponseHead,
+        rule: BodyRule,
+        terms: Terms,
+    ) -> Result<BodyPlan, Mem>
+        ensures { IfOk result (λ plan. plan ≡ plan_of files.now head.now rule terms) }
+    {
+        let old = terms.minor == 0;
+        let received = head.fields.as_slice();
+        let form = form_by(old, rule, received);
+        let codings = transfer_codings(alloc, received)?;
+        let framing = framing_of(alloc, form, rule, received, codings.as_slice())?;
+        let filterable = is_filterable(files, head, rule, &terms, codings.as_slice());
+        let Terms {
+            minor: _,
+            keep,
+            text: _,
+            filters,
+            limit,
+        } = terms;
+        Ok(BodyPlan {
+            rule,
+            form,
+            framing,
+            filters: if filterable { Some(filters) } else { None },
+            limit,
+            keep: keep && !old,
+        })
+    }
+
+    /// What the head settles, of which the header actions made those lines.
+    pub fn behind(self, lines: HeaderLines) -> Framed
+        ensures { result ≡ framed_so self lines }
+    {
+        Framed {
+            first_line: lines.first_line,
+            fields: lines.fields,
+            rule: self.rule,
+            form: self.form,
+            framing: self.framing,
+            filters: self.filters,
+            limit: self.limit,
+            keep: self.keep,
+        }
+    }
 }
 
 /// The form of a body to a client of HTTP/1.0 (`old`) or 1.1.

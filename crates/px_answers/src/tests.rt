@@ -1,5 +1,5 @@
 //! Answers whose returned bytes are known from outside, cut after every byte.
-use crate::{HeaderLines, Outcome, Passage, Returned, Terms, frame};
+use crate::{BodyPlan, HeaderLines, Outcome, Passage, Returned, Terms};
 use px_base::{List, Text};
 use px_filter_files::{FilterFile, FilterKind, Filters, NamedFilter, WarmFilters};
 use px_framing::response_body;
@@ -217,7 +217,8 @@ fn begun(
         .expect(rt, "a rule");
     let lines = lines(rt, alloc, &head);
     let terms = terms(rt, alloc, row.asked);
-    let framed = frame(alloc, files, &head, rule, terms, lines).expect(rt, "memory");
+    let plan = BodyPlan::new(alloc, files, &head, rule, terms).expect(rt, "memory");
+    let framed = plan.behind(lines);
     Passage::new(alloc, warm, vars(alloc), framed, out).expect(rt, "memory")
 }
 

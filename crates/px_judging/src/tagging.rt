@@ -2,6 +2,8 @@
 ghost use Rattle.std.specs.Prelude.{◌≡◌, ◌<◌, IfOk, map};
 ghost use Rattle.px_head.specs.Prints.{field_line};
 ghost use Rattle.px_merge.specs.Merging.{url_actions};
+ghost use Rattle.px_merge.specs.declared.sides.Side.TheVariants as side;
+ghost use Rattle.px_taggers.specs.Tagging.{TagsLike};
 ghost use Rattle.px_judging.specs.Requests.{tagged, lines_of, vars_of};
 
 use crate::handed::Handed;
@@ -13,7 +15,7 @@ use px_head::RequestHead;
 use px_merge::{Side, Warm as WarmSections};
 use px_patterns::Url;
 use px_subst::Vars;
-use px_taggers::tag_headers_with;
+use px_taggers::{has_taggers, tag_headers_with};
 use std::alloc::Global;
 use std::marker::Brand;
 use std::sync::ledger::{Blank, Ledger};
@@ -41,6 +43,17 @@ fn lines_of(alloc: Global, head: &RequestHead) -> Result<List<Text>, Mem>
         lines.add(field.line(alloc)?)?;
     }
     Ok(lines)
+}
+
+/// The lines of a head as far as taggers of the set need them: none where there are none.
+fn lines_for(alloc: Global, head: &RequestHead, set: &ActionSet) -> Result<List<Text>, Mem>
+    ensures { IfOk result (λ lines. TagsLike set.now side.Request lines (lines_of head.now)) }
+{
+    if has_taggers(set, Side::Request) {
+        lines_of(alloc, head)
+    } else {
+        Ok(List::new(alloc))
+    }
 }
 
 /// What the sections set for a URL, where L is the name of the blank.
@@ -98,7 +111,7 @@ pub fn tag_request(
     }
     let Warm { sections, filters } = warm;
     let mut set = actions_of(alloc, sections, url, handed.tags)?;
-    let lines = lines_of(alloc, head)?;
+    let lines = lines_for(alloc, head, &set)?;
     tag_headers_with(
         alloc,
         sections,

@@ -1,17 +1,19 @@
 // What the answer's own head settles, by a configuration and by what was asked.
 ghost use Rattle.std.specs.Prelude.{◌≡◌, ◌++◌, codes, drop, IfOk, OnOk};
+ghost use Rattle.px_merge.specs.declared.sides.Side.TheVariants as side;
+ghost use Rattle.px_taggers.specs.Tagging.{TagsLike};
 ghost use Rattle.px_pumps.specs.Asking.{as_version_1_1, framed_by, framed_of, received_lines, response_set, returned_lines, terms_of};
 
 use px_actions::{ActionSet, Kind};
-use px_answers::{Asked, Framed, HeaderLines, Terms, frame};
+use px_answers::{Asked, BodyPlan, Framed, HeaderLines, Terms};
 use px_base::{List, Mem, Text};
 use px_config::{Config, Warm};
 use px_framing::BodyRule;
-use px_head::{Field, ResponseHead};
+use px_head::ResponseHead;
 use px_headers::{ServerOut, is_text, server_headers};
 use px_merge::Side;
 use px_subst::Vars;
-use px_taggers::tag_headers_with;
+use px_taggers::{has_taggers, tag_headers_with};
 use std::alloc::Global;
 
 /// The version of a returned head.
@@ -36,6 +38,17 @@ fn received_lines(alloc: Global, head: &ResponseHead) -> Result<List<Text>, Mem>
     Ok(lines)
 }
 
+/// The lines of a head as far as taggers of the set need them: none where there are none.
+fn lines_for(alloc: Global, head: &ResponseHead, set: &ActionSet) -> Result<List<Text>, Mem>
+    ensures { IfOk result (λ lines. TagsLike set.now side.Response lines (received_lines head.now)) }
+{
+    if has_taggers(set, Side::Response) {
+        received_lines(alloc, head)
+    } else {
+        Ok(List::new(alloc))
+    }
+}
+
 /// The action set of an answer, from the request's set and tags. The store lent is that of the configuration.
 #[tactic(auto, unfolding(crate::specs::Asking::response_set))]
 fn response_set(
@@ -58,7 +71,7 @@ fn response_set(
     }
     let mut set = set;
     let mut tags = tags;
-    let lines = received_lines(alloc, head)?;
+    let lines = lines_for(alloc, head, &set)?;
     let Warm { sections, filters } = warm;
     tag_headers_with(
         alloc,
@@ -105,26 +118,6 @@ fn returned_lines(alloc: Global, out: ServerOut) -> Result<HeaderLines, Mem>
     })
 }
 
-/// A copy of a head, from which the header actions take the fields out.
-fn copy_head(alloc: Global, head: &ResponseHead) -> Result<ResponseHead, Mem>
-    ensures { IfOk result (λ copy. copy ≡ head.now) }
-{
-    let received = head.fields.as_slice();
-    let mut fields = List::with_capacity(alloc, received.len())?;
-    for field in received {
-        fields.add(Field {
-            name: Text::from_bytes(alloc, field.name.as_bytes())?,
-            value: Text::from_bytes(alloc, field.value.as_bytes())?,
-        })?;
-    }
-    Ok(ResponseHead {
-        minor: head.minor,
-        status: head.status,
-        reason: Text::from_bytes(alloc, head.reason.as_bytes())?,
-        fields,
-    })
-}
-
 /// What a head settles. The store lent is that of the configuration.
 #[tactic(auto, unfolding(crate::specs::Asking::framed_of))]
 pub fn settle(
@@ -132,12 +125,12 @@ pub fn settle(
     config: &Config,
     warm: &mut Warm<'_>,
     asked: Asked,
-    head: &ResponseHead,
+    head: ResponseHead,
     rule: BodyRule,
 ) -> Result<Settled, Mem>
     requires sections { warm.old.sections ≡ config.now.sections }
     requires filters { warm.old.filters ≡ config.now.filters }
-    ensures framed { IfOk result (λ settled. settled.framed ≡ framed_of config.now asked head.now rule) }
+    ensures framed { IfOk result (λ settled. settled.framed ≡ framed_of config.now asked head rule) }
     ensures vars { IfOk result (λ settled. settled.vars ≡ asked.vars) }
     ensures same_sections { warm.new.sections ≡ warm.old.sections }
     ensures same_filters { warm.new.filters ≡ warm.old.filters }
@@ -151,18 +144,7 @@ pub fn settle(
         vars,
         moment,
     } = asked;
-    let set = response_set(alloc, config, warm, set, tags, head, &vars)?;
-    let mut copy = copy_head(alloc, head)?;
-    let out = server_headers(
-        alloc,
-        &mut copy,
-        &set,
-        &config.filters,
-        &mut warm.filters,
-        &vars,
-        moment,
-    )?;
-    let lines = returned_lines(alloc, out)?;
+    let set = response_set(alloc, config, warm, set, tags, &head, &vars)?;
     let terms = Terms {
         minor,
         keep,
@@ -170,6 +152,20 @@ pub fn settle(
         filters: copy_texts(alloc, set.values(Kind::Filter))?,
         limit: config.settings.buffer_limit,
     };
-    let framed = frame(alloc, &config.filters, head, rule, terms, lines)?;
-    Ok(Settled { framed, vars })
+    let plan = BodyPlan::new(alloc, &config.filters, &head, rule, terms)?;
+    let mut head = head;
+    let out = server_headers(
+        alloc,
+        &mut head,
+        &set,
+        &config.filters,
+        &mut warm.filters,
+        &vars,
+        moment,
+    )?;
+    let lines = returned_lines(alloc, out)?;
+    Ok(Settled {
+        framed: plan.behind(lines),
+        vars,
+    })
 }

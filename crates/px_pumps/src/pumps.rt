@@ -169,7 +169,7 @@ fn pass_heads(
         }
         HeadsRead::Refused => Ok(Stage::Refused(Page::BadReply)),
         HeadsRead::Final { head, rule, from } => {
-            let settled = settle(alloc, config, warm, asked, &head, rule)?;
+            let settled = settle(alloc, config, warm, asked, head, rule)?;
             let passage = begin_behind(
                 alloc,
                 &mut warm.filters,

@@ -1,5 +1,5 @@
 -- Tags that are made of header lines (the manual's chapters on taggers and on tag patterns).
-use Rattle.std.specs.Prelude.{ℕ, ◌==◌, List, [], ◌∷◌, ◌++◌, length, fold, Option, None, Some, if◌then◌else◌}
+use Rattle.std.specs.Prelude.{ℕ, ◌≡◌, ◌==◌, List, [], ◌∷◌, ◌++◌, length, fold, Option, None, Some, if◌then◌else◌}
 use Rattle.px_actions.specs.Sets.{is_among, values}
 use Rattle.px_actions.specs.declared.kinds.Kind.{Kind}
 use Rattle.px_actions.specs.declared.kinds.Kind.TheVariants.{ClientHeaderTagger, ServerHeaderTagger}
@@ -91,3 +91,8 @@ unfoldable pub tag_headers : List Placed → FiltersOfFiles → List Setting →
 tag_headers sections filters set tags lines side vars =
     let all = rules sections filters side vars in
     after_absent all (after_lines all (state set tags) lines)
+
+-- lines that give the same set and tags as others, by whatever sections, filters and words, and whatever tags there are
+abbrev pub TagsLike : List Setting → Side → List (List ℕ) → List (List ℕ) → Type 0
+TagsLike set side lines others = (sections : List Placed) → (filters : FiltersOfFiles) → (tags : List (List ℕ)) → (vars : Vars)
+    → tag_headers sections filters set tags lines side vars ≡ tag_headers sections filters set tags others side vars

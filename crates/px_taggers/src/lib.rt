@@ -6,7 +6,7 @@ mod taggers;
 mod tags;
 mod turns;
 
-pub use lines::{tag_headers, tag_headers_with};
+pub use lines::{has_taggers, tag_headers, tag_headers_with};
 
 #[cfg(test)]
 mod tests;

@@ -1,7 +1,7 @@
 // Header lines of which tags are made.
-ghost use Rattle.std.specs.Prelude.{◌≡◌, IfOk, OnErr, OnOk, false};
+ghost use Rattle.std.specs.Prelude.{◌≡◌, [], IfOk, List, OnErr, OnOk, false, ℕ};
 ghost use Rattle.px_taggers.specs.Fronts.{IsWithinLines, IsWithinTagging};
-ghost use Rattle.px_taggers.specs.Tagging.{after_lines, in_force, rules, state, tag_headers};
+ghost use Rattle.px_taggers.specs.Tagging.{TagsLike, after_lines, in_force, rules, state, tag_headers};
 
 use crate::taggers::{action_of, run_taggers};
 use crate::turns::Turn;
@@ -71,6 +71,13 @@ fn tag_lines(
         rest = others;
     }
     Ok(())
+}
+
+/// Whether taggers of a side are in force. Where none is, no line makes a tag, so `tag_headers_with` needs none of them.
+pub fn has_taggers(set: &ActionSet, side: Side) -> bool
+    ensures needless { result ≡ false → (lines : List (List ℕ)) → TagsLike set.now side [] lines }
+{
+    !set.values(action_of(side)).is_empty()
 }
 
 /// Makes tags of header lines and applies what the sections set for them. The lines are the first line and the lines of the

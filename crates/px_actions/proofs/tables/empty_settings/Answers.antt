@@ -4,7 +4,7 @@ use Rattle.px_actions.specs.Sets.{empty_set, empty_setting}
 use Rattle.px_actions.proofs.ArrayLemmas.{mapped}
 use Rattle.px_actions.specs.declared.kinds.Kind.{Kind}
 use Rattle.px_actions.specs.declared.kinds.Kind.TheVariants as kind
-use Rattle.px_actions.proofs.sets.empty_settings.Goals as goal
+use Rattle.px_actions.proofs.tables.empty_settings.Goals as goal
 
 pub returns : goal.returns
 unfolding empty_set

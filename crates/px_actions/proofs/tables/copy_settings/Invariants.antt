@@ -1,6 +1,6 @@
 use Rattle.std.proofs.Common.{◌≡◌, ◌<◌, ℕ, get_or, length}
 use Rattle.px_actions.specs.declared.settings.Setting.{Setting}
-use Rattle.px_actions.proofs.sets.copy_settings.Given as goal
+use Rattle.px_actions.proofs.tables.copy_settings.Given as goal
 
 abbrev pub invariant-loop-i : goal.invariant-loop-i
 invariant-loop-i l = record {

@@ -1,0 +1,202 @@
+// What is set of each kind of action, in little room while no kind has a value.
+ghost use Rattle.std.specs.Prelude.{◌≡◌, ◌≢◌, ◌++◌, IfOk, IsErr, OnErr, OnOk, option_copied};
+ghost use Rattle.px_actions.specs.Kinds.{entry_of};
+ghost use Rattle.px_actions.specs.Shapes.{TakesMemory};
+ghost use Rattle.px_actions.specs.Sets.{IsSound, empty_set, is_switched, multi_values, setting_lines, setting_of, single_value, updated};
+ghost use Rattle.px_actions.specs.declared.kinds.Shape.TheVariants as shape;
+
+use crate::changes::Change;
+use crate::kinds::{KINDS, Kind, Shape};
+use crate::settings::{Setting, change_flag, print_flag};
+use px_base::{Mem, Text};
+use std::alloc::Global;
+use std::marker::Model;
+
+/// What is set of each kind, seen as the settings by the kinds' numbers. Flags stand in it; the other kinds have room of their own
+/// from the first value on, so a table without values is small and holds no memory.
+#[derive(Drop)]
+pub struct Table {
+    /// Which flags are on, by the kind's number.
+    flags: [bool; 41],
+    /// What is set of the kinds that aren't flags, by the kind's number.
+    values: Option<Box<[Setting; 41]>>,
+}
+
+impl Model for Table {
+    ghost use Rattle.std.specs.Prelude.{List};
+    ghost use Rattle.px_actions.specs.declared.settings.Setting.{Setting};
+    ghost use Rattle.px_actions.specs.Tables.{laid_over, values_of};
+
+    ghost Value = { List Setting };
+
+    ghost view = { λ t. laid_over t.flags (values_of t.values) };
+}
+
+impl Table {
+    /// The table in which nothing is set, which takes no memory.
+    pub fn empty() -> Table
+        ensures { result ≡ empty_set }
+    {
+        Table {
+            flags: [false; 41],
+            values: None,
+        }
+    }
+
+    /// Applies a change to a kind. After `Mem`, which comes only of `Set` and `Add`, all is as it was.
+    pub fn change(&mut self, alloc: Global, kind: Kind, change: &Change) -> Result<(), Mem>
+        requires sound { IsSound self.old }
+        ensures ok { OnOk result (self.new ≡ updated self.old kind change.now) }
+        ensures err { OnErr result (self.new ≡ self.old) }
+        ensures memory { IsErr result → TakesMemory change.now }
+    {
+        match kind.shape() {
+            Shape::Flag => {
+                change_flag(&mut self.flags[kind.place()], change);
+                Ok(())
+            }
+            Shape::Single => self.change_value(alloc, kind, change),
+            Shape::Multi => self.change_value(alloc, kind, change),
+        }
+    }
+
+    /// Applies a change to a kind that isn't a flag.
+    fn change_value(&mut self, alloc: Global, kind: Kind, change: &Change) -> Result<(), Mem>
+        requires sound { IsSound self.old }
+        requires other { (entry_of kind).shape ≢ shape.Flag }
+        ensures ok { OnOk result (self.new ≡ updated self.old kind change.now) }
+        ensures err { OnErr result (self.new ≡ self.old) }
+        ensures memory { IsErr result → TakesMemory change.now }
+    {
+        match &mut self.values {
+            Some(values) => change_at(alloc, values, kind, change),
+            None => match change {
+                Change::Set(_) | Change::Add(_) => {
+                    self.values = Some(first_values(alloc, kind, change)?);
+                    Ok(())
+                }
+                Change::On | Change::Off | Change::Remove(_) | Change::Clear => Ok(()),
+            },
+        }
+    }
+
+    /// Whether a flag is on.
+    pub fn is_switched(&self, kind: Kind) -> bool
+        requires sound { IsSound self.now }
+        ensures { result ≡ is_switched (setting_of self.now kind) }
+    {
+        match kind.shape() {
+            Shape::Flag => self.flags[kind.place()],
+            Shape::Single => false,
+            Shape::Multi => false,
+        }
+    }
+
+    /// The value of a single kind.
+    pub fn value(&self, kind: Kind) -> Option<&[u8]>
+        requires sound { IsSound self.now }
+        ensures { option_copied result ≡ single_value (setting_of self.now kind) }
+    {
+        match &self.values {
+            Some(values) => values[kind.place()].value(),
+            None => None,
+        }
+    }
+
+    /// The values of a list.
+    pub fn values(&self, kind: Kind) -> &[Text]
+        requires sound { IsSound self.now }
+        ensures { result.now ≡ multi_values (setting_of self.now kind) }
+    {
+        match &self.values {
+            Some(values) => values[kind.place()].values(),
+            None => &[],
+        }
+    }
+
+    /// An equal table.
+    pub fn copy(&self, alloc: Global) -> Result<Table, Mem>
+        ensures { IfOk result (λ t. t ≡ self.now) }
+    {
+        let values = match &self.values {
+            Some(values) => Some(Box::new(alloc, copy_settings(alloc, values)?)?),
+            None => None,
+        };
+        Ok(Table {
+            flags: self.flags,
+            values,
+        })
+    }
+
+    /// Adds the lines of a kind at the end of a text.
+    pub fn print(&self, kind: Kind, out: &mut Text) -> Result<(), Mem>
+        requires sound { IsSound self.now }
+        ensures { OnOk result (out.new ≡ out.old ++ setting_lines (entry_of kind).name (setting_of self.now kind)) }
+    {
+        let name = kind.name().as_bytes();
+        match kind.shape() {
+            Shape::Flag => {
+                if self.flags[kind.place()] {
+                    print_flag(name, out)
+                } else {
+                    Ok(())
+                }
+            }
+            Shape::Single => self.print_value(kind, name, out),
+            Shape::Multi => self.print_value(kind, name, out),
+        }
+    }
+
+    /// Adds the lines of a kind that isn't a flag at the end of a text.
+    fn print_value(&self, kind: Kind, name: &[u8], out: &mut Text) -> Result<(), Mem>
+        requires sound { IsSound self.now }
+        requires other { (entry_of kind).shape ≢ shape.Flag }
+        ensures { OnOk result (out.new ≡ out.old ++ setting_lines name.now (setting_of self.now kind)) }
+    {
+        match &self.values {
+            Some(values) => values[kind.place()].print(name, out),
+            None => Ok(()),
+        }
+    }
+}
+
+/// Applies a change to what is set of a kind.
+#[tactic(auto, unfolding(crate::specs::Sets::updated))]
+fn change_at(
+    alloc: Global,
+    values: &mut [Setting; 41],
+    kind: Kind,
+    change: &Change,
+) -> Result<(), Mem>
+    ensures ok { OnOk result (values.new ≡ updated values.old kind change.now) }
+    ensures err { OnErr result (values.new ≡ values.old) }
+    ensures memory { IsErr result → TakesMemory change.now }
+{
+    let setting = &mut values[kind.place()];
+    setting.change(alloc, change)
+}
+
+/// What is set behind a first change.
+fn first_values(alloc: Global, kind: Kind, change: &Change) -> Result<Box<[Setting; 41]>, Mem>
+    ensures { IfOk result (λ values. values.value ≡ updated empty_set kind change.now) }
+{
+    let mut values = Box::new(alloc, empty_settings(alloc))?;
+    change_at(alloc, &mut values, kind, change)?;
+    Ok(values)
+}
+
+fn empty_settings(alloc: Global) -> [Setting; 41]
+    ensures { result ≡ empty_set }
+{
+    KINDS.map(|kind| Setting::empty(alloc, kind.shape()))
+}
+
+fn copy_settings(alloc: Global, settings: &[Setting; 41]) -> Result<[Setting; 41], Mem>
+    ensures { IfOk result (λ copies. copies ≡ settings.now) }
+{
+    let mut copies = empty_settings(alloc);
+    for i in 0..41 {
+        copies[i] = settings[i].copy(alloc)?;
+    }
+    Ok(copies)
+}
