@@ -1,9 +1,9 @@
 //! Body rules, and bodies in pieces.
-use crate::{
+use px_base::{List, Text};
+use px_framing::{
     BODY_LIMIT, BodyFault, BodyReader, BodyRule, State, is_chunked_alone, request_body,
     response_body, transfer_codings,
 };
-use px_base::{List, Text};
 use px_head::{Field, RequestHead, ResponseHead};
 use std::alloc::Global;
 use std::process::Abort;

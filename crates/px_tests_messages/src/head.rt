@@ -1,10 +1,10 @@
 //! Heads found, read and printed.
-use crate::{
+use px_base::Text;
+use px_head::{
     Field, HEAD_LIMIT, HeadEnd, HeadFault, HeadSearch, RequestHead, ResponseHead, TOO_LONG_NAME,
     TOO_LONG_NUMBER, find_head, first_field, has_field, is_connection_word,
     is_held_back_of_request, is_held_back_of_response, print_head, read_field_line,
 };
-use px_base::Text;
 use std::alloc::Global;
 use std::process::Abort;
 

@@ -1,6 +1,6 @@
 use Rattle.std.proofs.Common.{◌-◌, ◌≤◌, length, take}
 use Rattle.px_head.specs.Searches.{BeginsSearched}
-use Rattle.px_head.proofs.tests.search_as_they_grow.Given as goal
+use Rattle.px_tests_messages.proofs.head.search_as_they_grow.Given as goal
 
 abbrev pub invariant-more : goal.invariant-more
 invariant-more l = record {

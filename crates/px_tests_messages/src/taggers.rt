@@ -1,62 +1,66 @@
 // Tags of the lines of requests and answers, and what sections set for them.
-use crate::*;
+use crate::common::{same, text};
 use px_action_files::ActionFile;
 use px_actions::{ActionSet, Update};
 use px_base::{List, Text};
-use px_filter_files::{FilterFile, Filters};
-use px_merge::{Sections, Side};
+use px_filter_files::{FilterFile, Filters, WarmFilters};
+use px_merge::{Sections, Side, Warm};
 use px_subst::Vars;
+use px_taggers::*;
 use px_text::Line;
 use std::alloc::Global;
+use std::process::Abort;
 
 /// Texts as the lines of a file, numbered from 1.
-fn numbered(alloc: Global, texts: &[&str]) -> Option<List<Line>> {
+fn numbered(rt: &impl Abort, alloc: Global, texts: &[&str]) -> List<Line> {
     let mut lines = List::new(alloc);
-    let mut number = 0u32;
-    for text in texts {
-        number = number.saturating_add(1);
-        let text = Text::from_bytes(alloc, text.as_bytes()).ok()?;
-        lines.add(Line { number, text }).ok()?;
+    for (line, number) in texts.iter().zip(1..) {
+        let text = text(rt, alloc, line.as_bytes());
+        lines.add(Line { number, text }).expect(rt, "memory");
     }
-    Some(lines)
+    lines
 }
 
-fn sections_of(alloc: Global, texts: &[&str]) -> Option<Sections> {
-    let lines = numbered(alloc, texts)?;
-    let file = ActionFile::read(alloc, lines.as_slice()).ok()?;
-    let name = Text::from_bytes(alloc, b"u.action").ok()?;
+fn sections_of(rt: &impl Abort, alloc: Global, texts: &[&str]) -> Sections {
+    let lines = numbered(rt, alloc, texts);
+    let file = ActionFile::read(alloc, lines.as_slice())
+        .ok()
+        .expect(rt, "sections");
     let mut files = List::new(alloc);
-    files.add((name, file)).ok()?;
-    Sections::new(alloc, files).ok()
+    files
+        .add((text(rt, alloc, b"u.action"), file))
+        .expect(rt, "memory");
+    Sections::new(alloc, files).ok().expect(rt, "memory")
 }
 
-fn filters_of(alloc: Global, texts: &[&str]) -> Option<Filters> {
-    let lines = numbered(alloc, texts)?;
-    let file = FilterFile::read(alloc, lines.as_slice()).ok()?;
-    if file.filters.len() > 100 {
-        return None;
-    }
-    let mut files = Vec::new(alloc);
-    files.push(file).ok()?;
-    Filters::new(alloc, List::from_vec(files)).ok()
+fn filters_of(rt: &impl Abort, alloc: Global, texts: &[&str]) -> Filters {
+    let lines = numbered(rt, alloc, texts);
+    let file = FilterFile::read(alloc, lines.as_slice())
+        .ok()
+        .expect(rt, "filters");
+    assert!(rt; file.filters.len() <= 100);
+    let mut files = List::new(alloc);
+    files.add(file).expect(rt, "memory");
+    Filters::new(alloc, files).ok().expect(rt, "memory")
 }
 
-fn set_of(alloc: Global, words: &[&str]) -> Option<ActionSet> {
+fn set_of(rt: &impl Abort, alloc: Global, words: &[&str]) -> ActionSet {
     let mut set = ActionSet::empty(alloc);
     for word in words {
-        set.apply(&Update::read(alloc, word).ok()?).ok()?;
+        let update = Update::read(alloc, word).ok().expect(rt, "a word");
+        set.apply(&update).expect(rt, "memory");
     }
-    Some(set)
+    set
 }
 
-fn texts(alloc: Global, lines: &[&str]) -> Option<List<Text>> {
+fn texts(rt: &impl Abort, alloc: Global, lines: &[&str]) -> List<Text> {
     let mut texts = List::new(alloc);
     for line in lines {
         texts
-            .add(Text::from_bytes(alloc, line.as_bytes()).ok()?)
-            .ok()?;
+            .add(text(rt, alloc, line.as_bytes()))
+            .expect(rt, "memory");
     }
-    Some(texts)
+    texts
 }
 
 fn no_vars(alloc: Global) -> Vars {
@@ -80,42 +84,50 @@ struct Row {
     set: &'static str,
 }
 
-fn are(tags: &[Text], wanted: &[&str]) -> bool {
-    tags.len() == wanted.len()
-        && tags
-            .iter()
-            .zip(wanted)
-            .all(|(tag, wanted)| tag.as_bytes() == wanted.as_bytes())
+/// Asserts that those are the tags.
+fn are(rt: &impl Abort, tags: &[Text], wanted: &[&str]) {
+    same(rt, tags.len(), wanted.len());
+    for (tag, wanted) in tags.iter().zip(wanted) {
+        same(rt, tag.as_bytes(), wanted.as_bytes());
+    }
 }
 
-/// Whether tags and set are as the row wants, each time of two with one store.
-fn tags_twice(alloc: Global, row: &Row) -> Option<bool> {
-    let sections = sections_of(alloc, row.actions)?;
-    let filters = filters_of(alloc, row.filters)?;
-    let lines = texts(alloc, row.lines)?;
-    let vars = no_vars(alloc);
-    let mut warm = sections.warm(alloc).ok()?;
-    let mut kept = filters.warm(alloc).ok()?;
+/// Asserts what the lines make, with stores that are lent.
+fn tag_row(
+    rt: &impl Abort,
+    alloc: Global,
+    sections: &mut Warm<'_>,
+    filters: &mut WarmFilters<'_>,
+    row: &Row,
+) {
+    let mut set = set_of(rt, alloc, row.words);
+    let mut tags = List::new(alloc);
+    let lines = texts(rt, alloc, row.lines);
+    tag_headers_with(
+        alloc,
+        sections,
+        filters,
+        &mut set,
+        &mut tags,
+        lines.as_slice(),
+        row.side,
+        &no_vars(alloc),
+    )
+    .expect(rt, "memory");
+    are(rt, tags.as_slice(), row.tags);
+    let shown = set.print().ok().expect(rt, "memory");
+    same(rt, shown.as_bytes(), row.set.as_bytes());
+}
+
+/// Asserts what the lines make, each time of two with one store.
+fn tag_twice(rt: &impl Abort, alloc: Global, row: &Row) {
+    let sections = sections_of(rt, alloc, row.actions);
+    let filters = filters_of(rt, alloc, row.filters);
+    let mut warm = sections.warm(alloc).ok().expect(rt, "memory");
+    let mut kept = filters.warm(alloc).ok().expect(rt, "memory");
     for _ in 0..2 {
-        let mut set = set_of(alloc, row.words)?;
-        let mut tags = List::new(alloc);
-        tag_headers_with(
-            alloc,
-            &mut warm,
-            &mut kept,
-            &mut set,
-            &mut tags,
-            lines.as_slice(),
-            row.side,
-            &vars,
-        )
-        .ok()?;
-        let shown = set.print().ok()?;
-        if !are(tags.as_slice(), row.tags) || shown.as_bytes() != row.set.as_bytes() {
-            return Some(false);
-        }
+        tag_row(rt, alloc, &mut warm, &mut kept, row);
     }
-    Some(true)
 }
 
 const ROWS: &[Row] = &[
@@ -214,35 +226,44 @@ const ROWS: &[Row] = &[
 #[test]
 fn lines_make_tags_and_tags_apply_sections(rt: HostRuntime) {
     for row in ROWS {
-        assert_eq!(rt; tags_twice(rt.alloc(), row), Some(true), "{}", row.set);
+        tag_twice(&rt, rt.alloc(), row);
     }
 }
 
 /// The tags that a request's lines make where nothing is kept.
-fn tags_once(alloc: Global) -> Option<List<Text>> {
-    let sections = sections_of(alloc, &["{+block{a}}", "TAG:^a.test$"])?;
-    let filters = filters_of(alloc, &["CLIENT-HEADER-TAGGER: h", "s/^Host: (.*)$/$1/"])?;
-    let lines = texts(alloc, &["GET / HTTP/1.1", "Host: a.test"])?;
-    let mut set = set_of(alloc, &["+client-header-tagger{h}"])?;
+fn tags_once(
+    rt: &impl Abort,
+    alloc: Global,
+    sections: &Sections,
+    filters: &Filters,
+    lines: &[Text],
+) -> List<Text> {
+    let mut set = set_of(rt, alloc, &["+client-header-tagger{h}"]);
     let mut tags = List::new(alloc);
     tag_headers(
         alloc,
-        &sections,
-        &filters,
+        sections,
+        filters,
         &mut set,
         &mut tags,
-        lines.as_slice(),
+        lines,
         Side::Request,
         &no_vars(alloc),
     )
-    .ok()?;
-    Some(tags)
+    .expect(rt, "memory");
+    tags
 }
 
 #[test]
 fn lines_make_tags_where_nothing_is_kept(rt: HostRuntime) {
-    match tags_once(rt.alloc()) {
-        Some(tags) => assert!(rt; are(tags.as_slice(), &["a.test"])),
-        None => panic!(rt; "no tags"),
-    }
+    let alloc = rt.alloc();
+    let sections = sections_of(&rt, alloc, &["{+block{a}}", "TAG:^a.test$"]);
+    let filters = filters_of(
+        &rt,
+        alloc,
+        &["CLIENT-HEADER-TAGGER: h", "s/^Host: (.*)$/$1/"],
+    );
+    let lines = texts(&rt, alloc, &["GET / HTTP/1.1", "Host: a.test"]);
+    let tags = tags_once(&rt, alloc, &sections, &filters, lines.as_slice());
+    are(&rt, tags.as_slice(), &["a.test"]);
 }

@@ -1,5 +1,6 @@
 //! Answers whose returned bytes are known from outside, cut after every byte.
-use crate::{BodyPlan, HeaderLines, Outcome, Passage, Returned, Terms};
+use crate::common::{holds, same, same_at, text};
+use px_answers::{BodyPlan, Framed, HeaderLines, Outcome, Passage, Returned, Terms};
 use px_base::{List, Text};
 use px_filter_files::{FilterFile, FilterKind, Filters, NamedFilter, WarmFilters};
 use px_framing::response_body;
@@ -139,23 +140,23 @@ fn vars(alloc: Global) -> Vars {
     }
 }
 
-fn text(rt: &impl Abort, alloc: Global, bytes: &[u8]) -> Text {
-    Text::from_bytes(alloc, bytes).expect(rt, "memory")
-}
-
-/// One file with the content filter `f`.
-fn filters(rt: &impl Abort, alloc: Global) -> Filters {
+/// The content filter `f`.
+fn filter(rt: &impl Abort, alloc: Global) -> NamedFilter {
     let mut jobs = List::new(alloc);
     let job = Job::read(alloc, "s/a/bb/g").ok().expect(rt, "a job");
     jobs.add(job).expect(rt, "memory");
-    let mut named = List::new(alloc);
-    let filter = NamedFilter {
+    NamedFilter {
         kind: FilterKind::Content,
         name: text(rt, alloc, b"f"),
         line: 1,
         filter: Filter::new(jobs),
-    };
-    named.add(filter).expect(rt, "memory");
+    }
+}
+
+/// One file with the content filter `f`.
+fn filters(rt: &impl Abort, alloc: Global) -> Filters {
+    let mut named = List::new(alloc);
+    named.add(filter(rt, alloc)).expect(rt, "memory");
     let mut files = List::new(alloc);
     let file = FilterFile {
         filters: named,
@@ -200,15 +201,8 @@ fn terms(rt: &impl Abort, alloc: Global, asked: Asked) -> Terms {
     }
 }
 
-/// The machine behind the row's head.
-fn begun(
-    rt: &impl Abort,
-    alloc: Global,
-    files: &Filters,
-    warm: &mut WarmFilters<'_>,
-    row: Row,
-    out: &mut Text,
-) -> Passage {
+/// The head of the row, its body's rule and its terms, as they are framed.
+fn framed(rt: &impl Abort, alloc: Global, files: &Filters, row: Row) -> Framed {
     let head = ResponseHead::read(alloc, row.head)
         .ok()
         .expect(rt, "a head");
@@ -218,8 +212,42 @@ fn begun(
     let lines = lines(rt, alloc, &head);
     let terms = terms(rt, alloc, row.asked);
     let plan = BodyPlan::new(alloc, files, &head, rule, terms).expect(rt, "memory");
-    let framed = plan.behind(lines);
+    plan.behind(lines)
+}
+
+/// The machine behind the row's head.
+fn begun(
+    rt: &impl Abort,
+    alloc: Global,
+    files: &Filters,
+    warm: &mut WarmFilters<'_>,
+    row: Row,
+    out: &mut Text,
+) -> Passage {
+    let framed = framed(rt, alloc, files, row);
     Passage::new(alloc, warm, vars(alloc), framed, out).expect(rt, "memory")
+}
+
+/// Feeds a piece.
+fn feed(
+    rt: &impl Abort,
+    passage: &mut Passage,
+    warm: &mut WarmFilters<'_>,
+    piece: &[u8],
+    out: &mut Text,
+) {
+    passage.feed(warm, piece, out).expect(rt, "memory");
+}
+
+/// Ends the body.
+fn end(
+    rt: &impl Abort,
+    passage: &mut Passage,
+    warm: &mut WarmFilters<'_>,
+    failed: bool,
+    out: &mut Text,
+) {
+    passage.end(warm, failed, out).expect(rt, "memory");
 }
 
 /// What comes of the row where its body comes in two pieces.
@@ -231,34 +259,33 @@ fn returned(
     cut: usize,
     out: &mut Text,
 ) -> Option<Outcome> {
+    assert!(rt; cut <= row.body.len());
     let mut warm = files.warm(alloc).expect(rt, "memory");
     let mut passage = begun(rt, alloc, files, &mut warm, row, out);
-    assert!(rt; cut <= row.body.len());
-    passage
-        .feed(&mut warm, &row.body[..cut], out)
-        .expect(rt, "memory");
-    assert!(rt; passage.held() <= row.asked.limit);
-    passage
-        .feed(&mut warm, &row.body[cut..], out)
-        .expect(rt, "memory");
-    passage.end(&mut warm, row.failed, out).expect(rt, "memory");
+    feed(rt, &mut passage, &mut warm, &row.body[..cut], out);
+    holds(rt, passage.held() <= row.asked.limit, "within the limit");
+    feed(rt, &mut passage, &mut warm, &row.body[cut..], out);
+    end(rt, &mut passage, &mut warm, row.failed, out);
     passage.ended()
 }
 
-/// Whether the row holds where the body is cut after every byte.
-fn holds(rt: &impl Abort, alloc: Global, files: &Filters, row: Row) -> bool {
+/// Asserts what comes of the row where its body is cut there.
+fn holds_cut(rt: &impl Abort, alloc: Global, files: &Filters, row: Row, cut: usize) {
+    let mut out = Text::new(alloc);
+    let outcome = returned(rt, alloc, files, row, cut, &mut out);
     let wanted = Outcome {
         returned: row.returned,
         keep: row.keep,
     };
+    same_at(rt, cut, outcome, Some(wanted));
+    same_at(rt, cut, out.as_bytes(), row.out);
+}
+
+/// Asserts that the row holds where the body is cut after every byte.
+fn holds_however_cut(rt: &impl Abort, alloc: Global, files: &Filters, row: Row) {
     for cut in 0..=row.body.len() {
-        let mut out = Text::new(alloc);
-        let outcome = returned(rt, alloc, files, row, cut, &mut out);
-        if outcome != Some(wanted) || out.as_bytes() != row.out {
-            return false;
-        }
+        holds_cut(rt, alloc, files, row, cut);
     }
-    true
 }
 
 /// Unfiltered bodies: by a length, in chunks, to the close, and none.
@@ -668,40 +695,37 @@ const CUT: [Row; 7] = [
     },
 ];
 
-/// Whether each row holds.
-fn all_hold(rt: &impl Abort, alloc: Global, rows: &[Row]) -> bool {
+/// Asserts that each row holds.
+fn all_hold(rt: &impl Abort, alloc: Global, rows: &[Row]) {
     let files = filters(rt, alloc);
     for row in rows {
-        if !holds(rt, alloc, &files, *row) {
-            return false;
-        }
+        holds_however_cut(rt, alloc, &files, *row);
     }
-    true
 }
 
 #[test]
 fn passes_unfiltered_bodies(rt: HostRuntime) {
-    assert!(rt; all_hold(&rt, rt.alloc(), &PASSED));
+    all_hold(&rt, rt.alloc(), &PASSED);
 }
 
 #[test]
 fn decodes_chunks_for_old_clients(rt: HostRuntime) {
-    assert!(rt; all_hold(&rt, rt.alloc(), &OLD_CLIENTS));
+    all_hold(&rt, rt.alloc(), &OLD_CLIENTS);
 }
 
 #[test]
 fn filters_whole_texts(rt: HostRuntime) {
-    assert!(rt; all_hold(&rt, rt.alloc(), &FILTERED));
+    all_hold(&rt, rt.alloc(), &FILTERED);
 }
 
 #[test]
 fn counts_raw_bytes_against_the_limit(rt: HostRuntime) {
-    assert!(rt; all_hold(&rt, rt.alloc(), &LIMITED));
+    all_hold(&rt, rt.alloc(), &LIMITED);
 }
 
 #[test]
 fn cuts_what_is_not_whole(rt: HostRuntime) {
-    assert!(rt; all_hold(&rt, rt.alloc(), &CUT));
+    all_hold(&rt, rt.alloc(), &CUT);
 }
 
 /// A text that is cut, and may be filtered until then.
@@ -734,16 +758,13 @@ fn holds_a_text_to_its_end(rt: HostRuntime) {
     let mut out = Text::new(alloc);
     let mut passage = begun(&rt, alloc, &files, &mut warm, HELD, &mut out);
     for byte in HELD.body {
-        passage
-            .feed(&mut warm, &[*byte], &mut out)
-            .expect(&rt, "memory");
-        assert!(rt; out.is_empty() && passage.ended().is_none());
+        feed(&rt, &mut passage, &mut warm, &[*byte], &mut out);
+        let seen = (out.is_empty(), passage.ended());
+        same(&rt, seen, (true, None));
     }
-    assert_eq!(rt; passage.held(), 6);
-    passage
-        .end(&mut warm, false, &mut out)
-        .expect(&rt, "memory");
-    assert!(rt; out.as_bytes() == HELD.out);
+    same(&rt, passage.held(), 6);
+    end(&rt, &mut passage, &mut warm, false, &mut out);
+    same(&rt, out.as_bytes(), HELD.out);
 }
 
 #[test]
@@ -754,15 +775,11 @@ fn puts_out_all_else_at_once(rt: HostRuntime) {
     let mut out = Text::new(alloc);
     let mut passage = begun(&rt, alloc, &files, &mut warm, SENT, &mut out);
     let head = out.len();
-    assert_eq!(rt; SENT.out.len().checked_sub(head), Some(2));
-    passage
-        .feed(&mut warm, b"o", &mut out)
-        .expect(&rt, "memory");
-    assert!(rt; passage.ended().is_none());
-    assert_eq!(rt; out.len().checked_sub(head), Some(1));
-    passage
-        .feed(&mut warm, b"k", &mut out)
-        .expect(&rt, "memory");
-    assert!(rt; passage.ended().is_some());
-    assert!(rt; out.as_bytes() == SENT.out);
+    same(&rt, SENT.out.len().checked_sub(head), Some(2));
+    feed(&rt, &mut passage, &mut warm, b"o", &mut out);
+    same(&rt, passage.ended(), None);
+    same(&rt, out.len().checked_sub(head), Some(1));
+    feed(&rt, &mut passage, &mut warm, b"k", &mut out);
+    same(&rt, passage.ended().is_some(), true);
+    same(&rt, out.as_bytes(), SENT.out);
 }

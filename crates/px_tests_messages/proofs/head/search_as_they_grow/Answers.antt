@@ -1,6 +1,6 @@
 use Rattle.std.proofs.Common.{arith, take, drop}
 use Rattle.std.proofs.Math.Seq.{take-add}
-use Rattle.px_head.proofs.tests.search_as_they_grow.Goals as goal
+use Rattle.px_tests_messages.proofs.head.search_as_they_grow.Goals as goal
 
 pub more-preserved : goal.more-preserved
 more-preserved c = record {

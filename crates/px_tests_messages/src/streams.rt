@@ -1,6 +1,6 @@
 //! Streams over a tape.
-use crate::{Ahead, Feed, Front, fill, read_front};
 use px_base::{Failed, Source, TapeIn};
+use px_streams::{Ahead, Feed, Front, fill, read_front};
 
 /// A tape that keeps how many bytes its greatest read asked for.
 #[derive(Drop)]

@@ -1,41 +1,45 @@
 //! Heads of requests and answers behind the actions of their requests.
-use crate::{HeaderFault, client_headers, is_text, server_headers};
+use crate::common::{same, text};
 use px_actions::{ActionSet, Update};
-use px_base::{List, Peer, Text};
+use px_base::{List, Mem, Peer, Text};
 use px_filter_files::{FilterFile, Filters};
 use px_head::{Field, RequestHead, ResponseHead, print_head};
+use px_headers::{ClientOut, HeaderFault, ServerOut, client_headers, is_text, server_headers};
 use px_patterns::Url;
 use px_subst::Vars;
 use px_text::logical_lines;
 use std::alloc::Global;
-use std::test::Fail;
+use std::process::Abort;
 
-fn set_of(alloc: Global, words: &[&str]) -> Option<ActionSet> {
-    let mut set = ActionSet::empty(alloc);
-    for word in words {
-        apply(alloc, &mut set, word)?;
-    }
-    Some(set)
+fn apply(rt: &impl Abort, alloc: Global, set: &mut ActionSet, word: &str) {
+    let update = Update::read(alloc, word).ok().expect(rt, "a word");
+    set.apply(&update).expect(rt, "memory");
 }
 
-fn apply(alloc: Global, set: &mut ActionSet, word: &str) -> Option<()> {
-    let update = Update::read(alloc, word).ok()?;
-    set.apply(&update).ok()
+fn set_of(rt: &impl Abort, alloc: Global, words: &[&str]) -> ActionSet {
+    let mut set = ActionSet::empty(alloc);
+    for word in words {
+        apply(rt, alloc, &mut set, word);
+    }
+    set
+}
+
+/// The filters of a file's lines.
+fn file_of(rt: &impl Abort, alloc: Global, text: &[u8]) -> FilterFile {
+    assert!(rt; text.len() <= 1000);
+    let lines = logical_lines(alloc, text).ok().expect(rt, "lines");
+    FilterFile::read(alloc, lines.as_slice())
+        .ok()
+        .expect(rt, "filters")
 }
 
 /// The filters of a file.
-fn filters_of(alloc: Global, text: &[u8]) -> Option<Filters> {
-    if text.len() > 1000 {
-        return None;
-    }
-    let lines = logical_lines(alloc, text).ok()?;
-    let file = FilterFile::read(alloc, lines.as_slice()).ok()?;
-    if file.filters.len() > 100 {
-        return None;
-    }
+fn filters_of(rt: &impl Abort, alloc: Global, text: &[u8]) -> Filters {
+    let file = file_of(rt, alloc, text);
+    assert!(rt; file.filters.len() <= 100);
     let mut files = List::new(alloc);
-    files.push(file).ok()?;
-    Filters::new(alloc, files).ok()
+    files.add(file).expect(rt, "memory");
+    Filters::new(alloc, files).ok().expect(rt, "filters")
 }
 
 fn no_vars(alloc: Global) -> Vars {
@@ -48,46 +52,80 @@ fn no_vars(alloc: Global) -> Vars {
 }
 
 /// A first line and fields, each on a line of its own.
-fn shown(alloc: Global, first_line: &[u8], fields: &[Field]) -> Option<Text> {
+fn shown(rt: &impl Abort, alloc: Global, first_line: &[u8], fields: &[Field]) -> Text {
     let mut out = Text::new(alloc);
-    print_head(first_line, fields, &mut out).ok()?;
-    Some(out)
+    print_head(first_line, fields, &mut out).expect(rt, "memory");
+    out
 }
 
-/// Where a request goes and its fields, or the name of the refusal. The client's address is 127.0.0.1.
-fn sent(alloc: Global, words: &[&str], file: &[u8], block: &[u8]) -> Option<Text> {
-    let set = set_of(alloc, words)?;
-    let filters = filters_of(alloc, file)?;
-    let Ok(mut warm) = filters.warm(alloc) else {
-        return None;
-    };
-    let mut head = RequestHead::read(alloc, block).ok()?;
-    let url = Url::read(alloc, head.target.as_bytes()).ok()?;
+/// What the actions make of a request. The client's address is 127.0.0.1.
+fn client_out(
+    rt: &impl Abort,
+    alloc: Global,
+    set: &ActionSet,
+    filters: &Filters,
+    block: &[u8],
+) -> Result<ClientOut, HeaderFault> {
+    let mut head = RequestHead::read(alloc, block).ok().expect(rt, "a head");
+    let url = Url::read(alloc, head.target.as_bytes())
+        .ok()
+        .expect(rt, "a URL");
     let peer = Peer {
-        address: Text::from_bytes(alloc, b"127.0.0.1").ok()?,
+        address: text(rt, alloc, b"127.0.0.1"),
     };
     let vars = no_vars(alloc);
-    match client_headers(
-        alloc, &mut head, url, &set, &filters, &mut warm, &vars, &peer,
-    ) {
-        Ok(out) => shown(
-            alloc,
-            out.url.print(alloc).ok()?.as_bytes(),
-            out.fields.as_slice(),
-        ),
-        Err(fault) => Text::from_bytes(alloc, fault.name().as_bytes()).ok(),
+    let mut warm = filters.warm(alloc)?;
+    client_headers(alloc, &mut head, url, set, filters, &mut warm, &vars, &peer)
+}
+
+/// Where a request goes and its fields, or the name of the refusal.
+fn sent(rt: &impl Abort, alloc: Global, words: &[&str], file: &[u8], block: &[u8]) -> Text {
+    let set = set_of(rt, alloc, words);
+    let filters = filters_of(rt, alloc, file);
+    match client_out(rt, alloc, &set, &filters, block) {
+        Ok(out) => {
+            let url = out.url.print(alloc).ok().expect(rt, "memory");
+            shown(rt, alloc, url.as_bytes(), out.fields.as_slice())
+        }
+        Err(fault) => text(rt, alloc, fault.name().as_bytes()),
     }
 }
 
+/// What the actions make of an answer, at that moment.
+fn server_out(
+    rt: &impl Abort,
+    alloc: Global,
+    set: &ActionSet,
+    filters: &Filters,
+    block: &[u8],
+    moment: u64,
+) -> Result<ServerOut, Mem> {
+    let mut head = ResponseHead::read(alloc, block).ok().expect(rt, "a head");
+    let mut warm = filters.warm(alloc)?;
+    server_headers(
+        alloc,
+        &mut head,
+        set,
+        filters,
+        &mut warm,
+        &no_vars(alloc),
+        moment,
+    )
+}
+
 /// The status line and the fields of an answer, at that moment.
-fn returned(alloc: Global, words: &[&str], file: &[u8], block: &[u8], moment: u64) -> Option<Text> {
-    let set = set_of(alloc, words)?;
-    let filters = filters_of(alloc, file)?;
-    let mut warm = filters.warm(alloc).ok()?;
-    let mut head = ResponseHead::read(alloc, block).ok()?;
-    let vars = no_vars(alloc);
-    let out = server_headers(alloc, &mut head, &set, &filters, &mut warm, &vars, moment).ok()?;
-    shown(alloc, out.first_line.as_bytes(), out.fields.as_slice())
+fn returned(
+    rt: &impl Abort,
+    alloc: Global,
+    words: &[&str],
+    file: &[u8],
+    block: &[u8],
+    moment: u64,
+) -> Text {
+    let set = set_of(rt, alloc, words);
+    let filters = filters_of(rt, alloc, file);
+    let out = server_out(rt, alloc, &set, &filters, block, moment).expect(rt, "memory");
+    shown(rt, alloc, out.first_line.as_bytes(), out.fields.as_slice())
 }
 
 /// Words of actions, a filter file, the head of a request, and where it goes with which fields.
@@ -98,35 +136,21 @@ type SentRow = (
     &'static [u8],
 );
 
-fn are_sent(alloc: Global, rows: &[SentRow]) -> bool {
+fn are_sent(rt: &impl Abort, alloc: Global, rows: &[SentRow]) {
     for (words, file, block, expected) in rows {
-        match sent(alloc, words, file, block) {
-            Some(text) => {
-                if text.as_bytes() != *expected {
-                    return false;
-                }
-            }
-            None => return false,
-        }
+        let text = sent(rt, alloc, words, file, block);
+        same(rt, text.as_bytes(), *expected);
     }
-    true
 }
 
 /// Words of actions, a filter file, the head of an answer, and what is returned.
 type ReturnedRow = SentRow;
 
-fn are_returned(alloc: Global, rows: &[ReturnedRow]) -> bool {
+fn are_returned(rt: &impl Abort, alloc: Global, rows: &[ReturnedRow]) {
     for (words, file, block, expected) in rows {
-        match returned(alloc, words, file, block, 1_000_000_000) {
-            Some(text) => {
-                if text.as_bytes() != *expected {
-                    return false;
-                }
-            }
-            None => return false,
-        }
+        let text = returned(rt, alloc, words, file, block, 1_000_000_000);
+        same(rt, text.as_bytes(), *expected);
     }
-    true
 }
 
 const NOTHING: &[&str] = &[];
@@ -157,7 +181,7 @@ const HELD_BACK: &[SentRow] = &[
 
 #[test]
 fn fields_of_one_connection_and_those_that_it_names_are_not_sent_on(rt: HostRuntime) {
-    assert!(rt; are_sent(rt.alloc(), HELD_BACK));
+    are_sent(&rt, rt.alloc(), HELD_BACK);
 }
 
 const REFERRERS: &[SentRow] = &[
@@ -195,7 +219,7 @@ const REFERRERS: &[SentRow] = &[
 
 #[test]
 fn referrers_are_hidden(rt: HostRuntime) {
-    assert!(rt; are_sent(rt.alloc(), REFERRERS));
+    are_sent(&rt, rt.alloc(), REFERRERS);
 }
 
 const CLIENT_ROWS: &[SentRow] = &[
@@ -241,7 +265,7 @@ const CLIENT_ROWS: &[SentRow] = &[
 
 #[test]
 fn actions_change_the_fields_of_a_request(rt: HostRuntime) {
-    assert!(rt; are_sent(rt.alloc(), CLIENT_ROWS));
+    are_sent(&rt, rt.alloc(), CLIENT_ROWS);
 }
 
 const REWRITES: &[SentRow] = &[
@@ -279,7 +303,7 @@ const REWRITES: &[SentRow] = &[
 
 #[test]
 fn a_rewritten_request_line_leads_elsewhere_or_is_refused(rt: HostRuntime) {
-    assert!(rt; are_sent(rt.alloc(), REWRITES));
+    are_sent(&rt, rt.alloc(), REWRITES);
 }
 
 const SERVER_FILTERS: &[ReturnedRow] = &[
@@ -311,7 +335,7 @@ const SERVER_FILTERS: &[ReturnedRow] = &[
 
 #[test]
 fn what_header_filters_make_is_read_again(rt: HostRuntime) {
-    assert!(rt; are_returned(rt.alloc(), SERVER_FILTERS));
+    are_returned(&rt, rt.alloc(), SERVER_FILTERS);
 }
 
 const CAPPED: &[ReturnedRow] = &[
@@ -337,7 +361,7 @@ const CAPPED: &[ReturnedRow] = &[
 
 #[test]
 fn cookies_live_no_longer_than_the_cap(rt: HostRuntime) {
-    assert!(rt; are_returned(rt.alloc(), CAPPED));
+    are_returned(&rt, rt.alloc(), CAPPED);
 }
 
 const COOKIES: &[ReturnedRow] = &[
@@ -363,7 +387,7 @@ const COOKIES: &[ReturnedRow] = &[
 
 #[test]
 fn cookies_of_a_session_have_no_lifetime(rt: HostRuntime) {
-    assert!(rt; are_returned(rt.alloc(), COOKIES));
+    are_returned(&rt, rt.alloc(), COOKIES);
 }
 
 const SERVER_ROWS: &[ReturnedRow] = &[
@@ -392,11 +416,11 @@ const SERVER_ROWS: &[ReturnedRow] = &[
 
 #[test]
 fn actions_change_the_fields_of_an_answer(rt: HostRuntime) {
-    assert!(rt; are_returned(rt.alloc(), SERVER_ROWS));
+    are_returned(&rt, rt.alloc(), SERVER_ROWS);
 }
 
 #[test]
-fn past_the_year_9999_no_date_is_set(rt: HostRuntime) -> Result<(), Fail> {
+fn past_the_year_9999_no_date_is_set(rt: HostRuntime) {
     let words = [
         "+overwrite-last-modified{reset-to-request-time}",
         "+limit-cookie-lifetime{1}",
@@ -414,16 +438,15 @@ fn past_the_year_9999_no_date_is_set(rt: HostRuntime) -> Result<(), Fail> {
         (u64::MAX, block),
     ];
     for (moment, expected) in rows {
-        let text = returned(rt.alloc(), &words, b"", block, moment).ok_or("no answer")?;
-        assert_eq!(rt; text.as_bytes(), expected);
+        let text = returned(&rt, rt.alloc(), &words, b"", block, moment);
+        same(&rt, text.as_bytes(), expected);
     }
-    Ok(())
 }
 
-fn is_text_of(alloc: Global, words: &[&str], block: &[u8]) -> Option<bool> {
-    let set = set_of(alloc, words)?;
-    let head = ResponseHead::read(alloc, block).ok()?;
-    Some(is_text(head.fields.as_slice(), &set))
+fn is_text_of(rt: &impl Abort, alloc: Global, words: &[&str], block: &[u8]) -> bool {
+    let set = set_of(rt, alloc, words);
+    let head = ResponseHead::read(alloc, block).ok().expect(rt, "a head");
+    is_text(head.fields.as_slice(), &set)
 }
 
 #[test]
@@ -447,16 +470,14 @@ fn a_text_is_known_by_its_first_content_type(rt: HostRuntime) {
         (b"HTTP/1.1 200 OK\r\n\r\n", false),
     ];
     for (block, is) in rows {
-        assert_eq!(rt; is_text_of(rt.alloc(), &[], block), Some(is));
-        assert_eq!(rt;
-            is_text_of(rt.alloc(), &["+force-text-mode"], block),
-            Some(true)
-        );
+        let plain = is_text_of(&rt, rt.alloc(), &[], block);
+        let forced = is_text_of(&rt, rt.alloc(), &["+force-text-mode"], block);
+        same(&rt, (plain, forced), (is, true));
     }
 }
 
 #[test]
 fn the_refusal_has_its_number_and_name(rt: HostRuntime) {
-    assert_eq!(rt; HeaderFault::BadRewrite.number(), 41);
-    assert_eq!(rt; HeaderFault::BadRewrite.name(), "BadRewrite");
+    let fault = HeaderFault::BadRewrite;
+    same(&rt, (fault.number(), fault.name()), (41, "BadRewrite"));
 }

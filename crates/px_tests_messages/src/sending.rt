@@ -1,8 +1,8 @@
 //! Messages over tapes, and heads.
-use crate::{Message, NextHead, Sent, expects_continue, next_head, send};
 use px_base::{List, TapeIn, TapeOut, Text};
 use px_framing::BodyRule;
 use px_head::Field;
+use px_sending::{Message, NextHead, Sent, expects_continue, next_head, send};
 use px_streams::{Ahead, fill};
 use std::alloc::Global;
 use std::process::Abort;

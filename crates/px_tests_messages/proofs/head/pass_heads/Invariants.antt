@@ -1,6 +1,6 @@
 use Rattle.std.proofs.Common.{◌-◌, ◌≤◌, length, drop}
 use Rattle.px_head.specs.Searches.{BeginsSearched}
-use Rattle.px_head.proofs.tests.pass_heads.Given as goal
+use Rattle.px_tests_messages.proofs.head.pass_heads.Given as goal
 
 abbrev pub invariant-heads : goal.invariant-heads
 invariant-heads l = record {
