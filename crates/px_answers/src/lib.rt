@@ -19,6 +19,3 @@ pub use forms::{Form, Framed, Outcome, Returned};
 pub use framings::{BodyPlan, HeaderLines, Terms};
 pub use laws::settled_at_end;
 pub use passages::Passage;
-
-#[cfg(test)]
-mod tests;

@@ -47,6 +47,3 @@ pub use steps::Steps;
 pub use tape_in::TapeIn;
 pub use tape_out::TapeOut;
 pub use texts::Text;
-
-#[cfg(test)]
-mod tests;

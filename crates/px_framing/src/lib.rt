@@ -20,8 +20,6 @@ mod places;
 mod readers;
 mod rules;
 mod stages;
-#[cfg(test)]
-mod tests;
 
 pub use codings::{codings as transfer_codings, is_chunked_alone};
 pub use extracts::data_of_whole;

@@ -7,8 +7,6 @@ mod draws;
 mod files;
 mod jobs;
 mod sessions;
-#[cfg(test)]
-mod tests;
 
 pub use draws::Draws;
 pub use files::{MAIN_FILE, job_files};

@@ -11,8 +11,6 @@ mod prints;
 mod requests;
 mod responses;
 mod searches;
-#[cfg(test)]
-mod tests;
 
 pub use blocks::{HeadEnd, find_head};
 pub use faults::{HeadFault, TOO_LONG_NAME, TOO_LONG_NUMBER};

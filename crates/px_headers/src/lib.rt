@@ -14,8 +14,6 @@ mod rewrites;
 mod rows;
 mod server;
 mod server_rows;
-#[cfg(test)]
-mod tests;
 
 pub use client::{ClientOut, client_headers};
 pub use faults::HeaderFault;

@@ -11,8 +11,6 @@ mod readers;
 mod receipts;
 mod rules;
 mod shared;
-#[cfg(test)]
-mod tests;
 mod writers;
 
 pub use configs::{Configs, CountFull, Snapshot};

@@ -6,8 +6,6 @@ mod heads;
 mod messages;
 mod pieces;
 mod sends;
-#[cfg(test)]
-mod tests;
 
 pub use heads::{NextHead, expects_continue, next_head};
 pub use messages::{Message, Sent};

@@ -9,6 +9,3 @@ mod socket_dialers;
 pub use ends::{READ_SECONDS, SocketSink, SocketSource, both_ends};
 pub use listeners::{Caller, CallerFault, SocketListener};
 pub use socket_dialers::SocketDialer;
-
-#[cfg(test)]
-mod tests;

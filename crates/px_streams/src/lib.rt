@@ -15,6 +15,3 @@ pub use fronts::{Front, read_front};
 pub fn constants()
     ensures { PIECE ≡ 8192 }
 {}
-
-#[cfg(test)]
-mod tests;

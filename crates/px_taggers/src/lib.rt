@@ -7,6 +7,3 @@ mod tags;
 mod turns;
 
 pub use lines::{has_taggers, tag_headers, tag_headers_with};
-
-#[cfg(test)]
-mod tests;

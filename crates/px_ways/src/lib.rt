@@ -6,8 +6,3 @@ mod ways;
 
 pub use directions::{DIRECTION_LIMIT, Stop, carry_direction, constants};
 pub use ways::{Carried, Way, carry};
-
-#[cfg(test)]
-mod tests;
-#[cfg(test)]
-mod waiting_tests;

@@ -1,0 +1,17 @@
+//! Tests of the crates of the outside: objects in memory, the adapters over the system, tunnels, publishing, sockets, generated jobs.
+#![tactic(auto)]
+
+#[cfg(test)]
+mod base;
+#[cfg(test)]
+mod common;
+#[cfg(test)]
+mod generated;
+#[cfg(test)]
+mod publish;
+#[cfg(test)]
+mod sockets;
+#[cfg(test)]
+mod waiting;
+#[cfg(test)]
+mod ways;
