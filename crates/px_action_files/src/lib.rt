@@ -18,6 +18,3 @@ pub use files::ActionFile;
 pub use laws::numbers_name_refusals;
 pub use patterns::Pattern;
 pub use sections::Section;
-
-#[cfg(test)]
-mod tests;

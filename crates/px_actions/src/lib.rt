@@ -25,6 +25,3 @@ pub use sets::ActionSet;
 pub use settings::{Setting, add_once};
 pub use updates::{Sign, Update};
 pub use values::{added_field, allowed_ports, lifetime_minutes, override_hop, value_text};
-
-#[cfg(test)]
-mod tests;

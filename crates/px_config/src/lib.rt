@@ -18,8 +18,6 @@ mod sets;
 mod settings;
 mod spelling;
 mod templates;
-#[cfg(test)]
-mod tests;
 mod warm;
 
 pub use actions::PATTERN_LIMIT;

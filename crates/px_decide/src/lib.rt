@@ -8,8 +8,6 @@ mod redirects;
 mod routes;
 mod routing;
 mod targets;
-#[cfg(test)]
-mod tests;
 mod words;
 
 pub use decisions::{Decision, decide};

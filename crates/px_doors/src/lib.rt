@@ -10,6 +10,3 @@ pub use conns::{Conn, Parted};
 pub use doors::{AcceptFault, Doors};
 pub use mem_doors::{MemConn, MemDoors, MemParted};
 pub use socket_doors::{SocketConn, SocketDoors, SocketParted};
-
-#[cfg(test)]
-mod tests;

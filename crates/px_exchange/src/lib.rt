@@ -16,6 +16,3 @@ pub use px_pumps::{After, Asked, Conclusion, Ending, Flow, Pump};
 pub use px_streams::Feed;
 pub use px_templates::Page;
 pub use px_ways::Way;
-
-#[cfg(test)]
-mod tests;

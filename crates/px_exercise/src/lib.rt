@@ -6,8 +6,6 @@ mod counts;
 mod exercises;
 mod faults;
 mod runs;
-#[cfg(test)]
-mod tests;
 
 pub use exercises::exercise;
 pub use faults::ExerciseFault;

@@ -6,8 +6,6 @@ mod files;
 mod filters;
 mod kinds;
 mod places;
-#[cfg(test)]
-mod tests;
 mod warm_filters;
 
 pub use faults::FilterFault;

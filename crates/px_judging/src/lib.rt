@@ -18,6 +18,3 @@ pub use judging::judge;
 pub use px_answers::Asked;
 pub use readings::{HeadSeen, Reading, read_request};
 pub use replies::{LocalReply, ReplyKind, reply_bytes, url_symbols};
-
-#[cfg(test)]
-mod tests;

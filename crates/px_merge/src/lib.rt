@@ -25,6 +25,3 @@ pub use places::{Placed, SectionCounts, SectionRef};
 pub use sections::Sections;
 pub use sides::Side;
 pub use warm::Warm;
-
-#[cfg(test)]
-mod tests;

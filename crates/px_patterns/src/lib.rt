@@ -13,8 +13,6 @@ mod labels;
 mod pattern_readings;
 mod patterns;
 mod places;
-#[cfg(test)]
-mod tests;
 mod unions;
 mod url_readings;
 mod urls;

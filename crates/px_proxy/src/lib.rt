@@ -5,6 +5,3 @@ mod serving;
 
 pub use px_doors::{Conn, Doors, Parted};
 pub use serving::{ServeEnd, serve_in_turn};
-
-#[cfg(test)]
-mod tests;

@@ -14,6 +14,3 @@ pub use sessions::{Session, serve_connection};
 pub fn constants()
     ensures { REQUEST_LIMIT ≡ 100 }
 {}
-
-#[cfg(test)]
-mod tests;

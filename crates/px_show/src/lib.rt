@@ -4,8 +4,6 @@
 mod checks;
 mod places;
 mod shows;
-#[cfg(test)]
-mod tests;
 
 pub use checks::check;
 pub use shows::show;

@@ -12,8 +12,6 @@ mod kept_jobs;
 mod outcomes;
 mod replacers;
 mod searches;
-#[cfg(test)]
-mod tests;
 mod worded;
 mod words;
 

@@ -14,8 +14,6 @@ mod replies;
 mod runs;
 mod symbols;
 mod templates;
-#[cfg(test)]
-mod tests;
 
 pub use assembling::included_names;
 pub use faults::TemplateFault;

@@ -7,8 +7,6 @@ mod faults;
 mod joinings;
 mod lines;
 mod parts;
-#[cfg(test)]
-mod tests;
 
 pub use faults::TextFault;
 pub use lines::{Line, logical_lines};

@@ -1,0 +1,18 @@
+//! What the tests share. Each is a function of its own, since an assertion is dear to prove in the body of a long test.
+use std::fmt::Debug;
+use std::process::Abort;
+
+/// Asserts that two values are equal.
+pub fn same<T: Copy + PartialEq + Debug>(rt: &impl Abort, seen: T, expected: T) {
+    assert_eq!(rt; seen, expected);
+}
+
+/// Asserts that two values are equal, in the row of a table that begins so.
+pub fn same_at<L: Copy + Debug, T: Copy + PartialEq + Debug>(
+    rt: &impl Abort,
+    row: L,
+    seen: T,
+    expected: T,
+) {
+    assert_eq!(rt; seen, expected, "at {row:?}");
+}
