@@ -5,6 +5,7 @@
 mod counts;
 mod exercises;
 mod faults;
+mod returns;
 mod runs;
 #[cfg(test)]
 mod tests;
