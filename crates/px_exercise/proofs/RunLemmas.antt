@@ -13,7 +13,7 @@ use Rattle.px_base.specs.Sources.{SourceGoesOn, SourceState, fresh_source}
 use Rattle.px_config.specs.declared.configs.Config.{Config}
 use Rattle.px_publish.specs.Views.{Entry}
 use Rattle.px_exchange.specs.declared.notes.ExchangeNote.{ExchangeNote}
-use Rattle.px_serve.specs.Ends.{ReadEndCause}
+use Rattle.px_serve.specs.Ends.{ReadEndCause, WriteEndCause}
 use Rattle.px_serve.specs.Histories.{Begun, Looks, Take, entry_of, firsts, moment_of}
 use Rattle.px_serve.specs.Sessions.{Caller, Objects, Serves}
 use Rattle.px_serve.specs.declared.ends.SessionEnd.{SessionEnd}
@@ -60,13 +60,19 @@ no_read_failed i i' e steady none on cause is =
     let rose : Rose i.faults i'.faults = subst (ReadEndCause i i') is cause in
     omega (arith, (on.steady_kept steady).1, none, rose)
 
+-- nor does a sink whose count stays 0
+no_write_failed : (o o' : SinkState) (e : SessionEnd) → o.faults ≡ 0 → o'.faults ≡ 0 → WriteEndCause o o' e → e ≢ end.WriteFailed
+no_write_failed o o' e before behind cause is =
+    let rose : Rose o.faults o'.faults = subst (WriteEndCause o o') is cause in
+    omega (arith, before, behind, rose)
+
 -- a session that was served over memory
 pub is_run : {config : Config} {session : JobSession} {caller : Caller} {looks looks' : Looks} {i i' : SourceState} {o o' : SinkState} {d d' : DialerState} {t t' : ClockState} {notes : List ExchangeNote} {e : SessionEnd}
     → Serves caller looks looks' i i' (record { client_out = o; dialer = d; clock = t }) (record { client_out = o'; dialer = d'; clock = t' }) notes e
     → caller ≡ client → IsTrue looks.tells → GivesOnly config looks.coming → i ≡ fresh_source session.input true → IsTrue o.tells → o.taken ≡ [] → d ≡ fresh_dialer session.answers
-    → IsTrue t.tells → ((k : ℕ) → t.coming k ≡ 0) → e ≢ end.NoMemory → e ≢ end.WriteFailed → SourceGoesOn i i' → ReadEndCause i i' e
+    → IsTrue t.tells → ((k : ℕ) → t.coming k ≡ 0) → e ≢ end.NoMemory → o.faults ≡ 0 → o'.faults ≡ 0 → SourceGoesOn i i' → ReadEndCause i i' e → WriteEndCause o o' e
     → IsRun config session (record { notes = notes; taken = o'.taken })
-is_run {config = config} {looks = looks} {looks' = looks'} {i = i} {i' = i'} {d' = d'} {t = t} {t' = t'} {e = e} serves caller_is looks_tell only source_is out_tells none dialer_is clock_tells zeros memory no_write_failed on cause = record {
+is_run {config = config} {looks = looks} {looks' = looks'} {i = i} {i' = i'} {o = o} {o' = o'} {d' = d'} {t = t} {t' = t'} {e = e} serves caller_is looks_tell only source_is out_tells none dialer_is clock_tells zeros memory before behind on cause write_cause = record {
   begun = serves.begun;
   notes_are = serves.notes_are;
   uses = all_use_only config looks.coming looks'.coming t.coming t'.coming serves.begun only zeros (serves.noted.entries looks_tell) (serves.noted.moments clock_tells);
@@ -76,7 +82,7 @@ is_run {config = config} {looks = looks} {looks' = looks'} {i = i} {i' = i'} {d'
   served = rw (caller_is, none, dialer_is, source_is) at (serves.session (record { client_in = ap (λ (s : SourceState). s.tells) source_is; client_out = out_tells; dialer = ap (λ (x : DialerState). x.tells) dialer_is }));
   memory = memory;
   no_read_failed = no_read_failed i i' e (ap (λ (s : SourceState). s.steady) source_is) (ap (λ (s : SourceState). s.faults) source_is) on cause;
-  no_write_failed = no_write_failed;
+  no_write_failed = no_write_failed o o' e before behind write_cause;
 }
 
 -- behind a session each look still gives that configuration

@@ -29,10 +29,9 @@ pub record Exercises (number : ℕ) (text : List ℕ) : Type 0 where
   pub runs : AreRunsOf config number total
   pub text_is : text ≡ lines total
 
--- a fault of the files is the one that they spell; want of memory and the fault of a sink have no cause in the number
+-- a fault of the files is the one that they spell; want of memory has no cause in the number
 abbrev pub IsExerciseFault : ℕ → ExerciseFault → Type 0
 IsExerciseFault number (fault.NotLoaded (load.Spelled file line refusal)) = job_spelled number ≡ fault_at file line refusal
 IsExerciseFault number (fault.NotLoaded (load.Read file)) = ⊥
 IsExerciseFault number (fault.NotLoaded load.Mem) = ⊥
-IsExerciseFault number fault.SinkFailed = Unit {0}
 IsExerciseFault number fault.Mem = Unit {0}

@@ -9,9 +9,3 @@ abbrev pub fault_of : LoadFault → ExerciseFault
 fault_of (load.Spelled file line number) = fault.NotLoaded (load.Spelled file line number)
 fault_of (load.Read file) = fault.NotLoaded (load.Read file)
 fault_of load.Mem = fault.Mem
-
--- a fault of a session, and none of the files
-abbrev pub IsUnserved : ExerciseFault → Type 0
-IsUnserved (fault.NotLoaded f) = ⊥
-IsUnserved fault.SinkFailed = Unit {0}
-IsUnserved fault.Mem = Unit {0}

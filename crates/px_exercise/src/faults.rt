@@ -7,8 +7,6 @@ use px_config::LoadFault;
 pub enum ExerciseFault {
     /// The job's files don't spell a configuration. The fault is `Spelled`.
     NotLoaded(LoadFault),
-    /// The sink of a session's client failed.
-    SinkFailed,
     /// Want of memory.
     Mem,
 }

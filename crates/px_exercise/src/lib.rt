@@ -5,6 +5,7 @@
 mod counts;
 mod exercises;
 mod faults;
+mod returns;
 mod runs;
 
 pub use exercises::exercise;

@@ -1,11 +1,10 @@
 // The sessions of the job, each over memory.
-ghost use Rattle.std.specs.Prelude.{◌≡◌, ◌+◌, ◌<◌, ◌≤◌, ◌^◌, ◌++◌, [], ℕ, IfErr, IfOk, OnOk, length, true};
+ghost use Rattle.std.specs.Prelude.{◌≡◌, ◌+◌, ◌<◌, ◌≤◌, ◌^◌, ◌++◌, [], ℕ, IfOk, OnOk, length, true};
 ghost use Rattle.px_generated.specs.Jobs.{draws_before};
-ghost use Rattle.px_exercise.specs.Faults.{IsUnserved};
 ghost use Rattle.px_exercise.specs.Runs.{AreRunsOf, GivesOnly, HasRun, IsRun, total_of};
 
-use crate::ExerciseFault;
-use px_base::{Clock, FixedClock, List, Mem, MemDialer, Peer, TapeIn, TapeOut, Text};
+use crate::returns::Returns;
+use px_base::{Clock, FixedClock, List, Mem, MemDialer, Peer, TapeIn, Text};
 use px_config::Config;
 use px_exchange::ExchangeNote;
 use px_generated::{Draws, JobSession, SESSIONS, job_session, sessions_in_order};
@@ -87,23 +86,22 @@ fn fixed_clock(alloc: Global, moment: u64) -> Result<FixedClock, Mem>
     Ok(FixedClock::new(moments))
 }
 
-/// Runs a session by itself, over tapes in one piece that don't fail.
+/// Runs a session by itself, over bytes in one piece and a sink that don't fail.
 fn run_session<R: Threads + Sync>(
     alloc: Global,
     way: &Way<'_, R>,
     configs: &mut FixedConfig<Config>,
     session: JobSession,
-) -> Result<Run, ExerciseFault>
+) -> Result<Run, Mem>
     ensures run { (config : Config) → GivesOnly config (⟦<FixedConfig<Config> as Configs>⟧.coming configs.old) → IfOk result (IsRun config session) }
     ensures fixed { (config : Config) → GivesOnly config (⟦<FixedConfig<Config> as Configs>⟧.coming configs.old) → OnOk result (GivesOnly config (⟦<FixedConfig<Config> as Configs>⟧.coming configs.new)) }
-    ensures refused { IfErr result IsUnserved }
 {
     let JobSession { input, answers } = session;
     let peer = Peer {
         address: Text::from_bytes(alloc, CLIENT)?,
     };
     let mut client_in = TapeIn::new(alloc, input.as_bytes(), &[], &[])?;
-    let mut client_out = TapeOut::new(alloc, &[], &[])?;
+    let mut client_out = Returns::new(alloc);
     let mut dialer = MemDialer::new(alloc, answers)?;
     let mut clock = fixed_clock(alloc, MOMENT)?;
     let served = serve_connection(
@@ -118,10 +116,7 @@ fn run_session<R: Threads + Sync>(
         &[],
     );
     if served.end == SessionEnd::NoMemory {
-        return Err(ExerciseFault::Mem);
-    }
-    if served.end == SessionEnd::WriteFailed {
-        return Err(ExerciseFault::SinkFailed);
+        return Err(Mem);
     }
     Ok(Run {
         notes: served.exchanges,
@@ -136,13 +131,12 @@ fn run_next<R: Threads + Sync>(
     configs: &mut FixedConfig<Config>,
     draws: &mut Draws,
     total: &mut Total,
-) -> Result<(), ExerciseFault>
+) -> Result<(), Mem>
     requires room { total.old.returned + 2 ^ 64 ≤ 2 ^ 128 }
     ensures next { (config : Config) (number count : ℕ)
         → HasRun config number count (⟦<FixedConfig<Config> as Configs>⟧.coming configs.old) draws.old total.old
         → OnOk result (HasRun config number (count + 1) (⟦<FixedConfig<Config> as Configs>⟧.coming configs.new) draws.new total.new) }
     ensures within { total.new.returned < total.old.returned + 2 ^ 64 }
-    ensures refused { IfErr result IsUnserved }
 {
     sessions_in_order();
     let session = job_session(alloc, draws)?;
@@ -157,9 +151,8 @@ pub fn run_all<R: Threads + Sync>(
     way: &Way<'_, R>,
     config: Config,
     mut draws: Draws,
-) -> Result<Total, ExerciseFault>
+) -> Result<Total, Mem>
     ensures runs { (number : ℕ) → draws ≡ draws_before 0 number → IfOk result (AreRunsOf config number) }
-    ensures refused { IfErr result IsUnserved }
 {
     sessions_in_order();
     let mut configs = fixed_config(alloc, config)?;

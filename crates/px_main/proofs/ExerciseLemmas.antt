@@ -28,17 +28,11 @@ pub exercise_fails : (number : ℕ) (f : FilesState) (i : SourceState) (o e e' :
     → RunsExercise number (record { files = f; input = i; out = o; errors = e; clock = t }) (record { files = f; input = i; out = o; errors = e'; clock = t }) s
 exercise_fails number f i o e e' t load_fault s is (inl reported) =
     inr (inl (record { load_fault = load_fault; is_fault = is; reports = reports_by f f i o e e' t (fault_text load_fault) (load_status load_fault) s (λ told name. refl) reported.0 reported.1 }))
-exercise_fails number f i o e e' t load_fault s is (inr wants) = inr (inr (inr (gives_up f f i o e e' t s (λ told name. refl) wants.0 wants.1)))
-
--- a session's sink failed
-pub exercise_unserved : (number : ℕ) (f : FilesState) (i : SourceState) (o e : SinkState) (t : ClockState)
-    → RunsExercise number (record { files = f; input = i; out = o; errors = e; clock = t }) (record { files = f; input = i; out = o; errors = e; clock = t }) status.WriteFailed
-exercise_unserved number f i o e t =
-    inr (inr (inl (record { failed = refl; same = record { untouched = record { files = λ told name. refl; input = refl; out = refl; clock = refl }; errors = refl } })))
+exercise_fails number f i o e e' t load_fault s is (inr wants) = inr (inr (gives_up f f i o e e' t s (λ told name. refl) wants.0 wants.1))
 
 -- memory was wanting
 pub exercise_wants : (number : ℕ) (f : FilesState) (i : SourceState) (o e : SinkState) (t : ClockState)
     → RunsExercise number (record { files = f; input = i; out = o; errors = e; clock = t }) (record { files = f; input = i; out = o; errors = e; clock = t }) status.NoMemory
-exercise_wants number f i o e t = inr (inr (inr (gives_up f f i o e e t status.NoMemory (λ told name. refl) refl refl)))
+exercise_wants number f i o e t = inr (inr (gives_up f f i o e e t status.NoMemory (λ told name. refl) refl refl))
 
-pub ruleset exercise_rules = (exercise_prints, exercise_fails, exercise_unserved, exercise_wants)
+pub ruleset exercise_rules = (exercise_prints, exercise_fails, exercise_wants)

@@ -5,9 +5,8 @@ use Rattle.px_config.specs.declared.faults.LoadFault.{LoadFault}
 use Rattle.px_exercise.specs.Exercises.{Exercises, IsExerciseFault}
 use Rattle.px_exercise.specs.declared.faults.ExerciseFault.TheVariants as fault
 use Rattle.px_main.specs.declared.statuses.Status.{Status}
-use Rattle.px_main.specs.declared.statuses.Status.TheVariants as status
 use Rattle.px_main.specs.Loads.{Prints, load_status}
-use Rattle.px_main.specs.Passes.{GivesUp, IsSame, Outside, Reports}
+use Rattle.px_main.specs.Passes.{GivesUp, Outside, Reports}
 
 -- the five lines of the job of a number were printed
 pub record Printed (number : ℕ) (old new : Outside) (s : Status) : Type 0 where
@@ -21,11 +20,6 @@ pub record FailsToLoadJob (number : ℕ) (old new : Outside) (s : Status) : Type
   pub is_fault : IsExerciseFault number (fault.NotLoaded load_fault)
   pub reports : Reports old new (fault_text load_fault) (load_status load_fault) s
 
--- a session's sink in memory failed
-pub record FailsToServe (old new : Outside) (s : Status) : Type 0 where
-  pub failed : s ≡ status.WriteFailed
-  pub same : IsSame old new
-
 -- with the words of `exercise`
 abbrev pub RunsExercise : ℕ → Outside → Outside → Status → Type 0
-RunsExercise number old new s = Printed number old new s ⊎ (FailsToLoadJob number old new s ⊎ (FailsToServe old new s ⊎ GivesUp old new s))
+RunsExercise number old new s = Printed number old new s ⊎ (FailsToLoadJob number old new s ⊎ GivesUp old new s)

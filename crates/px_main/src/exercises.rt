@@ -32,7 +32,6 @@ pub fn run_exercise<R: Threads + Sync, O: Sink, E: Sink>(
     match exercise(alloc, way, number) {
         Ok(text) => report(out, text.as_bytes(), Status::Done),
         Err(ExerciseFault::NotLoaded(fault)) => report_load(alloc, err, &fault),
-        Err(ExerciseFault::SinkFailed) => Status::WriteFailed,
         Err(ExerciseFault::Mem) => Status::NoMemory,
     }
 }

@@ -12,7 +12,6 @@ fn lines_of_seven<R: Threads + Sync>(alloc: Global, way: &Way<'_, R>) -> Result<
     match exercise(alloc, way, 7) {
         Ok(text) => Ok(text),
         Err(ExerciseFault::NotLoaded(_)) => Err(Fail::new("the files of the job don't load")),
-        Err(ExerciseFault::SinkFailed) => Err(Fail::new("a sink failed")),
         Err(ExerciseFault::Mem) => Err(Fail::new("memory was wanting")),
     }
 }

@@ -1,5 +1,4 @@
 use Rattle.std.proofs.Common.{rules, refl, ap, ◌∙◌, ◌≢◌, List, ℕ, true}
-use Rattle.px_base.specs.Sinks.{SinkState}
 use Rattle.px_base.specs.Sources.{fresh_source}
 use Rattle.px_serve.specs.declared.ends.SessionEnd.TheVariants as end
 use Rattle.px_exercise.proofs.RunLemmas.{fixed_behind, is_run}
@@ -9,12 +8,11 @@ pub returns-clause-run : goal.returns-clause-run
 returns-clause-run g c config only =
     let served = c.serve_connection-served.ensures in
     let memory : c.serve_connection-served.result.end ≢ end.NoMemory = search rules in
-    let no_write_failed : c.serve_connection-served.result.end ≢ end.WriteFailed = search rules in
     rw c.into_taken.ensures (is_run served.serves (rw c.in_ok-from_bytes.ensures refl) refl only
     (c.in_ok-client_in.ensures ∙ ap (λ (bytes : List ℕ). fresh_source bytes true) c.as_bytes.ensures)
-    refl (ap (λ (s : SinkState). s.taken) c.in_ok-client_out.ensures) c.in_ok-dialer.ensures.state
+    refl c.new-client_out.ensures c.in_ok-dialer.ensures.state
     c.in_ok-clock.ensures.tells c.in_ok-clock.ensures.coming
-    memory no_write_failed served.in_goes_on served.read_cause)
+    memory refl refl served.in_goes_on served.read_cause served.write_cause)
 
 pub returns-clause-fixed : goal.returns-clause-fixed
 returns-clause-fixed g c config only = fixed_behind c.serve_connection-served.ensures.serves refl only

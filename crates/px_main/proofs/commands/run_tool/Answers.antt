@@ -85,7 +85,7 @@ returns-in-Err-parse_exercise-clause-runs g c = record {
   runs = inr (inr (inr (inr (record {
     number = c.in-Some-read_exercise.number;
     is_exercise = c.in-Some-read_exercise.ensures.exercise;
-    runs = inr (inr (inr (same_for_memory (g.F.Files.state c.args.files.now) (g.S.Source.state c.args.input.now) (g.O.Sink.state c.args.out.now) (g.E.Sink.state c.args.err.now) (g.T.Clock.state c.args.clock.now))));
+    runs = inr (inr (same_for_memory (g.F.Files.state c.args.files.now) (g.S.Source.state c.args.input.now) (g.O.Sink.state c.args.out.now) (g.E.Sink.state c.args.err.now) (g.T.Clock.state c.args.clock.now)));
   }))));
 }
 
