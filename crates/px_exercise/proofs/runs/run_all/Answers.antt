@@ -10,7 +10,9 @@ sessions-preserved g c =
       room = omega (arith, next.within, c.sessions.invariant.room);
     }
 
-pub returns-clause-runs : goal.returns-clause-runs
-returns-clause-runs g c number is =
-    let ten : c.sessions.counter ≡ 10 = omega arith in
-    are_runs_of (c.sessions.invariant.so_far number is) ten (c.sessions_in_order.ensures.all number)
+pub returns : goal.returns
+returns g c = record {
+  runs = λ number is.
+      let ten : c.sessions.counter ≡ 10 = omega arith in
+      are_runs_of (c.sessions.invariant.so_far number is) ten (c.sessions_in_order.ensures.all number);
+}
