@@ -18,6 +18,9 @@ import time
 LARGE = bytes(range(256)) * 40960
 WAIT = 20
 
+# Half of an answer, and of a body, that comes in two steps.
+HALF = 40000
+
 # A page with an image that is there to count readers, and what conf/ makes of it.
 PAGE = b'<p>Hello<img src="/count.gif" width="1" height="1"></p>'
 CLEAN = b"<p>Hello<!-- tiny image taken out --></p>"
@@ -80,6 +83,34 @@ class EchoHandler(threading.Thread):
             with link:
                 while piece := link.recv(65536):
                     link.sendall(piece)
+
+
+class StepOrigin(threading.Thread):
+    """An origin that sends the second half of an answer once its client has the first, and tells when it has the first half of a body."""
+
+    def __init__(self):
+        super().__init__(daemon=True)
+        self.listener = socket.create_server(("127.0.0.1", 0))
+        self.port = self.listener.getsockname()[1]
+        self.has_first_half = threading.Event()
+        self.client_has_first_half = threading.Event()
+
+    def run(self):
+        while True:
+            link, _ = self.listener.accept()
+            with link, link.makefile("rb") as lines:
+                posted = lines.readline().startswith(b"POST")
+                while lines.readline() not in (b"\r\n", b""):
+                    pass
+                if posted:
+                    lines.read(HALF)
+                    self.has_first_half.set()
+                    lines.read(HALF)
+                    link.sendall(b"HTTP/1.1 200 OK\r\nContent-Length: 2\r\n\r\nok")
+                else:
+                    link.sendall(b"HTTP/1.1 200 OK\r\nContent-Length: %d\r\n\r\n" % (2 * HALF) + b"a" * HALF)
+                    self.client_has_first_half.wait(WAIT)
+                    link.sendall(b"b" * HALF)
 
 
 def free_port():
@@ -169,6 +200,28 @@ def tunnel(port, echo):
         check("a tunnel's end", read_all(link) == b"")
 
 
+def in_steps(port):
+    """Each piece of an answer and of a body is handed on before the next one is there: at most 16,384 bytes are held."""
+    origin = StepOrigin()
+    origin.start()
+    with socket.create_connection(("127.0.0.1", port), timeout=WAIT) as link:
+        link.sendall(b"GET http://127.0.0.1:%d/ HTTP/1.1\r\nConnection: close\r\n\r\n" % origin.port)
+        got = b""
+        try:
+            while got.count(b"a") < HALF - 16384:
+                got += link.recv(65536)
+        except socket.timeout:
+            pass
+        check("the first half of an answer before the second", not got.endswith(b"b") and got.count(b"a") >= HALF - 16384)
+        origin.client_has_first_half.set()
+        check("the second half of an answer", (got + read_all(link)).endswith(b"a" * HALF + b"b" * HALF))
+    with socket.create_connection(("127.0.0.1", port), timeout=WAIT) as link:
+        link.sendall(b"POST http://127.0.0.1:%d/ HTTP/1.1\r\nConnection: close\r\nContent-Length: %d\r\n\r\n" % (origin.port, 2 * HALF) + b"a" * HALF)
+        check("the first half of a body before the second", origin.has_first_half.wait(WAIT))
+        link.sendall(b"b" * HALF)
+        check("the answer behind a body", read_all(link).endswith(b"\r\n\r\nok"))
+
+
 def curl(port, origin, folder):
     """The same by curl, where it is there."""
     if shutil.which("curl") is None:
@@ -229,6 +282,7 @@ def served(program, folder, origin, echo):
         cut_answer(port, origin)
         resets(port)
         tunnel(port, echo)
+        in_steps(port)
         curl(port, origin, folder)
         many_requests(port, origin)
         check("the proxy still runs", proxy.poll() is None)
