@@ -11,7 +11,6 @@ use px_doors::*;
 use px_serve::{Session, SessionEnd};
 use px_sockets::SocketDialer;
 use std::alloc::Global;
-use std::process::Abort;
 use std::test::Fail;
 
 /// A connection in memory whose client says those bytes.
@@ -100,15 +99,6 @@ fn the_calls_of_doors_in_memory_fail_by_their_numbers(rt: HostRuntime) -> Result
     Ok(())
 }
 
-/// Asserts who called, what the call says, and that the connection's clock is in seconds.
-fn is_call(rt: &impl Abort, conn: &mut SocketConn<'_>) {
-    let mut piece = [0; 4];
-    same(rt, conn.client_in.read(&mut piece), Ok(4));
-    same(rt, piece, *b"call");
-    same(rt, conn.peer.address.as_bytes(), b"127.0.0.1");
-    same(rt, conn.clock.now() > 1_700_000_000, true);
-}
-
 #[test]
 fn doors_over_tcp_give_who_calls(rt: HostRuntime) {
     let mut doors = SocketDoors::new(rt.alloc(), &rt);
@@ -126,7 +116,11 @@ fn doors_over_tcp_give_who_calls(rt: HostRuntime) {
     let Ok(Some(mut conn)) = doors.accept() else {
         panic!(rt; "no connection");
     };
-    is_call(&rt, &mut conn);
+    let mut piece = [0; 4];
+    same(&rt, conn.client_in.read(&mut piece), Ok(4));
+    same(&rt, piece, *b"call");
+    same(&rt, conn.peer.address.as_bytes(), "127.0.0.1".as_bytes());
+    same(&rt, conn.clock.now() > 1_700_000_000, true);
 }
 
 /// Takes what may go to another thread.
