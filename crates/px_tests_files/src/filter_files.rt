@@ -109,7 +109,7 @@ fn leaves_out_a_job_that_is_not_read(rt: HostRuntime) -> Result<(), Fail> {
     let file = FilterFile::read(alloc, lines(alloc, &texts)?.as_slice())?;
     same(&rt, file.skipped.as_slice(), [2].as_slice());
     let filters = file.filters.as_slice();
-    same(&rt, filters.len(), 1);
+    assert_eq!(rt; filters.len(), 1);
     same(&rt, filters[0].kind, FilterKind::Content);
     same(&rt, filters[0].name.as_bytes(), b"shrink".as_slice());
     same(&rt, filters[0].line, 1);
@@ -143,8 +143,8 @@ fn finds_the_first_filter_of_a_kind_and_name(rt: HostRuntime) -> Result<(), Fail
     let alloc = rt.alloc();
     let first = file(alloc, &FIRST)?;
     let second = file(alloc, &["FILTER: f", "s/a/2/", "FILTER: g"])?;
-    same(&rt, first.filters.len(), 5);
-    same(&rt, second.filters.len(), 2);
+    assert_eq!(rt; first.filters.len(), 5);
+    assert_eq!(rt; second.filters.len(), 2);
     let mut files = Vec::new(alloc);
     files.push(first)?;
     files.push(second)?;

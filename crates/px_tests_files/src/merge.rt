@@ -276,7 +276,7 @@ fn files_sections_and_patterns_are_counted(rt: HostRuntime) {
     let alloc = rt.alloc();
     let sections = merged(alloc, TAGGED).expect(&rt, "sections");
     let counts = sections.counts();
-    same(&rt, counts.files, 1);
+    assert_eq!(rt; counts.files, 1);
     same(&rt, counts.sections, 3);
     same(&rt, counts.patterns, 3);
     same(&rt, sections.file_name(0), b"u.action".as_slice());
