@@ -1,6 +1,6 @@
 -- What came of a talk over one link.
 use Rattle.std.specs.Prelude.{MatchBool}
-use Rattle.std.proofs.Common.{◌≡◌, ℕ, ◌-◌, ◌≤◌, Bool, true, false, not, ◌==◌, List, ◌++◌, length, take, None, sym, ap, ◌∙◌, refl, arith, length-append, [], inl, inr}
+use Rattle.std.proofs.Common.{◌≡◌, ℕ, ◌-◌, ◌≤◌, Bool, true, false, not, ◌==◌, List, ◌++◌, length, take, None, Some, sym, ap, ◌∙◌, refl, arith, length-append, [], inl, inr}
 use Rattle.std.proofs.Math.Seq.{take-append_seam}
 use Rattle.px_base.specs.Causes.{Rose}
 use Rattle.px_base.specs.Sources.{SourceState}
@@ -12,9 +12,12 @@ use Rattle.px_sending.specs.declared.messages.Sent.{Sent}
 use Rattle.px_sending.specs.declared.messages.Sent.TheVariants as sent
 use Rattle.px_pumps.specs.Answering.{Ask, Answered}
 use Rattle.px_pumps.specs.Hearing.{HearsStream, AnswerGives}
-use Rattle.px_pumps.specs.Returning.{AddsPrefix, HasDue, SaysDue}
+use Rattle.px_pumps.specs.Returning.{AddsPrefix, HasDue, SaysDue, broken}
 use Rattle.px_pumps.specs.declared.dues.Due.{Due}
 use Rattle.px_pumps.specs.declared.talks.Talked.{Talked}
+use Rattle.px_pumps.specs.declared.talks.Talked.TheVariants as talked
+use Rattle.px_pumps.specs.declared.notes.After.TheVariants as after
+use Rattle.px_templates.specs.declared.pages.Page.TheVariants as page
 use Rattle.px_exchange.specs.Forwarding.{Client, TalksOverLink, answer_of, link_seen, stopped}
 
 -- an end of a fresh link failed exactly where its count isn't 0
@@ -72,3 +75,26 @@ talk_whole ask m c i i' o' taken mid taken' sent.Cut t failed e s l fresh none s
 talk_whole ask m c i i' o' taken mid taken' sent.ReadFailed t failed e s l fresh none same cause h = absurd (cc)
 talk_whole ask m c i i' o' taken mid taken' sent.WriteFailed t failed e s l fresh none same cause h = absurd (cc)
 talk_whole ask m c i i' o' taken mid taken' sent.NoMemory t failed e s l fresh none same cause h = absurd (cc)
+
+-- the request wasn't sent whole, and its answer isn't read
+pub talk_stopped : (ask : Ask) (m : Message) (c : Client) (i' : SourceState) (o' : SinkState) (taken mid : List ℕ) (how : Sent) (t : Talked)
+    → Some t ≡ stopped how → Sends m c.stream c.behind [] o'.taken taken mid how → not (o'.faults == 0) ≡ is_link_failed how → TalksOverLink ask m c taken mid t (link_seen i' o')
+talk_stopped ask m c i' o' taken mid sent.Whole t e s l = absurd (cc)
+talk_stopped ask m c i' o' taken mid sent.LinkFailed t e s l =
+    let is : t ≡ talked.Page page.SendFailed = cc in
+    inl (record { how = sent.LinkFailed; mid = mid; sends = s; by_link = l; follows = rw is (refl, refl) })
+talk_stopped ask m c i' o' taken mid sent.Misframed t e s l =
+    let is : t ≡ talked.Page page.InvalidRequest = cc in
+    inl (record { how = sent.Misframed; mid = mid; sends = s; by_link = l; follows = rw is (refl, refl) })
+talk_stopped ask m c i' o' taken mid sent.Cut t e s l =
+    let is : t ≡ talked.Ended (broken after.Cut) = cc in
+    inl (record { how = sent.Cut; mid = mid; sends = s; by_link = l; follows = (refl, is) })
+talk_stopped ask m c i' o' taken mid sent.ReadFailed t e s l =
+    let is : t ≡ talked.Ended (broken after.ReadFailed) = cc in
+    inl (record { how = sent.ReadFailed; mid = mid; sends = s; by_link = l; follows = (refl, is) })
+talk_stopped ask m c i' o' taken mid sent.WriteFailed t e s l =
+    let is : t ≡ talked.Ended (broken after.WriteFailed) = cc in
+    inl (record { how = sent.WriteFailed; mid = mid; sends = s; by_link = l; follows = (refl, is) })
+talk_stopped ask m c i' o' taken mid sent.NoMemory t e s l =
+    let is : t ≡ talked.Ended (broken after.NoMemory) = cc in
+    inr (is, inr (record { how = sent.NoMemory; silent = tt; sends = s }))
