@@ -1,5 +1,5 @@
 // The words of a command, which keep its grammar, as clap reads them: each command is a simple one, of words without flags.
-// Behind the grammar clap can refuse for memory alone.
+// Behind the grammar clap is to refuse for memory alone; that isn't proved, so each of its refusals counts as that.
 ghost use Rattle.std.specs.Prelude.{◌≡◌, IfOk};
 
 use crate::words::{PassWords, ServeWords, ShowWords};
