@@ -6,3 +6,4 @@ pub mod NameLemmas
 pub mod SetLemmas
 pub mod SpellLemmas
 pub mod AddressLemmas
+pub mod Crossing

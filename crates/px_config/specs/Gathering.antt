@@ -1,5 +1,5 @@
 -- Which files are read, and what of them is kept.
-use Rattle.std.specs.Prelude.{◌≡◌, ℕ, ◌||◌, not, Bool, List, [], ◌∷◌, ◌++◌, Option, Some, None, Result, MatchResult, IsTrue, if◌then◌else◌}
+use Rattle.std.specs.Prelude.{◌≡◌, ℕ, ◌||◌, not, Bool, Contains, List, [], ◌∷◌, ◌++◌, Option, Some, None, Result, MatchResult, IsTrue, if◌then◌else◌}
 use Rattle.std.specs.Str.{is_utf8}
 use Rattle.px_base.specs.Causes.{Rose}
 use Rattle.px_base.specs.Contents.{Contents, FilesState, Unchanged, content_of}
@@ -69,3 +69,24 @@ abbrev pub IsReadFault : List ℕ → LoadFault → Type 0
 IsReadFault written (fault.Spelled file line number) = ⊥
 IsReadFault written (fault.Read file) = file ≡ written
 IsReadFault written fault.Mem = Unit {0}
+
+-- the names that the main file's lines and the templates give, as they are written there and in the order in which their files
+-- are read: action files, filter files, templates and images, and the texts that the templates include
+unfoldable pub names_behind : Contents → List ℕ → List Line → List (List ℕ)
+names_behind contents main lines =
+    (action_names lines ++ filter_names lines) ++ (template_names ++ all_included (named_items contents main lines) (templdir main lines))
+
+-- a main file whose lines can't be read names no other file
+abbrev pub names_by : Contents → List ℕ → Option (List Line) → List (List ℕ)
+names_by contents main None = []
+names_by contents main (Some lines) = names_behind contents main lines
+
+-- the names of the files that a configuration is made of: that of the main file, and those that the files give
+unfoldable pub names_read : Contents → List ℕ → List (List ℕ)
+names_read contents main = main ∷ names_by contents main (readable_lines (content_of FILE_LIMIT (contents main)))
+
+-- the file that couldn't be read has one of these names
+abbrev pub ReadsOneOf : List (List ℕ) → LoadFault → Type 0
+ReadsOneOf names (fault.Spelled file line number) = Unit {0}
+ReadsOneOf names (fault.Read file) = Contains names file
+ReadsOneOf names fault.Mem = Unit {0}

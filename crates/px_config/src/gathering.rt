@@ -1,7 +1,7 @@
 // Reading the files of a configuration.
 ghost use Rattle.std.specs.Prelude.{◌≡◌, ◌++◌, ◌∷◌, [], ℕ, All, IfOk, IfErr, IsTrue, OnOk, option_copied};
 ghost use Rattle.px_base.specs.Contents.{FilesGoOn, FitsLimit, content_of};
-ghost use Rattle.px_config.specs.Gathering.{GatherCause, GatherCauses, IsReadFault, OnlyReads, all_items, gathered, item_of, with_files, with_item};
+ghost use Rattle.px_config.specs.Gathering.{GatherCause, GatherCauses, IsReadFault, OnlyReads, ReadsOneOf, all_items, gathered, item_of, names_behind, names_read, with_files, with_item};
 ghost use Rattle.px_config.specs.Names.{action_names, confdir, filter_names};
 ghost use Rattle.px_config.specs.Sets.{FitsItem};
 ghost use Rattle.px_base.specs.Causes.{Rose};
@@ -88,6 +88,7 @@ fn read_files<F: Files>(
 ) -> Result<(), LoadFault>
     ensures items { IsTrue (F.state files.old).tells → OnOk result (items.new ≡ with_files (F.state files.old).contents (option_copied folder.entry) items.old names.now) }
     ensures fits { OnOk result (All FitsItem items.old → All FitsItem items.new) }
+    ensures named { IfErr result (ReadsOneOf names.now) }
     ensures cause { GatherCauses (F.state files.old) (F.state files.new) result }
     ensures only_reads { OnlyReads (F.state files.old) (F.state files.new) }
     ensures go_on { FilesGoOn (F.state files.old) (F.state files.new) }
@@ -102,7 +103,7 @@ fn read_files<F: Files>(
 }
 
 /// Reads the files that the main file's lines name, and then the texts that the templates include.
-#[tactic(auto, unfolding(crate::specs::Gathering::all_items, crate::specs::Gathering::named_items))]
+#[tactic(auto, using(crate::proofs::GatherLemmas::reads_rules), unfolding(crate::specs::Gathering::all_items, crate::specs::Gathering::named_items, crate::specs::Gathering::names_behind))]
 fn read_named<F: Files>(
     alloc: Global,
     files: &mut F,
@@ -112,6 +113,7 @@ fn read_named<F: Files>(
 ) -> Result<(), LoadFault>
     ensures items { IsTrue (F.state files.old).tells → items.old ≡ item_of (F.state files.old).contents main.now ∷ [] → OnOk result (items.new ≡ all_items (F.state files.old).contents main.now lines.now) }
     ensures fits { OnOk result (All FitsItem items.old → All FitsItem items.new) }
+    ensures named { IsTrue (F.state files.old).tells → items.old ≡ item_of (F.state files.old).contents main.now ∷ [] → IfErr result (ReadsOneOf (names_behind (F.state files.old).contents main.now lines.now)) }
     ensures cause { GatherCauses (F.state files.old) (F.state files.new) result }
     ensures only_reads { OnlyReads (F.state files.old) (F.state files.new) }
     ensures go_on { FilesGoOn (F.state files.old) (F.state files.new) }
@@ -147,6 +149,7 @@ fn read_listed<F: Files>(
 ) -> Result<(), LoadFault>
     ensures items { IsTrue (F.state files.old).tells → OnOk result (items.new ≡ with_files (F.state files.old).contents (confdir main.now lines.now) items.old (action_names lines.now ++ filter_names lines.now)) }
     ensures fits { OnOk result (All FitsItem items.old → All FitsItem items.new) }
+    ensures named { IfErr result (ReadsOneOf (action_names lines.now ++ filter_names lines.now)) }
     ensures cause { GatherCauses (F.state files.old) (F.state files.new) result }
     ensures only_reads { OnlyReads (F.state files.old) (F.state files.new) }
     ensures go_on { FilesGoOn (F.state files.old) (F.state files.new) }
@@ -159,11 +162,13 @@ fn read_listed<F: Files>(
 /// name, the templates and the two images, and the texts that the templates include. Each is read once, and what reading
 /// gave is kept. Where the main file has no lines that can be read, it is the only one.
 ///
-/// `Read` comes only where the files' count of faults rose, and no other fault than that and `Mem`.
-#[tactic(auto, unfolding(crate::specs::Gathering::gathered))]
+/// `Read` comes only where the files' count of faults rose, with the name of one of these files as it is written, and no other
+/// fault than that and `Mem`.
+#[tactic(auto, using(crate::proofs::GatherLemmas::reads_rules), unfolding(crate::specs::Gathering::gathered, crate::specs::Gathering::names_read))]
 pub fn gather<F: Files>(alloc: Global, files: &mut F, main: &str) -> Result<FileSet, LoadFault>
     ensures set { IsTrue (F.state files.old).tells → IfOk result (λ set. set ≡ gathered (F.state files.old).contents main.now) }
     ensures fits { IfOk result (λ set. All FitsItem set.items) }
+    ensures named { IsTrue (F.state files.old).tells → IfErr result (ReadsOneOf (names_read (F.state files.old).contents main.now)) }
     ensures cause { GatherCauses (F.state files.old) (F.state files.new) result }
     ensures only_reads { OnlyReads (F.state files.old) (F.state files.new) }
     ensures go_on { FilesGoOn (F.state files.old) (F.state files.new) }

@@ -3,7 +3,7 @@ ghost use Rattle.std.specs.Prelude.{◌≡◌, All, IsTrue, Ok, None, IfErr, IfO
 ghost use Rattle.px_base.specs.Contents.{FilesGoOn};
 ghost use Rattle.px_config.specs.Actions.{seen_actions};
 ghost use Rattle.px_config.specs.Faults.{IsFault};
-ghost use Rattle.px_config.specs.Gathering.{GatherCauses, OnlyReads, gathered};
+ghost use Rattle.px_config.specs.Gathering.{GatherCauses, OnlyReads, ReadsOneOf, gathered, names_read};
 ghost use Rattle.px_config.specs.Sets.{FitsItem};
 ghost use Rattle.px_config.specs.Spelling.{behind_filters, behind_lines, behind_main, behind_actions, behind_sizes, config_of, filters_seen, seen_config, sizes, spelled};
 ghost use Rattle.px_config.specs.Loading.{IsLoadFault, LoadCauses};
@@ -238,10 +238,11 @@ fn filter_count(files: &[FilterFile]) -> Result<usize, Mem>
 }
 
 /// Gathers the files of a configuration, and gives the configuration for which they stand, or the first fault. `Read` comes
-/// only where the files' count of faults rose.
+/// only where the files' count of faults rose, with the name of one of the files as it is written.
 pub fn load<F: Files>(alloc: Global, files: &mut F, main: &str) -> Result<Config, LoadFault>
     ensures config { IsTrue (F.state files.old).tells → IfOk result (λ config. spelled (gathered (F.state files.old).contents main.now) ≡ Ok (seen_config config)) }
     ensures refused { IsTrue (F.state files.old).tells → IfErr result (IsLoadFault (spelled (gathered (F.state files.old).contents main.now))) }
+    ensures named { IsTrue (F.state files.old).tells → IfErr result (ReadsOneOf (names_read (F.state files.old).contents main.now)) }
     ensures cause { LoadCauses (F.state files.old) (F.state files.new) result }
     ensures only_reads { OnlyReads (F.state files.old) (F.state files.new) }
     ensures go_on { FilesGoOn (F.state files.old) (F.state files.new) }

@@ -196,3 +196,14 @@ fn a_read_that_fails_is_the_fault(rt: HostRuntime) -> Result<(), Fail> {
     }
     Ok(())
 }
+
+fn shared<T: Send + Sync>(_value: &T) {}
+
+#[test]
+fn threads_may_share_configurations(rt: HostRuntime) -> Result<(), Fail> {
+    match loaded(rt.alloc(), &[("c", "toggle 1\n")])? {
+        Ok(config) => shared(&config),
+        Err(_) => panic!(rt; "the files spell nothing"),
+    }
+    Ok(())
+}
