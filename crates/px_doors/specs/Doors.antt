@@ -6,13 +6,14 @@ use Rattle.px_base.specs.Sinks.{SinkState}
 use Rattle.px_base.specs.Dials.{DialerState}
 use Rattle.px_base.specs.Moments.{ClockState}
 use Rattle.px_doors.specs.Conns.{ConnState, PartedState, conn_as, IsFreshConn, HasMark}
+use Rattle.px_doors.specs.declared.addresses.ListenAddress.{ListenAddress}
 use Rattle.px_doors.specs.declared.conns.Conn.{Conn}
 use Rattle.px_doors.specs.declared.doors.AcceptFault.{AcceptFault}
 use Rattle.px_doors.specs.declared.doors.AcceptFault.TheVariants as fault
 
 pub record DoorsState : Type 0 where
-  -- the port at which they were told to listen, if they were
-  pub listens_at : Option ℕ
+  -- the host and port at which they were told to listen, if they were
+  pub listens_at : Option ListenAddress
   -- whether they tell their connections
   pub tells : Bool
   -- all connections in order, those accepted and those left, as they come
@@ -58,10 +59,11 @@ pub record Comes (old new : DoorsState) (c : ConnState) : Type 0 where
   pub fresh : IsFreshConn c
   pub mark : HasMark old.accepted c
 
--- no connection came, since none was left
+-- no connection came, since none was left; doors that don't tell their connections never end so
 pub record Ends (old new : DoorsState) : Type 0 where
   pub stays : Stays old new
-  pub none_left : IsTrue old.tells → left old ≡ []
+  pub told : IsTrue old.tells
+  pub none_left : left old ≡ []
 
 -- what accept does
 abbrev pub Accepts : DoorsState → DoorsState → Result (Option ConnState) AcceptFault → Type 0
@@ -88,5 +90,5 @@ abbrev pub fresh_doors : List ConnState → Bool → DoorsState
 fresh_doors conns steady = record { listens_at = None; tells = true; conns = conns; accepted = 0; parted = []; faults = 0; steady = steady }
 
 -- doors that listen there, if they do, tell nothing else and may fail
-abbrev pub untold_doors : Option ℕ → ℕ → ℕ → DoorsState
-untold_doors port accepted faults = record { listens_at = port; tells = false; conns = []; accepted = accepted; parted = []; faults = faults; steady = false }
+abbrev pub untold_doors : Option ListenAddress → ℕ → ℕ → DoorsState
+untold_doors address accepted faults = record { listens_at = address; tells = false; conns = []; accepted = accepted; parted = []; faults = faults; steady = false }

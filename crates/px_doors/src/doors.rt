@@ -1,10 +1,10 @@
 // Where connections come from.
-ghost use Rattle.std.specs.Prelude.{◌≡◌, ◌-◌, ◌^◌, ◌<◌, IsTrue, OnOk, Some, length};
+ghost use Rattle.std.specs.Prelude.{◌≡◌, ◌-◌, ◌^◌, ◌<◌, IsTrue, OnErr, OnOk, Some, length};
 ghost use Rattle.px_base.specs.Causes.{HasCause};
 ghost use Rattle.px_doors.specs.Conns.{parted_as};
 ghost use Rattle.px_doors.specs.Doors.{DoorsState, DoorsGoesOn, Stays, Accepts, AcceptCause, Parts, accepted_as};
 
-use crate::{Conn, Parted};
+use crate::{Conn, ListenAddress, Parted};
 use px_base::{Clock, Dialer, Failed, Sink, Source};
 
 /// Why no connection was accepted: the call failed and the doors' count rose, or memory was wanting.
@@ -28,14 +28,16 @@ pub trait Doors: Send {
     /// What contracts see of them.
     ghost state: { Self → DoorsState };
 
-    /// Begins to take connections at a host and port.
-    fn listen(&mut self, host: &[u8], port: u16) -> Result<(), Failed>
-        ensures listens { OnOk result ((state self.new).listens_at ≡ Some port) }
+    /// Begins to take connections at that address.
+    fn listen(&mut self, address: ListenAddress) -> Result<(), Failed>
+        ensures listens { OnOk result ((state self.new).listens_at ≡ Some address) }
+        ensures as_before { OnErr result ((state self.new).listens_at ≡ (state self.old).listens_at) }
         ensures stays { Stays (state self.old) (state self.new) }
         ensures cause { HasCause (state self.old).faults (state self.new).faults result }
         ensures goes_on { DoorsGoesOn (state self.old) (state self.new) };
 
-    /// The next connection; the room that `part` needs for it is made first. `None` where no more come.
+    /// The next connection; the room that `part` needs for it is made first. `None` where no more come, which only doors say that
+    /// tell their connections.
     fn accept(
         &mut self,
     ) -> Result<Option<Conn<Self::In, Self::Out, Self::Dial, Self::Time>>, AcceptFault>

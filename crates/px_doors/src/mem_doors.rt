@@ -1,11 +1,11 @@
 // Doors in memory.
-ghost use Rattle.std.specs.Prelude.{◌≡◌, ◌==◌, ◌≤◌, ◌<◌, IfOk, IsTrue, MatchBool, false, drop, length, map, slice_get, Some, true, vec_capacity, vec_len};
+ghost use Rattle.std.specs.Prelude.{◌≡◌, ◌==◌, ◌≤◌, ◌<◌, IfOk, IsTrue, MatchBool, false, drop, length, map, option_copied, slice_get, Some, true, vec_capacity, vec_len};
 ghost use Rattle.px_base.specs.Causes.{Rose};
 ghost use Rattle.px_doors.specs.Conns.{HasMark, IsFreshConn, numbered};
 ghost use Rattle.px_doors.specs.Doors.{DoorsGoesOn, Parts, fresh_doors};
 ghost use Rattle.px_doors.specs.MemConns.{AreFresh, mem_conn, mem_parted};
 
-use crate::{AcceptFault, Conn, Doors, Parted};
+use crate::{AcceptFault, Conn, Doors, ListenAddress, Parted};
 use px_base::{Failed, FixedClock, List, Mem, MemDialer, TapeIn, TapeOut};
 use std::alloc::Global;
 use std::snapshot::Snapshot;
@@ -32,7 +32,7 @@ pub struct MemDoors {
     accepted: u64,
     parted: Vec<MemParted>,
     failures: Failures,
-    listens_at: Option<u16>,
+    listens_at: Option<ListenAddress>,
     all: Snapshot<List<MemConn>>,
     ghost rest: { waiting.items ≡ drop accepted all.value },
     ghost fewer: { vec_len parted ≤ accepted },
@@ -61,11 +61,11 @@ impl MemDoors {
         })
     }
 
-    /// The port at which the doors were told to listen, if they were.
-    pub fn listens_at(&self) -> Option<u16>
-        ensures { result ≡ (⟦<MemDoors as Doors>⟧.state self.now).listens_at }
+    /// The address at which the doors were told to listen, if they were.
+    pub fn listens_at(&self) -> Option<&ListenAddress>
+        ensures { option_copied result ≡ (⟦<MemDoors as Doors>⟧.state self.now).listens_at }
     {
-        self.listens_at
+        self.listens_at.as_ref()
     }
 
     /// The connections that were parted, in order.
@@ -130,11 +130,11 @@ impl Doors for MemDoors {
       steady = length d.failures.fails.items == 0;
     } };
 
-    fn listen(&mut self, _host: &[u8], port: u16) -> Result<(), Failed> {
+    fn listen(&mut self, address: ListenAddress) -> Result<(), Failed> {
         if self.failures.next_fails() {
             return Err(Failed);
         }
-        self.listens_at = Some(port);
+        self.listens_at = Some(address);
         Ok(())
     }
 

@@ -4,7 +4,7 @@ ghost use Rattle.px_sockets.specs.Untold.{AreNew};
 ghost use Rattle.px_doors.specs.Conns.{parted_as};
 ghost use Rattle.px_doors.specs.Doors.{DoorsGoesOn, Parts, untold_doors};
 
-use crate::{AcceptFault, Conn, Doors, Parted};
+use crate::{AcceptFault, Conn, Doors, ListenAddress, Parted};
 use px_base::{Clock, Dialer, Failed, Sink, Source, SystemClock};
 use px_sockets::{Caller, CallerFault, SocketDialer, SocketListener, SocketSink, SocketSource};
 use std::alloc::Global;
@@ -31,7 +31,7 @@ pub struct SocketDoors<'r> {
     alloc: Global,
     rt: &'r HostRuntime,
     listener: Option<SocketListener>,
-    listens_at: Option<u16>,
+    listens_at: Option<ListenAddress>,
     accepted: u64,
     faults: u64,
 }
@@ -85,11 +85,11 @@ impl<'r> Doors for SocketDoors<'r> {
 
     ghost state = { λ d. untold_doors d.listens_at d.accepted d.faults };
 
-    fn listen(&mut self, host: &[u8], port: u16) -> Result<(), Failed> {
-        match SocketListener::listen(self.rt, host, port) {
+    fn listen(&mut self, address: ListenAddress) -> Result<(), Failed> {
+        match SocketListener::listen(self.rt, address.host.as_bytes(), address.port) {
             Ok(listener) => {
                 self.listener = Some(listener);
-                self.listens_at = Some(port);
+                self.listens_at = Some(address);
                 Ok(())
             }
             Err(_) => {

@@ -1,27 +1,10 @@
-//! Helmthread: a filtering HTTP proxy. The commands of the program: words, files and statuses around sessions.
+//! Helmthread: a filtering HTTP proxy. The program: a command over the files, the streams and the network of this machine.
 #![tactic(auto)]
 
-mod answers;
-mod commands;
-mod exercises;
-mod loads;
-mod origins;
-mod parses;
-mod passes;
-mod proxies;
-mod reports;
-mod sents;
-mod statuses;
-mod texts;
-mod words;
-
-use commands::run_tool;
-use proxies::{Parts, run_proxy};
 use px_base::{DiskFiles, ReaderSource, SystemClock, WriterSink};
+use px_commands::{Parts, Status, USAGE, report, run_proxy, run_tool};
 use px_doors::SocketDoors;
 use px_ways::Way;
-use reports::report;
-use statuses::{Status, USAGE};
 use std::process::ExitCode;
 use std::rt::Env;
 use std::{env, io};
@@ -72,12 +55,3 @@ fn main(rt: HostRuntime) -> ExitCode {
     );
     ExitCode::from(status)
 }
-
-#[cfg(test)]
-mod fault_tests;
-#[cfg(test)]
-mod load_tests;
-#[cfg(test)]
-mod proxy_tests;
-#[cfg(test)]
-mod tests;

@@ -15,6 +15,7 @@ pub record Serving (config : Config) (most n : ℕ) (old now : DoorsState) : Typ
   pub parted : IsTrue old.tells → ServesFrom config old.conns 0 now.parted
   pub all_parted : IsTrue old.tells → length now.parted ≡ n
   pub goes_on : DoorsGoesOn old now
+  pub listens_same : now.listens_at ≡ old.listens_at
 
 doors_go_on : {a b c : DoorsState} → DoorsGoesOn a b → DoorsGoesOn b c → DoorsGoesOn a c
 doors_go_on h k = search rules
@@ -31,6 +32,7 @@ serving_none config most d accepted parted = record {
   parted = λ t. rw (parted t) tt;
   all_parted = λ t. ap (λ (ps : List PartedState). length ps) (parted t);
   goes_on = doors_same d;
+  listens_same = refl;
 }
 
 -- one more behind those that were served
@@ -54,10 +56,11 @@ serving_more {config = config} {n = n} {old = old} {now = now} {next = next} bel
       let longer = length-append now.parted (one.parted ∷ []) in
       ap (λ (ps : List PartedState). length ps) (one.added told) ∙ longer ∙ ap (λ (k : ℕ). k + 1) (h.all_parted t);
   goes_on = doors_go_on h.goes_on on;
+  listens_same = one.listens_same ∙ h.listens_same;
 }
 
 why : (most : ℕ) (old now new : DoorsState) (e : ServeEnd) → now.faults ≡ old.faults → now.tells ≡ old.tells → WhyBefore now new e → EndsServing most old new e
-why most old now new end.End calm same w = (w.0 ∙ calm, inr (λ t. w.1 (same ∙ t)))
+why most old now new end.End calm same w = (w.0 ∙ calm, inr (sym same ∙ w.1.0, w.1.1))
 why most old now new end.DoorsFailed calm same w = rw calm at w
 why most old now new end.NoMemory calm same w = tt
 
@@ -68,6 +71,7 @@ serving_ends {config = config} {most = most} {old = old} {now = now} {new = new}
   parted = λ t. subst (λ (ps : List PartedState). ServesFrom config old.conns 0 ps) (sym (b.parted_same (h.goes_on.tells_same ∙ t))) (h.parted t);
   all_parted = λ t. ap (λ (ps : List PartedState). length ps) (b.parted_same (h.goes_on.tells_same ∙ t)) ∙ h.all_parted t ∙ sym (b.accepted_same ∙ h.accepted);
   ends = why most old now new e h.faults_same h.goes_on.tells_same b.why;
+  listens_same = b.listens_same ∙ h.listens_same;
 }
 
 -- as many were served as were asked for
@@ -77,4 +81,5 @@ serving_all {most = most} {n = n} enough h = record {
   parted = h.parted;
   all_parted = λ t. h.all_parted t ∙ sym h.accepted;
   ends = (h.faults_same, inl (omega (arith, h.accepted, h.within, enough)));
+  listens_same = h.listens_same;
 }

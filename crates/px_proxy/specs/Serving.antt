@@ -45,9 +45,9 @@ abbrev pub ServesFrom : Config → List ConnState → ℕ → List PartedState �
 ServesFrom config conns n [] = Unit {0}
 ServesFrom config conns n (p ∷ ps) = ServesNth config conns n p × ServesFrom config conns (n + 1) ps
 
--- why serving ended behind so many connections
+-- why serving ended behind so many connections; doors that don't tell their connections end only with as many as were asked for, or fail
 abbrev pub EndsServing : ℕ → DoorsState → DoorsState → ServeEnd → Type 0
-EndsServing most old new end.End = (new.faults ≡ old.faults) × ((new.accepted ≡ most) ⊎ (IsTrue old.tells → left new ≡ []))
+EndsServing most old new end.End = (new.faults ≡ old.faults) × ((new.accepted ≡ most) ⊎ (IsTrue old.tells × (left new ≡ [])))
 EndsServing most old new end.DoorsFailed = Rose old.faults new.faults
 EndsServing most old new end.NoMemory = Unit {0}
 
@@ -57,6 +57,8 @@ pub record ServesAll (config : Config) (most : ℕ) (old new : DoorsState) (e : 
   pub parted : IsTrue old.tells → ServesFrom config old.conns 0 new.parted
   pub all_parted : IsTrue old.tells → length new.parted ≡ new.accepted
   pub ends : EndsServing most old new e
+  -- they were told to listen nowhere else
+  pub listens_same : new.listens_at ≡ old.listens_at
 
 -- one more connection was served
 pub record ServesOne (config : Config) (old new : DoorsState) : Type 0 where
@@ -65,10 +67,11 @@ pub record ServesOne (config : Config) (old new : DoorsState) : Type 0 where
   pub parted : PartedState
   pub added : IsTrue old.tells → new.parted ≡ old.parted ++ parted ∷ []
   pub served : IsTrue old.tells → ServesNth config old.conns old.accepted parted
+  pub listens_same : new.listens_at ≡ old.listens_at
 
 -- why serving ended before a connection
 abbrev pub WhyBefore : DoorsState → DoorsState → ServeEnd → Type 0
-WhyBefore old new end.End = (new.faults ≡ old.faults) × (IsTrue old.tells → left new ≡ [])
+WhyBefore old new end.End = (new.faults ≡ old.faults) × (IsTrue old.tells × (left new ≡ []))
 WhyBefore old new end.DoorsFailed = Rose old.faults new.faults
 WhyBefore old new end.NoMemory = Unit {0}
 
@@ -77,6 +80,7 @@ pub record EndsBefore (old new : DoorsState) (e : ServeEnd) : Type 0 where
   pub accepted_same : new.accepted ≡ old.accepted
   pub parted_same : IsTrue old.tells → new.parted ≡ old.parted
   pub why : WhyBefore old new e
+  pub listens_same : new.listens_at ≡ old.listens_at
 
 -- one more connection, or an end
 abbrev pub Turns : Config → DoorsState → DoorsState → Option ServeEnd → Type 0

@@ -65,12 +65,21 @@ fn pass_by(alloc: Global, doors: &mut MemDoors, number: u64) -> Result<bool, Acc
     }
 }
 
+/// The host and port at which doors were told to listen.
+fn told(doors: &MemDoors) -> Option<(&[u8], u16)> {
+    match doors.listens_at() {
+        Some(address) => Some((address.host.as_bytes(), address.port)),
+        None => None,
+    }
+}
+
 #[test]
 fn doors_in_memory_give_their_connections_in_order(rt: HostRuntime) -> Result<(), Fail> {
     let alloc = rt.alloc();
     let mut doors = three_clients(alloc, &[])?;
-    same(&rt, doors.listen(b"127.0.0.1", 8118), Ok(()));
-    same(&rt, doors.listens_at(), Some(8118));
+    let address = ListenAddress::copied(alloc, b"127.0.0.1", 8118)?;
+    same(&rt, doors.listen(address), Ok(()));
+    same(&rt, told(&doors), Some(("127.0.0.1".as_bytes(), 8118)));
     same(&rt, pass_by(alloc, &mut doors, 0), Ok(true));
     same(&rt, pass_by(alloc, &mut doors, 1), Ok(true));
     same(&rt, pass_by(alloc, &mut doors, 2), Ok(true));
@@ -87,8 +96,9 @@ fn doors_in_memory_give_their_connections_in_order(rt: HostRuntime) -> Result<()
 fn the_calls_of_doors_in_memory_fail_by_their_numbers(rt: HostRuntime) -> Result<(), Fail> {
     let alloc = rt.alloc();
     let mut doors = three_clients(alloc, &[0, 2])?;
-    same(&rt, doors.listen(b"127.0.0.1", 8118), Err(Failed));
-    same(&rt, doors.listens_at(), None);
+    let address = ListenAddress::copied(alloc, b"127.0.0.1", 8118)?;
+    same(&rt, doors.listen(address), Err(Failed));
+    same(&rt, told(&doors), None);
     same(&rt, pass_by(alloc, &mut doors, 0), Ok(true));
     same(&rt, pass_by(alloc, &mut doors, 1), Err(AcceptFault::Failed));
     same(&rt, pass_by(alloc, &mut doors, 1), Ok(true));
@@ -101,13 +111,15 @@ fn the_calls_of_doors_in_memory_fail_by_their_numbers(rt: HostRuntime) -> Result
 
 #[test]
 fn doors_over_tcp_give_who_calls(rt: HostRuntime) {
-    let mut doors = SocketDoors::new(rt.alloc(), &rt);
+    let alloc = rt.alloc();
+    let mut doors = SocketDoors::new(alloc, &rt);
     same(
         &rt,
         matches!(doors.accept(), Err(AcceptFault::Failed)),
         true,
     );
-    same(&rt, doors.listen(b"127.0.0.1", 0), Ok(()));
+    let address = ListenAddress::copied(alloc, b"127.0.0.1", 0).expect(&rt, "memory");
+    same(&rt, doors.listen(address), Ok(()));
     let port = doors.port().expect(&rt, "a port");
     let Ok((_link_in, mut link_out)) = SocketDialer::new(&rt, 0).dial(b"127.0.0.1", port) else {
         panic!(rt; "no link");

@@ -1,0 +1,21 @@
+//! The commands of the program: words, files and statuses around sessions.
+#![tactic(auto)]
+
+mod answers;
+mod commands;
+mod exercises;
+mod loads;
+mod origins;
+mod parses;
+mod passes;
+mod proxies;
+mod reports;
+mod sents;
+mod statuses;
+mod texts;
+mod words;
+
+pub use commands::run_tool;
+pub use proxies::{Parts, Proxied, ReloadCounts, run_proxy};
+pub use reports::report;
+pub use statuses::{Status, USAGE, constants};

@@ -1,0 +1,161 @@
+// The command `pass`: one session over the input, with the answers of a file.
+ghost use Rattle.std.specs.Prelude.{◌≡◌, ◌∷◌, [], List, ℕ, IfOk, OnErr, map, string_bytes};
+ghost use Rattle.px_base.specs.Contents.{FilesGoOn};
+ghost use Rattle.px_base.specs.Sources.{SourceGoesOn};
+ghost use Rattle.px_base.specs.Sinks.{SinkState, SinkGoesOn};
+ghost use Rattle.px_base.specs.Moments.{ClockGoesOn};
+ghost use Rattle.px_commands.specs.Passes.{Outside, OutsideGoesOn, RunsLoaded, HasServed, PutsAfter};
+ghost use Rattle.px_commands.specs.Passing.{RunsPass};
+
+use crate::answers::{OriginRead, read_answers};
+use crate::loads::report_load;
+use crate::sents::made_sent;
+use crate::statuses::{Status, is_wanting, status_after};
+use crate::texts::tag_texts;
+use crate::words::PassWords;
+use px_base::{Answer, Clock, Files, List, Mem, MemDialer, Peer, Sink, Source, Text};
+use px_config::{Config, load};
+use px_publish::{Configs, FixedConfig};
+use px_serve::{SessionEnd, serve_connection};
+use px_ways::Way;
+use std::alloc::Global;
+use std::sync::Arc;
+use std::thread::Threads;
+
+/// The address of the one client of `pass`.
+const CLIENT: &[u8] = b"127.0.0.1";
+
+/// Runs `pass`: loads CONFIG, reads ORIGIN, serves the input as one client, and puts SENT last.
+pub fn run_pass<R: Threads + Sync, F: Files, S: Source, O: Sink, E: Sink, T: Clock>(
+    alloc: Global,
+    way: &Way<'_, R>,
+    pass: PassWords<'_>,
+    files: &mut F,
+    input: &mut S,
+    out: &mut O,
+    err: &mut E,
+    clock: &mut T,
+) -> Status
+    ensures runs { RunsPass pass.entry.config.now pass.entry.origin.now pass.entry.sent.now (map string_bytes pass.entry.tags.now)
+        (record { files = F.state files.old; input = S.state input.old; out = O.state out.old; errors = E.state err.old; clock = T.state clock.old })
+        (record { files = F.state files.new; input = S.state input.new; out = O.state out.new; errors = E.state err.new; clock = T.state clock.new }) result }
+    ensures goes_on { OutsideGoesOn
+        (record { files = F.state files.old; input = S.state input.old; out = O.state out.old; errors = E.state err.old; clock = T.state clock.old })
+        (record { files = F.state files.new; input = S.state input.new; out = O.state out.new; errors = E.state err.new; clock = T.state clock.new }) }
+{
+    match load(alloc, files, pass.config) {
+        Ok(loaded) => run_loaded(alloc, way, loaded, pass, files, input, out, clock),
+        Err(fault) => report_load(alloc, err, &fault),
+    }
+}
+
+/// Goes on with a configuration.
+fn run_loaded<R: Threads + Sync, F: Files, S: Source, O: Sink, T: Clock>(
+    alloc: Global,
+    way: &Way<'_, R>,
+    loaded: Config,
+    pass: PassWords<'_>,
+    files: &mut F,
+    input: &mut S,
+    out: &mut O,
+    clock: &mut T,
+) -> Status
+    ensures runs { (errors : SinkState) → RunsLoaded loaded pass.entry.origin.now pass.entry.sent.now (map string_bytes pass.entry.tags.now)
+        (record { files = F.state files.old; input = S.state input.old; out = O.state out.old; errors = errors; clock = T.state clock.old })
+        (record { files = F.state files.new; input = S.state input.new; out = O.state out.new; errors = errors; clock = T.state clock.new }) result }
+    ensures files_go_on { FilesGoOn (F.state files.old) (F.state files.new) }
+    ensures input_goes_on { SourceGoesOn (S.state input.old) (S.state input.new) }
+    ensures out_goes_on { SinkGoesOn (O.state out.old) (O.state out.new) }
+    ensures clock_goes_on { ClockGoesOn (T.state clock.old) (T.state clock.new) }
+{
+    match read_answers(alloc, files, pass.origin) {
+        OriginRead::Answers(answers) => match serve_input(
+            alloc, way, loaded, pass.tags, answers, input, out, clock,
+        ) {
+            Ok(served) => put_served(files, pass.sent, served),
+            Err(Mem) => Status::NoMemory,
+        },
+        OriginRead::Refused => Status::NoOrigin,
+        OriginRead::Failed => Status::ReadFailed,
+        OriginRead::NoMemory => Status::NoMemory,
+    }
+}
+
+/// How a session ended, and the text of SENT, if memory was there for it.
+#[derive(Drop)]
+pub struct Served {
+    end: SessionEnd,
+    sent: Option<Text>,
+}
+
+/// The one configuration, at each look.
+fn fixed_config(alloc: Global, loaded: Config) -> Result<FixedConfig<Config>, Mem>
+    ensures view { IfOk result (λ configs. ⟦<FixedConfig<Config> as Configs>⟧.view configs ≡ loaded ∷ []) }
+    ensures coming { IfOk result (λ configs. (k : ℕ) → ⟦<FixedConfig<Config> as Configs>⟧.coming configs k ≡ record { number = 0; config = loaded }) }
+{
+    Ok(FixedConfig::new(Arc::new(alloc, loaded)?))
+}
+
+/// Serves the input as one client, whose dials have the answers. After `Mem` nothing was read, asked or returned.
+fn serve_input<R: Threads + Sync, S: Source, O: Sink, T: Clock>(
+    alloc: Global,
+    way: &Way<'_, R>,
+    loaded: Config,
+    tags: &[String],
+    answers: List<Answer>,
+    input: &mut S,
+    out: &mut O,
+    clock: &mut T,
+) -> Result<Served, Mem>
+    ensures served { IfOk result (λ s. HasServed loaded (map string_bytes tags.now) answers (S.state input.old) (S.state input.new) (O.state out.old) (O.state out.new) (T.state clock.old) (T.state clock.new) s.end s.sent) }
+    ensures unused { OnErr result ((S.state input.new ≡ S.state input.old) × (O.state out.new ≡ O.state out.old) × (T.state clock.new ≡ T.state clock.old)) }
+    ensures input_goes_on { SourceGoesOn (S.state input.old) (S.state input.new) }
+    ensures out_goes_on { SinkGoesOn (O.state out.old) (O.state out.new) }
+    ensures clock_goes_on { ClockGoesOn (T.state clock.old) (T.state clock.new) }
+{
+    let tags = tag_texts(alloc, tags)?;
+    let peer = Peer {
+        address: Text::from_bytes(alloc, CLIENT)?,
+    };
+    let mut configs = fixed_config(alloc, loaded)?;
+    let mut dialer = MemDialer::new(alloc, answers)?;
+    let session = serve_connection(
+        alloc,
+        way,
+        &mut configs,
+        input,
+        out,
+        &mut dialer,
+        clock,
+        &peer,
+        tags.as_slice(),
+    );
+    Ok(Served {
+        end: session.end,
+        sent: made_sent(alloc, dialer.links()),
+    })
+}
+
+/// Puts SENT behind a session, unless memory was wanting in it or for the text.
+fn put_served<F: Files>(files: &mut F, name: &str, served: Served) -> Status
+    ensures puts { (text : List ℕ) → ((x : List ℕ) → served.sent ≡ Some x → x ≡ text) → PutsAfter (F.state files.old) (F.state files.new) name.now text served.end result }
+    ensures go_on { FilesGoOn (F.state files.old) (F.state files.new) }
+{
+    let Served { end, sent } = served;
+    match sent {
+        Some(text) => put_sent(files, name, text.as_bytes(), end),
+        None => Status::NoMemory,
+    }
+}
+
+/// Puts SENT behind a session, unless memory was wanting in it.
+fn put_sent<F: Files>(files: &mut F, name: &str, text: &[u8], end: SessionEnd) -> Status
+    ensures puts { PutsAfter (F.state files.old) (F.state files.new) name.now text.now end result }
+    ensures go_on { FilesGoOn (F.state files.old) (F.state files.new) }
+{
+    if is_wanting(end) {
+        return Status::NoMemory;
+    }
+    let put = files.put(name, text);
+    status_after(end, put)
+}
