@@ -6,7 +6,6 @@ ghost use Rattle.px_head.specs.Prints.{field_line};
 
 use crate::prints::{FIELD_SEPARATOR, push_field};
 use httparse::spans::{EMPTY_HEADER_SPAN, HeaderSpan};
-use memchr::memchr_iter;
 use px_base::{List, Mem, Text};
 use std::alloc::{AllocError, Global};
 
@@ -54,5 +53,11 @@ pub fn room_for(alloc: Global, block: &[u8]) -> Result<Vec<HeaderSpan>, AllocErr
 fn line_feeds(block: &[u8]) -> usize
     ensures { result ≡ count_by (λ b. b == 10) block.now }
 {
-    memchr_iter(b'\n', block).count()
+    let mut count = 0;
+    for byte in block {
+        if *byte == b'\n' {
+            count += 1;
+        }
+    }
+    count
 }

@@ -1,5 +1,5 @@
 -- The date of a moment is the one date whose second it is.
-use Rattle.std.proofs.Common.{◌≡◌, ℕ, zero, suc, ◌+◌, ◌-◌, ◌*◌, ◌/◌, ◌%◌, ◌<◌, ◌≤◌, Bool, true, false, cond, List, Option, Some, None, refl, sym, ap, ◌∙◌, arith}
+use Rattle.std.proofs.Common.{◌≡◌, ℕ, zero, suc, ◌+◌, ◌-◌, ◌*◌, ◌/◌, ◌%◌, ◌<◌, ◌≤◌, Bool, true, false, cond, List, Some, None, refl, sym, ap, ◌∙◌, arith}
 use Rattle.std.specs.Prelude.{◌^◌, min, nat_le, nat_lt, option_map, if◌then◌else◌}
 use Rattle.std.proofs.lemmas.Bool.Decides.{nat_tests}
 use Rattle.httpdate.specs.Calendar.{IsCivilDate, days_from_civil, days_of_months, weekday}
@@ -8,7 +8,6 @@ use Rattle.httpdate.specs.Text.{imf_fixdate}
 use Rattle.httpdate.specs.declared.parts.Parts.{Parts}
 use Rattle.httpdate.specs.declared.date.HttpDate.{HttpDate}
 use Rattle.httpdate.proofs.CalendarLemmas.{days_from_civil_year, days_from_civil_month}
-use Rattle.px_headers.specs.declared.cookies.Cap.{Cap}
 use Rattle.px_headers.specs.Cookies.{cap_of}
 use Rattle.px_headers.specs.Dates.{date_at, date_in, date_on, end_of_dates, month_on, year_on}
 

@@ -1,6 +1,6 @@
 -- Header filters by what is kept of a message.
 use Rattle.std.proofs.Common.{◌≡◌, ℕ, Bool, true, false, List, [], ◌∷◌, Option, Some, None, Result, Ok, Err, IfOk, refl, ap, sym, ◌∙◌}
-use Rattle.std.specs.Prelude.{if◌then◌else◌, filter_map}
+use Rattle.std.specs.Prelude.{if◌then◌else◌}
 use Rattle.std.specs.List.{cons_option}
 use Rattle.px_head.specs.declared.fields.Field.{Field}
 use Rattle.px_head.specs.Prints.{field_line}

@@ -1,5 +1,5 @@
 -- A number that is read is within its limit.
-use Rattle.std.proofs.Common.{◌≡◌, ℕ, ◌≤◌, Bool, true, false, List, Option, Some, None, refl, arith}
+use Rattle.std.proofs.Common.{◌≡◌, ℕ, ◌≤◌, Bool, true, false, List, Some, None, refl, arith}
 use Rattle.std.specs.Prelude.{◌&&◌, ◌==◌, not, nat_le, length, if◌then◌else◌}
 use Rattle.std.proofs.lemmas.Bool.Decides.{nat_tests}
 use Rattle.px_base.specs.Numbers.{all_digits, decimal, with_digits}

@@ -1,8 +1,9 @@
 -- The fields that a proxy doesn't pass on (RFC 9110, section 7.6.1).
-use Rattle.std.specs.Prelude.{◌≡◌, ℕ, Bool, ◌||◌, List, filter, map, codes}
-use Rattle.std.specs.List.{list_any}
+use Rattle.std.specs.Prelude.{◌≡◌, ℕ, Bool, ◌==◌, ◌||◌, List, filter, map, codes}
+use Rattle.std.specs.List.{flat_map, slice_split}
+use Rattle.px_base.specs.Blanks.{trimmed}
 use Rattle.px_head.specs.declared.fields.Field.{Field}
-use Rattle.px_head.specs.Names.{has_name, is_connection_word, is_held_back_of_request, is_held_back_of_response, lists_word}
+use Rattle.px_head.specs.Names.{has_name, is_among, is_connection_word, is_held_back_of_request, is_held_back_of_response}
 use Rattle.px_headers.specs.declared.held_back.Message.{Message}
 use Rattle.px_headers.specs.declared.held_back.Message.TheVariants.{Request, Response}
 use Rattle.px_headers.specs.declared.held_back.HeldBack.{HeldBack}
@@ -21,15 +22,19 @@ is_held_back message fields name = is_fixed message name || is_connection_word n
 unfoldable pub passed_on : Message → List Field → List Field
 passed_on message fields = without_those (λ f. is_held_back message fields f.name) fields
 
--- the values of the Connection fields
-abbrev pub connection_values : List Field → List (List ℕ)
-connection_values fields = map (λ (f : Field). f.value) (filter (has_name (codes "Connection")) fields)
+-- the words of a list between commas, without the white space around them (44 is the comma)
+abbrev pub words_in : List ℕ → List (List ℕ)
+words_in value = map (λ part. trimmed part) (slice_split (λ b. b == 44) value)
 
--- a name is a fixed one, or one of these values lists it
+-- the words of the Connection fields
+abbrev pub connection_words : List Field → List (List ℕ)
+connection_words fields = flat_map (λ (f : Field). words_in f.value) (filter (has_name (codes "Connection")) fields)
+
+-- a name is a fixed one, or one of these words
 abbrev pub is_held : HeldBack → List ℕ → Bool
-is_held held name = is_fixed held.message name || list_any (λ value. lists_word name value) held.connections
+is_held held name = is_fixed held.message name || is_among held.words name
 
 -- what is kept of a message with these fields
 pub record IsHeldBackOf (message : Message) (fields : List Field) (held : HeldBack) : Type 0 where
   pub message_is : held.message ≡ message
-  pub connections_are : held.connections ≡ connection_values fields
+  pub words_are : held.words ≡ connection_words fields

@@ -1,11 +1,10 @@
 // The fields that a proxy doesn't pass on.
-ghost use Rattle.std.specs.Prelude.{◌≡◌, IfOk};
-ghost use Rattle.std.specs.List.{list_any};
-ghost use Rattle.px_head.specs.Names.{lists_word};
-ghost use Rattle.px_headers.specs.HeldBack.{is_fixed, is_held, passed_on, IsHeldBackOf};
+ghost use Rattle.std.specs.Prelude.{◌≡◌, ◌++◌, IfOk, OnOk};
+ghost use Rattle.px_head.specs.Names.{is_among};
+ghost use Rattle.px_headers.specs.HeldBack.{is_fixed, is_held, passed_on, words_in, IsHeldBackOf};
 
-use px_base::{List, Mem, Text};
-use px_head::{Field, has_name, is_held_back_of_request, is_held_back_of_response, lists_word};
+use px_base::{List, Mem, Text, cut, same_without_case, trim};
+use px_head::{Field, has_name, is_held_back_of_request, is_held_back_of_response};
 use std::alloc::Global;
 
 /// What a head belongs to.
@@ -19,8 +18,8 @@ pub(crate) enum Message {
 #[derive(Drop)]
 pub(crate) struct HeldBack {
     pub(crate) message: Message,
-    /// The values of its Connection fields.
-    connections: List<Text>,
+    /// The words of its Connection fields.
+    words: List<Text>,
 }
 
 fn is_fixed(message: Message, name: &[u8]) -> bool
@@ -32,38 +31,48 @@ fn is_fixed(message: Message, name: &[u8]) -> bool
     }
 }
 
+/// Adds the words of a list between commas, without the white space around them.
+fn add_words(alloc: Global, value: &[u8], words: &mut List<Text>) -> Result<(), Mem>
+    ensures { OnOk result (words.new ≡ words.old ++ words_in value.now) }
+{
+    let mut rest = Some(value);
+    'words: while let Some(bytes) = rest {
+        let (first, more) = cut(bytes, b',');
+        words.add(Text::from_bytes(alloc, trim(first))?)?;
+        rest = more;
+    }
+    Ok(())
+}
+
 impl HeldBack {
     /// The names that are held back of a message with these fields.
     pub(crate) fn of(alloc: Global, message: Message, fields: &[Field]) -> Result<HeldBack, Mem>
         ensures { IfOk result (IsHeldBackOf message fields.now) }
     {
-        let mut connections = List::new(alloc);
+        let mut words = List::new(alloc);
         for field in fields {
             if has_name(field, b"Connection") {
-                connections.add(Text::from_bytes(alloc, field.value.as_bytes())?)?;
+                add_words(alloc, field.value.as_bytes(), &mut words)?;
             }
         }
-        Ok(HeldBack {
-            message,
-            connections,
-        })
+        Ok(HeldBack { message, words })
     }
 
     /// Whether a name is held back, without case.
     pub(crate) fn holds(&self, name: &[u8]) -> bool
         ensures { result ≡ is_held self.now name.now }
     {
-        is_fixed(self.message, name) || is_listed(name, self.connections.as_slice())
+        is_fixed(self.message, name) || is_among(self.words.as_slice(), name)
     }
 }
 
-/// Whether one of the values lists the name, without case.
-fn is_listed(name: &[u8], values: &[Text]) -> bool
-    ensures { result ≡ list_any (λ value. lists_word name.now value) values.now }
+/// Whether the name is one of the words, without case.
+fn is_among(words: &[Text], name: &[u8]) -> bool
+    ensures { result ≡ is_among words.now name.now }
 {
-    values
+    words
         .iter()
-        .any(|value| lists_word(name, value.as_bytes()))
+        .any(|word| same_without_case(word.as_bytes(), name))
 }
 
 /// The fields that may be passed on of a message that has these and holds back so.

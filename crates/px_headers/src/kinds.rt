@@ -1,10 +1,21 @@
 // Which answers are texts.
-ghost use Rattle.std.specs.Prelude.{◌≡◌};
+ghost use Rattle.std.specs.Prelude.{◌≡◌, ◌∷◌, ℕ, List, false, length, take};
+ghost use Rattle.std.specs.Str.{str_eq_ignore_ascii_case};
 ghost use Rattle.px_headers.specs.Kinds.{holds_without_case, is_text as is_text_spec, is_text_type};
 
 use px_actions::{ActionSet, Kind};
 use px_base::same_without_case;
 use px_head::{Field, first_field};
+
+/// Whether a byte may be the first of the word, without case.
+fn may_begin(word: &[u8], byte: u8) -> bool
+    ensures { result ≡ false → (more : List ℕ) → str_eq_ignore_ascii_case (take (length word.now) (byte ∷ more)) word.now ≡ false }
+{
+    match word.first() {
+        Some(letter) => letter.eq_ignore_ascii_case(&byte),
+        None => true,
+    }
+}
 
 /// Whether the word stands in the text, without case.
 #[tactic(auto, unfolding(crate::specs::Kinds::holds_without_case))]
@@ -12,10 +23,12 @@ fn holds_without_case(word: &[u8], text: &[u8]) -> bool
     ensures { result ≡ holds_without_case word.now text.now }
 {
     let mut rest = text;
-    'places: while let Some((_first, more)) = rest.split_first() {
-        let front = &rest[..word.len().min(rest.len())];
-        if same_without_case(front, word) {
-            return true;
+    'places: while let Some((first, more)) = rest.split_first() {
+        if may_begin(word, *first) {
+            let front = &rest[..word.len().min(rest.len())];
+            if same_without_case(front, word) {
+                return true;
+            }
         }
         rest = more;
     }

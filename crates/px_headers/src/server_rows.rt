@@ -117,8 +117,9 @@ fn limit_cookies(
 pub(crate) fn new_content_type<'s>(set: &'s ActionSet, received: &[Field]) -> Option<&'s [u8]>
     ensures { option_copied result ≡ new_content_type set.now received.now }
 {
+    let value = set.value(Kind::ContentTypeOverwrite)?;
     if is_text(received, set) {
-        set.value(Kind::ContentTypeOverwrite)
+        Some(value)
     } else {
         None
     }

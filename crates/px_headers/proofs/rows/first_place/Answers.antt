@@ -1,4 +1,4 @@
-use Rattle.std.proofs.Common.{◌≡◌, ◌+◌, ◌≤◌, ℕ, List, Option, Some, None, length}
+use Rattle.std.proofs.Common.{◌+◌, ◌≤◌, ℕ, List, Option, Some, None, length}
 use Rattle.std.specs.Option.{IfSome}
 use Rattle.memchr.specs.Find.{FindsNeedle}
 use Rattle.memchr.proofs.lemmas.ValueLemmas.{FindsNeedle-value}
