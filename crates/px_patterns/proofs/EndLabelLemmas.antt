@@ -13,7 +13,7 @@ use Rattle.px_patterns.specs.declared.labels.LabelPattern.TheVariants.{Plain}
 use Rattle.px_patterns.specs.Hosts.{HasFirst, HasLast, LacksFirst, LacksLast, is_in_label, is_label, labels_in}
 use Rattle.px_patterns.proofs.HostLemmas.{labels_in-last, labels_in-one}
 
-abbrev is_dot : ℕ → Bool
+abbrev pub is_dot : ℕ → Bool
 is_dot b = b == DOT
 
 -- ---- the walk over a label
@@ -48,7 +48,7 @@ label-no_dot (a ∷ text) (b ∷ label) is =
     let parts = and_parts (is_in_label a b) (is_label text label) is in
     or_from (b == DOT) (list_any is_dot label) (not-true (b == DOT) (and_parts (not (b == DOT)) (eq_ignore_ascii_case a b) parts.0).0) (label-no_dot text label parts.1)
 
-no_dot_at : (label : List ℕ) → list_any is_dot label ≡ false → (k d : ℕ) → k < length label → (slice_index_or label k d == DOT) ≡ false
+pub no_dot_at : (label : List ℕ) → list_any is_dot label ≡ false → (k d : ℕ) → k < length label → (slice_index_or label k d == DOT) ≡ false
 no_dot_at [] none k d short = absurd (omega arith)
 no_dot_at (b ∷ label) none zero d short = (or_parts (b == DOT) (list_any is_dot label) none).0
 no_dot_at (b ∷ label) none (suc k) d short = no_dot_at label (or_parts (b == DOT) (list_any is_dot label) none).1 k d (omega arith)
@@ -118,7 +118,7 @@ has_last text bytes at within dot is =
 -- ---- the first label
 
 -- a list holds no dot, or is cut at its first one
-first_dot : (bytes : List ℕ) → (list_any is_dot bytes ≡ false) ⊎ ((label : List ℕ) × (behind : List ℕ) × (bytes ≡ label ++ DOT ∷ behind) × (list_any is_dot label ≡ false))
+pub first_dot : (bytes : List ℕ) → (list_any is_dot bytes ≡ false) ⊎ ((label : List ℕ) × (behind : List ℕ) × (bytes ≡ label ++ DOT ∷ behind) × (list_any is_dot label ≡ false))
 first_dot [] = inl refl
 first_dot (b ∷ bytes) = elim (cases_Bool (b == DOT)) [
   | inl does ↦ inr ([], bytes, ap (λ x. x ∷ bytes) (eqb-true b DOT does), refl)
@@ -129,7 +129,7 @@ first_dot (b ∷ bytes) = elim (cases_Bool (b == DOT)) [
 ]
 
 -- a text is cut at its first dot
-labels_in-first : (label behind : List ℕ) → list_any is_dot label ≡ false → labels_in (label ++ DOT ∷ behind) ≡ label ∷ labels_in behind
+pub labels_in-first : (label behind : List ℕ) → list_any is_dot label ≡ false → labels_in (label ++ DOT ∷ behind) ≡ label ∷ labels_in behind
 labels_in-first [] behind none = refl
 labels_in-first (b ∷ label) behind none =
     let parts = or_parts (b == DOT) (list_any is_dot label) none in

@@ -141,41 +141,45 @@ match-short more [] some = absurd (omega arith)
 match-short more (pattern ∷ patterns) some = refl
 
 -- one pattern and one label of the walk
-pub begin_step : (more : Bool) (patterns : List LabelPattern) (at : ℕ) (pattern : LabelPattern) (bytes label : List ℕ) (behind : Option (List ℕ)) → at < length patterns →
+pub front_step : (more : Bool) (patterns : List LabelPattern) (at : ℕ) (pattern : LabelPattern) (bytes label : List ℕ) (behind : Option (List ℕ)) → at < length patterns →
     pattern ≡ slice_index_or patterns at pattern → labels_in bytes ≡ label ∷ parts_of DOT behind →
     labels_match more (drop at patterns) (parts_of DOT (Some bytes)) ≡ (label_matches pattern label && labels_match more (drop (at + 1) patterns) (parts_of DOT behind))
-begin_step more patterns at pattern bytes label behind within is cut =
+front_step more patterns at pattern bytes label behind within is cut =
     ap (λ l. labels_match more l (labels_in bytes)) (drop_more patterns at pattern within ∙ ap (λ p. p ∷ drop (at + 1) patterns) (sym is))
     ∙ ap (labels_match more (pattern ∷ drop (at + 1) patterns)) cut
     ∙ match-cons more pattern (drop (at + 1) patterns) label (parts_of DOT behind)
 
-pub begin_short : (more : Bool) (patterns : List LabelPattern) (at : ℕ) → at < length patterns → labels_match more (drop at patterns) [] ≡ false
-begin_short more patterns at within = match-short more (drop at patterns) (omega (arith, length-drop at patterns))
+pub front_short : (more : Bool) (patterns : List LabelPattern) (at : ℕ) → at < length patterns → labels_match more (drop at patterns) [] ≡ false
+front_short more patterns at within = match-short more (drop at patterns) (omega (arith, length-drop at patterns))
 
-pub begin_open : (more : Bool) (patterns : List LabelPattern) (at : ℕ) (bytes : List ℕ) → length patterns ≤ at → labels_match more (drop at patterns) (parts_of DOT (Some bytes)) ≡ more
-begin_open more patterns at bytes past =
+pub front_open : (more : Bool) (patterns : List LabelPattern) (at : ℕ) (bytes : List ℕ) → length patterns ≤ at → labels_match more (drop at patterns) (parts_of DOT (Some bytes)) ≡ more
+front_open more patterns at bytes past =
     ap (λ l. labels_match more l (labels_in bytes)) (drop_all at patterns past) ∙ past_end more (labels_in bytes) (omega (arith, length-slice_split (λ b. b == DOT) bytes))
 
-pub begin_done : (more : Bool) (patterns : List LabelPattern) (at : ℕ) → length patterns ≤ at → labels_match more (drop at patterns) [] ≡ true
+pub front_done : (more : Bool) (patterns : List LabelPattern) (at : ℕ) → length patterns ≤ at → labels_match more (drop at patterns) [] ≡ true
 unfolding labels_match
-begin_done more patterns at past = ap (λ l. labels_match more l []) (drop_all at patterns past)
+front_done more patterns at past = ap (λ l. labels_match more l []) (drop_all at patterns past)
 
 -- ---- between
 
 -- one place of the search
-pub place_here : (patterns : List LabelPattern) (bytes : List ℕ) → labels_match true patterns (labels_in bytes) ≡ true → some_tail (labels_match true patterns) (labels_in bytes) ≡ true
-place_here patterns bytes begins = some_tail-at (labels_match true patterns) [] (labels_in bytes) begins
+pub place_here : (patterns : List LabelPattern) (bytes label : List ℕ) (behind : Option (List ℕ)) → labels_in bytes ≡ label ∷ parts_of DOT behind → labels_match true patterns (label ∷ parts_of DOT behind) ≡ true →
+    some_tail (labels_match true patterns) (labels_in bytes) ≡ true
+place_here patterns bytes label behind cut fits = some_tail-at (labels_match true patterns) [] (labels_in bytes) (ap (labels_match true patterns) cut ∙ fits)
 
-pub place_later : (patterns : List LabelPattern) (bytes label : List ℕ) (behind : Option (List ℕ)) → labels_in bytes ≡ label ∷ parts_of DOT behind → labels_match true patterns (labels_in bytes) ≡ false →
+pub place_later : (patterns : List LabelPattern) (bytes label : List ℕ) (behind : Option (List ℕ)) → labels_in bytes ≡ label ∷ parts_of DOT behind → labels_match true patterns (label ∷ parts_of DOT behind) ≡ false →
     some_tail (labels_match true patterns) (labels_in bytes) ≡ some_tail (labels_match true patterns) (parts_of DOT behind)
 place_later patterns bytes label behind cut fails =
-    let here : labels_match true patterns (label ∷ parts_of DOT behind) ≡ false = ap (labels_match true patterns) (sym cut) ∙ fails in
-    ap (some_tail (labels_match true patterns)) cut ∙ ap (λ t. t || some_tail (labels_match true patterns) (parts_of DOT behind)) here
+    ap (some_tail (labels_match true patterns)) cut ∙ ap (λ t. t || some_tail (labels_match true patterns) (parts_of DOT behind)) fails
 
-pub place_none : (patterns : List LabelPattern) (bytes label : List ℕ) → labels_in bytes ≡ label ∷ [] → labels_match true patterns (labels_in bytes) ≡ false → some_tail (labels_match true patterns) (labels_in bytes) ≡ false
+pub place_none : (pattern : LabelPattern) (patterns : List LabelPattern) (bytes label : List ℕ) → labels_in bytes ≡ label ∷ [] → labels_match true (pattern ∷ patterns) (label ∷ []) ≡ false →
+    some_tail (labels_match true (pattern ∷ patterns)) (labels_in bytes) ≡ false
 unfolding labels_match
-place_none [] bytes label cut fails = absurd (both_ways (labels_match true [] (labels_in bytes)) fails (ap (labels_match true []) cut))
-place_none (pattern ∷ patterns) bytes label cut fails = place_later (pattern ∷ patterns) bytes label None cut fails
+place_none pattern patterns bytes label cut fails = place_later (pattern ∷ patterns) bytes label None cut fails
+
+pub every_place : (patterns : List LabelPattern) (bytes : List ℕ) → length patterns ≡ 0 → true ≡ some_tail (labels_match true patterns) (labels_in bytes)
+every_place patterns bytes none =
+    sym (some_tail-at (labels_match true patterns) [] (labels_in bytes) (front_open true patterns 0 bytes (omega (arith, none))))
 
 -- ---- from the end
 

@@ -1,14 +1,16 @@
 // Host patterns.
-ghost use Rattle.std.specs.Prelude.{◌≡◌, ◌↔◌, ◌==◌, ◌++◌, ◌∷◌, [], true, false, IsTrue, MatchOption, length, option_copied};
+ghost use Rattle.std.specs.Prelude.{◌≡◌, ◌<◌, ◌↔◌, ◌==◌, ◌++◌, ◌∷◌, [], true, false, IfSome, IsTrue, MatchOption, length, option_copied};
 ghost use Rattle.std.specs.List.{slice_split};
 ghost use Rattle.px_base.specs.Cuts.{parts_of};
 ghost use Rattle.px_patterns.specs.Globs.{some_tail};
 ghost use Rattle.px_patterns.specs.Hosts.{HasFirst, HasLast, LacksFirst, LacksLast, host_labels, is_in_label, is_label, labels_in, labels_match, last_plain, without_last_dot};
-ghost use Rattle.px_patterns.specs.declared.labels.LabelPattern.TheVariants.{Plain};
+ghost use Rattle.px_patterns.specs.declared.labels.LabelPattern.TheVariants.{Glob, Plain};
+ghost use Rattle.px_patterns.specs.declared.labels.Item.TheVariants.{AnyRun};
 
-use crate::{DOT, LabelPattern};
+use crate::labels::run_matches;
+use crate::{DOT, Item, LabelPattern};
 use memchr::memrchr;
-use px_base::{List, Text, cut, same_without_case};
+use px_base::{List, Text, same_without_case};
 
 /// The labels of a host pattern.
 #[derive(Drop)]
@@ -117,18 +119,22 @@ impl HostLabels {
     {
         let patterns = self.labels.as_slice();
         if !self.open_front {
-            begin(patterns, self.open_end, Some(host))
+            matches_from_front(patterns, self.open_end, Some(host))
         } else if self.open_end {
-            begin_somewhere(patterns, host)
+            matches_somewhere(patterns, host)
         } else {
-            end(patterns, host)
+            matches_at_end(patterns, host)
         }
     }
 }
 
-/// Whether the patterns match the labels one by one from the front; others may follow where `more` says so.
-fn begin(patterns: &[LabelPattern], more: bool, labels: Option<&[u8]>) -> bool
-    ensures { result ≡ labels_match more patterns.now (parts_of DOT (option_copied labels.entry)) }
+/// Whether the patterns match the labels one by one from the front; others may follow where `others_may_follow` says so.
+fn matches_from_front(
+    patterns: &[LabelPattern],
+    others_may_follow: bool,
+    labels: Option<&[u8]>,
+) -> bool
+    ensures { result ≡ labels_match others_may_follow patterns.now (parts_of DOT (option_copied labels.entry)) }
 {
     let mut rest = labels;
     for pattern in patterns {
@@ -141,29 +147,52 @@ fn begin(patterns: &[LabelPattern], more: bool, labels: Option<&[u8]>) -> bool
         }
     }
     match rest {
-        Some(_) => more,
+        Some(_) => others_may_follow,
         None => true,
     }
 }
 
 /// Whether the patterns match labels that stand side by side in a host.
-fn begin_somewhere(patterns: &[LabelPattern], host: &[u8]) -> bool
+fn matches_somewhere(patterns: &[LabelPattern], host: &[u8]) -> bool
     ensures { result ≡ some_tail (labels_match true patterns.now) (labels_in host.now) }
 {
+    match patterns.split_first() {
+        Some((first, others)) => follow_somewhere(first, others, host),
+        None => true,
+    }
+}
+
+/// Whether the first pattern matches a label of a host, and the others those behind it.
+fn follow_somewhere(first: &LabelPattern, others: &[LabelPattern], host: &[u8]) -> bool
+    ensures { result ≡ some_tail (labels_match true (first.now ∷ others.now)) (labels_in host.now) }
+{
     let mut rest = host;
-    'places: loop {
-        if begin(patterns, true, Some(rest)) {
+    'labels: loop {
+        let (label, behind) = first_label(rest);
+        if follow_here(first, others, label, behind) {
             return true;
         }
-        match cut(rest, DOT).1 {
-            Some(behind) => rest = behind,
+        match behind {
+            Some(more) => rest = more,
             None => return false,
         }
     }
 }
 
+/// Whether the first pattern matches a label, and the others those behind it.
+fn follow_here(
+    first: &LabelPattern,
+    others: &[LabelPattern],
+    label: &[u8],
+    behind: Option<&[u8]>,
+) -> bool
+    ensures { result ≡ labels_match true (first.now ∷ others.now) (label.now ∷ parts_of DOT (option_copied behind.entry)) }
+{
+    first.matches(label) && matches_from_front(others, true, behind)
+}
+
 /// Whether the patterns match the last labels of a host.
-fn end(patterns: &[LabelPattern], host: &[u8]) -> bool
+fn matches_at_end(patterns: &[LabelPattern], host: &[u8]) -> bool
     ensures { result ≡ some_tail (labels_match false patterns.now) (labels_in host.now) }
 {
     let mut left = patterns;
@@ -187,15 +216,56 @@ fn without_first<'a>(pattern: &LabelPattern, bytes: &'a [u8]) -> Option<Option<&
 {
     match pattern {
         LabelPattern::Plain(text) => without_first_text(text.as_bytes(), bytes),
-        LabelPattern::Glob(_) => {
-            let (label, behind) = cut(bytes, DOT);
-            if pattern.matches(label) {
-                Some(behind)
-            } else {
-                None
-            }
+        LabelPattern::Glob(items) => without_first_glob(items.as_slice(), bytes),
+    }
+}
+
+/// What stands behind the first label and its dot, if one follows, where items match that label.
+fn without_first_glob<'a>(items: &[Item], bytes: &'a [u8]) -> Option<Option<&'a [u8]>>
+    ensures { MatchOption result (LacksFirst (Glob items.now) bytes.now) (λ behind. HasFirst (Glob items.now) bytes.now (option_copied behind)) }
+{
+    for (at, item) in items.iter().enumerate() {
+        if item.is_run() {
+            return without_first_run(&items[at + 1..], &bytes[at..]);
+        }
+        if at == bytes.len() {
+            return None;
+        }
+        let byte = bytes[at];
+        if byte == DOT {
+            return None;
+        }
+        if !item.takes(byte) {
+            return None;
         }
     }
+    without_first_dot(&bytes[items.len()..])
+}
+
+/// What stands behind the first label and its dot, if one follows, where a `*` and items match that label.
+fn without_first_run<'a>(items: &[Item], bytes: &'a [u8]) -> Option<Option<&'a [u8]>>
+    ensures { MatchOption result (LacksFirst (Glob (AnyRun ∷ items.now)) bytes.now) (λ behind. HasFirst (Glob (AnyRun ∷ items.now)) bytes.now (option_copied behind)) }
+{
+    let (label, behind) = first_label(bytes);
+    if run_matches(items, label) {
+        Some(behind)
+    } else {
+        None
+    }
+}
+
+/// What stands behind the dot at the front, if one is there, where the first label is empty.
+fn without_first_dot(bytes: &[u8]) -> Option<Option<&[u8]>>
+    ensures { MatchOption result (LacksFirst (Glob []) bytes.now) (λ behind. HasFirst (Glob []) bytes.now (option_copied behind)) }
+{
+    if bytes.is_empty() {
+        return Some(None);
+    }
+    let first = bytes[0];
+    if first != DOT {
+        return None;
+    }
+    Some(Some(&bytes[1..]))
 }
 
 /// What stands behind the first label and its dot, if one follows, where that label is a text, without case.
@@ -275,6 +345,19 @@ fn is_in_label(own: u8, byte: u8) -> bool
     ensures { result ≡ is_in_label own byte }
 {
     byte != DOT && (own == byte || own.eq_ignore_ascii_case(&byte))
+}
+
+/// The first label, and what stands behind its dot, if one follows. Labels are short: a loop finds the dot sooner than memchr.
+fn first_label(bytes: &[u8]) -> (&[u8], Option<&[u8]>)
+    ensures parts { labels_in bytes.now ≡ result.0.now ∷ parts_of DOT (option_copied result.1) }
+    ensures shorter { IfSome result.1 (λ behind. length behind.now < length bytes.now) }
+{
+    for (at, byte) in bytes.iter().enumerate() {
+        if *byte == DOT {
+            return (&bytes[..at], Some(&bytes[at + 1..]));
+        }
+    }
+    (bytes, None)
 }
 
 /// The bytes before the last dot, if there is one, and the last label.

@@ -3,7 +3,7 @@ use Rattle.std.specs.Prelude.{option_copied}
 use Rattle.px_base.specs.Cuts.{parts_of}
 use Rattle.px_patterns.specs.declared.TheConstants.{DOT}
 use Rattle.px_patterns.proofs.HostLemmas.{end_done, end_short, end_step, ends}
-use Rattle.px_patterns.proofs.hosts.end.Goals as goal
+use Rattle.px_patterns.proofs.hosts.matches_at_end.Goals as goal
 
 pub returns-in-None-without_last : goal.returns-in-None-without_last
 returns-in-None-without_last c =
