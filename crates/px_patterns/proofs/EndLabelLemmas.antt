@@ -6,7 +6,7 @@ use Rattle.std.specs.List.{list_any, onto_first}
 use Rattle.std.specs.Str.{str_eq_ignore_ascii_case}
 use Rattle.std.proofs.Math.Seq.{drop-append-add, get_or-append_seam, take-append_seam}
 use Rattle.std.proofs.lemmas.Bool.{and_parts, cases_Bool, eqb-true, not-true, or_from, or_parts}
-use Rattle.std.proofs.lemmas.List.{drop_all, drop_more, length-map, take-append-drop, take_all}
+use Rattle.std.proofs.lemmas.List.{drop_all, drop_more, length-map, take-append-drop, take_all, take_rest}
 use Rattle.std.proofs.lemmas.Slice.Eq.{bytes_eq-Decides}
 use Rattle.px_patterns.specs.declared.TheConstants.{DOT}
 use Rattle.px_patterns.specs.declared.labels.LabelPattern.TheVariants.{Plain}
@@ -53,6 +53,9 @@ no_dot_at [] none k d short = absurd (omega arith)
 no_dot_at (b ∷ label) none zero d short = (or_parts (b == DOT) (list_any is_dot label) none).0
 no_dot_at (b ∷ label) none (suc k) d short = no_dot_at label (or_parts (b == DOT) (list_any is_dot label) none).1 k d (omega arith)
 
+pub alone : (bytes : List ℕ) → list_any is_dot bytes ≡ false → labels_in bytes ≡ bytes ∷ []
+alone bytes none = labels_in-one bytes (no_dot_at bytes none)
+
 same_length : (text label : List ℕ) → str_eq_ignore_ascii_case text label ≡ true → length text ≡ length label
 same_length text label same =
     sym (length-map text to_ascii_lowercase) ∙ ap length ((bytes_eq-Decides (map to_ascii_lowercase text) (map to_ascii_lowercase label)).0 same) ∙ length-map label to_ascii_lowercase
@@ -69,6 +72,22 @@ last_dot (b ∷ bytes) = elim (last_dot bytes) [
   ]
   | inr found ↦ inr (b ∷ found.0, found.1, ap (λ l. b ∷ l) found.2, found.3)
 ]
+
+-- the walk from the end
+pub no_dot_behind : (bytes : List ℕ) → list_any is_dot (drop (length bytes) bytes) ≡ false
+no_dot_behind bytes = ap (list_any is_dot) (drop_all (length bytes) bytes (omega arith))
+
+pub cut_at_last : (bytes : List ℕ) (start : ℕ) → 0 < start → start ≤ length bytes → slice_index bytes (start - 1) ≡ DOT → list_any is_dot (drop start bytes) ≡ false →
+    labels_in bytes ≡ labels_in (take (start - 1) bytes) ++ take (length bytes - start) (drop start bytes) ∷ []
+cut_at_last bytes start some within dot none =
+    let next : start - 1 + 1 ≡ start = omega (arith, some) in
+    let split : bytes ≡ take (start - 1) bytes ++ DOT ∷ drop start bytes =
+    sym (take-append-drop (start - 1) bytes)
+    ∙ (ap (λ l. take (start - 1) bytes ++ l) (drop_more bytes (start - 1) 0 (omega (arith, some, within)))
+    ∙ (ap (λ b. take (start - 1) bytes ++ b ∷ drop (start - 1 + 1) bytes) dot ∙ ap (λ n. take (start - 1) bytes ++ DOT ∷ drop n bytes) next)) in
+    ap labels_in split
+    ∙ (labels_in-last (take (start - 1) bytes) (drop start bytes) (no_dot_at (drop start bytes) none)
+    ∙ ap (λ l. labels_in (take (start - 1) bytes) ++ l ∷ []) (sym (take_rest bytes start)))
 
 -- where the text stands at the end, it isn't the whole, and another byte than a dot stands before it
 abbrev pub StandsInside : List ℕ → List ℕ → Type 0

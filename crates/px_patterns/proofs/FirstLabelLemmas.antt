@@ -11,9 +11,8 @@ use Rattle.px_patterns.specs.declared.labels.LabelPattern.TheVariants.{Glob}
 use Rattle.px_patterns.specs.Globs.{glob_matches, takes}
 use Rattle.px_patterns.specs.Hosts.{HasFirst, LacksFirst, labels_in}
 use Rattle.px_patterns.specs.Runs.{is_run}
-use Rattle.px_patterns.proofs.EndLabelLemmas.{first_dot, is_dot, labels_in-first, no_dot_at}
+use Rattle.px_patterns.proofs.EndLabelLemmas.{alone, first_dot, is_dot, labels_in-first}
 use Rattle.px_patterns.proofs.GlobLemmas.{glob-fixed, item_at}
-use Rattle.px_patterns.proofs.HostLemmas.{labels_in-one}
 use Rattle.px_patterns.proofs.OptionLemmas.{MatchOption-weaker}
 
 -- ---- the first label
@@ -23,9 +22,6 @@ cut_at_first bytes at within dot none =
     let split : bytes ≡ take at bytes ++ DOT ∷ drop (at + 1) bytes =
     sym (take-append-drop at bytes) ∙ (ap (λ l. take at bytes ++ l) (drop_more bytes at 0 within) ∙ ap (λ b. take at bytes ++ b ∷ drop (at + 1) bytes) dot) in
     ap labels_in split ∙ labels_in-first (take at bytes) (drop (at + 1) bytes) none
-
-pub alone : (bytes : List ℕ) → list_any is_dot bytes ≡ false → labels_in bytes ≡ bytes ∷ []
-alone bytes none = labels_in-one bytes (no_dot_at bytes none)
 
 label_of_front : (bytes : List ℕ) → (label : List ℕ) × (behind : Option (List ℕ)) × (labels_in bytes ≡ label ∷ parts_of DOT behind)
 label_of_front bytes = elim (first_dot bytes) [

@@ -1,17 +1,15 @@
 -- A glob matches a label exactly where the label can be cut into pieces, and where a scan from `*` to `*` finds it.
 use Rattle.std.proofs.Common.{◌≡◌, ℕ, ◌+◌, ◌-◌, ◌<◌, ◌≤◌, ◌↔◌, Bool, true, false, ◌&&◌, ◌||◌, IsTrue, List, [], ◌∷◌, ◌++◌, length, take, drop, map, refl, ap, sym, ◌∙◌, subst, arith, inl, inr, None, Some, append-nil, append_assoc, length-append, length-drop}
 use Rattle.std.specs.Prelude.{◌==◌, slice_index, slice_index_or}
-use Rattle.std.specs.Char.{eq_ignore_ascii_case, to_ascii_lowercase}
+use Rattle.std.specs.Char.{eq_ignore_ascii_case}
 use Rattle.std.specs.Str.{str_eq_ignore_ascii_case}
 use Rattle.std.proofs.lemmas.Bool.{both_ways, false≢true, cases_Bool, and_parts, or_cases, and_from, eqb-true, eq-eqb, ne_eqb}
 use Rattle.std.proofs.lemmas.List.{drop-drop, drop_all, drop_at, drop_more, take-append-drop, take_rest}
-use Rattle.std.proofs.lemmas.Bool.Decides.{same_from_decides}
-use Rattle.std.specs.Cmp.Lexicographic.{bytes_decides}
 use Rattle.px_patterns.specs.declared.labels.Item.{Item}
 use Rattle.px_patterns.specs.declared.labels.Item.TheVariants.{AnyByte, AnyRun, Byte, Class}
 use Rattle.px_patterns.specs.declared.labels.LabelPattern.{LabelPattern}
 use Rattle.px_patterns.specs.declared.labels.LabelPattern.TheVariants.{Glob, Plain}
-use Rattle.px_patterns.specs.Globs.{ArePieces, CanBeCut, IsPiece, glob_matches, items_in, joined_pieces, label_matches, some_tail, takes, takes_first}
+use Rattle.px_patterns.specs.Globs.{ArePieces, CanBeCut, glob_matches, items_in, joined_pieces, label_matches, some_tail, takes, takes_first}
 use Rattle.px_patterns.specs.Runs.{behind_first, has_run, is_run, takes_front}
 
 -- ---- tests
@@ -59,19 +57,6 @@ tail_of-some test (x ∷ xs) passes =
     ]
 
 -- ---- cuts
-
--- the first piece is a byte that the item takes
-first_piece : (item : Item) (piece : List ℕ) → is_run item ≡ false → IsPiece item piece → (b : ℕ) × (piece ≡ b ∷ []) × IsTrue (takes item b)
-first_piece AnyRun piece fixed is = absurd (cc fixed)
-first_piece AnyByte piece fixed is = is
-first_piece (Byte a) piece fixed is = is
-first_piece (Class ranges) piece fixed is = is
-
-piece_of : (item : Item) (b : ℕ) → is_run item ≡ false → takes item b ≡ true → IsPiece item (b ∷ [])
-piece_of AnyRun b fixed is = absurd (cc fixed)
-piece_of AnyByte b fixed is = (b, refl, is)
-piece_of (Byte a) b fixed is = (b, refl, is)
-piece_of (Class ranges) b fixed is = (b, refl, is)
 
 pub glob-fixed : (item : Item) (items : List Item) (label : List ℕ) → is_run item ≡ false → glob_matches (item ∷ items) label ≡ takes_first item (glob_matches items) label
 unfolding glob_matches
@@ -324,11 +309,6 @@ label-cut (Plain text) label = (
   λ cut. sym (plain-glob text label) ∙ ap (glob_matches (map (λ b. Byte b) text)) (sym cut.2) ∙ glob-from-cut (map (λ b. Byte b) text) cut.0 cut.1,
 )
 label-cut (Glob items) label = (λ is. cut-from-glob items label is, λ cut. ap (glob_matches items) (sym cut.2) ∙ glob-from-cut items cut.0 cut.1)
-
--- a test of two texts without case
-pub same_text-from : (r : Bool) (a b : List ℕ) → (IsTrue r ↔ (map to_ascii_lowercase a ≡ map to_ascii_lowercase b)) → r ≡ str_eq_ignore_ascii_case a b
-same_text-from r a b is =
-    same_from_decides r (str_eq_ignore_ascii_case a b) is (bytes_decides (map to_ascii_lowercase a) (map to_ascii_lowercase b))
 
 -- ---- the scan behind a `*`
 

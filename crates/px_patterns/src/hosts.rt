@@ -3,13 +3,12 @@ ghost use Rattle.std.specs.Prelude.{◌≡◌, ◌<◌, ◌↔◌, ◌==◌, ◌
 ghost use Rattle.std.specs.List.{slice_split};
 ghost use Rattle.px_base.specs.Cuts.{parts_of};
 ghost use Rattle.px_patterns.specs.Globs.{some_tail};
-ghost use Rattle.px_patterns.specs.Hosts.{HasFirst, HasLast, LacksFirst, LacksLast, host_labels, is_in_label, is_label, labels_in, labels_match, last_plain, without_last_dot};
+ghost use Rattle.px_patterns.specs.Hosts.{HasFirst, HasLast, LacksFirst, LacksLast, ends_with_dot, host_labels, is_in_label, is_label, labels_in, labels_match, last_plain, rest_bytes, without_last_dot};
 ghost use Rattle.px_patterns.specs.declared.labels.LabelPattern.TheVariants.{Glob, Plain};
 ghost use Rattle.px_patterns.specs.declared.labels.Item.TheVariants.{AnyRun};
 
 use crate::labels::run_matches;
 use crate::{DOT, Item, LabelPattern};
-use memchr::memrchr;
 use px_base::{List, Text, same_without_case};
 
 /// The labels of a host pattern.
@@ -110,6 +109,15 @@ impl HostPattern {
     }
 }
 
+/// What a host has beside one of its labels.
+#[derive(Clone, Copy)]
+pub(crate) enum Rest<'a> {
+    /// The labels between the dots of these bytes.
+    Labels(&'a [u8]),
+    /// No other label.
+    Nothing,
+}
+
 impl HostLabels {
     ghost use Rattle.px_patterns.specs.Hosts.{fitting_labels, labels_in};
 
@@ -119,7 +127,7 @@ impl HostLabels {
     {
         let patterns = self.labels.as_slice();
         if !self.open_front {
-            matches_from_front(patterns, self.open_end, Some(host))
+            matches_from_front(patterns, self.open_end, Rest::Labels(host))
         } else if self.open_end {
             matches_somewhere(patterns, host)
         } else {
@@ -128,27 +136,23 @@ impl HostLabels {
     }
 }
 
-/// Whether the patterns match the labels one by one from the front; others may follow where `others_may_follow` says so.
-fn matches_from_front(
-    patterns: &[LabelPattern],
-    others_may_follow: bool,
-    labels: Option<&[u8]>,
-) -> bool
-    ensures { result ≡ labels_match others_may_follow patterns.now (parts_of DOT (option_copied labels.entry)) }
+/// Whether the patterns match the labels one by one from the front; others may follow where `open_end` says so.
+fn matches_from_front(patterns: &[LabelPattern], open_end: bool, labels: Rest<'_>) -> bool
+    ensures { result ≡ labels_match open_end patterns.now (parts_of DOT (rest_bytes labels.entry)) }
 {
     let mut rest = labels;
     for pattern in patterns {
         match rest {
-            Some(bytes) => match without_first(pattern, bytes) {
+            Rest::Labels(bytes) => match without_first(pattern, bytes) {
                 Some(behind) => rest = behind,
                 None => return false,
             },
-            None => return false,
+            Rest::Nothing => return false,
         }
     }
     match rest {
-        Some(_) => others_may_follow,
-        None => true,
+        Rest::Labels(_) => open_end,
+        Rest::Nothing => true,
     }
 }
 
@@ -157,36 +161,36 @@ fn matches_somewhere(patterns: &[LabelPattern], host: &[u8]) -> bool
     ensures { result ≡ some_tail (labels_match true patterns.now) (labels_in host.now) }
 {
     match patterns.split_first() {
-        Some((first, others)) => follow_somewhere(first, others, host),
+        Some((first, others)) => matches_at_some_label(first, others, host),
         None => true,
     }
 }
 
 /// Whether the first pattern matches a label of a host, and the others those behind it.
-fn follow_somewhere(first: &LabelPattern, others: &[LabelPattern], host: &[u8]) -> bool
+fn matches_at_some_label(first: &LabelPattern, others: &[LabelPattern], host: &[u8]) -> bool
     ensures { result ≡ some_tail (labels_match true (first.now ∷ others.now)) (labels_in host.now) }
 {
     let mut rest = host;
     'labels: loop {
         let (label, behind) = first_label(rest);
-        if follow_here(first, others, label, behind) {
+        if matches_from_label(first, others, label, behind) {
             return true;
         }
         match behind {
-            Some(more) => rest = more,
-            None => return false,
+            Rest::Labels(more) => rest = more,
+            Rest::Nothing => return false,
         }
     }
 }
 
 /// Whether the first pattern matches a label, and the others those behind it.
-fn follow_here(
+fn matches_from_label(
     first: &LabelPattern,
     others: &[LabelPattern],
     label: &[u8],
-    behind: Option<&[u8]>,
+    behind: Rest<'_>,
 ) -> bool
-    ensures { result ≡ labels_match true (first.now ∷ others.now) (label.now ∷ parts_of DOT (option_copied behind.entry)) }
+    ensures { result ≡ labels_match true (first.now ∷ others.now) (label.now ∷ parts_of DOT (rest_bytes behind.entry)) }
 {
     first.matches(label) && matches_from_front(others, true, behind)
 }
@@ -196,14 +200,14 @@ fn matches_at_end(patterns: &[LabelPattern], host: &[u8]) -> bool
     ensures { result ≡ some_tail (labels_match false patterns.now) (labels_in host.now) }
 {
     let mut left = patterns;
-    let mut rest = Some(host);
+    let mut rest = Rest::Labels(host);
     'labels: while let Some((last, before)) = left.split_last() {
         match rest {
-            Some(bytes) => match without_last(last, bytes) {
+            Rest::Labels(bytes) => match without_last(last, bytes) {
                 Some(front) => rest = front,
                 None => return false,
             },
-            None => return false,
+            Rest::Nothing => return false,
         }
         left = before;
     }
@@ -211,8 +215,8 @@ fn matches_at_end(patterns: &[LabelPattern], host: &[u8]) -> bool
 }
 
 /// What stands behind the first label and its dot, if one follows, where the pattern matches that label.
-fn without_first<'a>(pattern: &LabelPattern, bytes: &'a [u8]) -> Option<Option<&'a [u8]>>
-    ensures { MatchOption result (LacksFirst pattern.now bytes.now) (λ behind. HasFirst pattern.now bytes.now (option_copied behind)) }
+fn without_first<'a>(pattern: &LabelPattern, bytes: &'a [u8]) -> Option<Rest<'a>>
+    ensures { MatchOption result (LacksFirst pattern.now bytes.now) (λ behind. HasFirst pattern.now bytes.now (rest_bytes behind)) }
 {
     match pattern {
         LabelPattern::Plain(text) => without_first_text(text.as_bytes(), bytes),
@@ -221,8 +225,8 @@ fn without_first<'a>(pattern: &LabelPattern, bytes: &'a [u8]) -> Option<Option<&
 }
 
 /// What stands behind the first label and its dot, if one follows, where items match that label.
-fn without_first_glob<'a>(items: &[Item], bytes: &'a [u8]) -> Option<Option<&'a [u8]>>
-    ensures { MatchOption result (LacksFirst (Glob items.now) bytes.now) (λ behind. HasFirst (Glob items.now) bytes.now (option_copied behind)) }
+fn without_first_glob<'a>(items: &[Item], bytes: &'a [u8]) -> Option<Rest<'a>>
+    ensures { MatchOption result (LacksFirst (Glob items.now) bytes.now) (λ behind. HasFirst (Glob items.now) bytes.now (rest_bytes behind)) }
 {
     for (at, item) in items.iter().enumerate() {
         if item.is_run() {
@@ -239,12 +243,12 @@ fn without_first_glob<'a>(items: &[Item], bytes: &'a [u8]) -> Option<Option<&'a 
             return None;
         }
     }
-    without_first_dot(&bytes[items.len()..])
+    without_first_empty(&bytes[items.len()..])
 }
 
 /// What stands behind the first label and its dot, if one follows, where a `*` and items match that label.
-fn without_first_run<'a>(items: &[Item], bytes: &'a [u8]) -> Option<Option<&'a [u8]>>
-    ensures { MatchOption result (LacksFirst (Glob (AnyRun ∷ items.now)) bytes.now) (λ behind. HasFirst (Glob (AnyRun ∷ items.now)) bytes.now (option_copied behind)) }
+fn without_first_run<'a>(items: &[Item], bytes: &'a [u8]) -> Option<Rest<'a>>
+    ensures { MatchOption result (LacksFirst (Glob (AnyRun ∷ items.now)) bytes.now) (λ behind. HasFirst (Glob (AnyRun ∷ items.now)) bytes.now (rest_bytes behind)) }
 {
     let (label, behind) = first_label(bytes);
     if run_matches(items, label) {
@@ -255,22 +259,22 @@ fn without_first_run<'a>(items: &[Item], bytes: &'a [u8]) -> Option<Option<&'a [
 }
 
 /// What stands behind the dot at the front, if one is there, where the first label is empty.
-fn without_first_dot(bytes: &[u8]) -> Option<Option<&[u8]>>
-    ensures { MatchOption result (LacksFirst (Glob []) bytes.now) (λ behind. HasFirst (Glob []) bytes.now (option_copied behind)) }
+fn without_first_empty(bytes: &[u8]) -> Option<Rest<'_>>
+    ensures { MatchOption result (LacksFirst (Glob []) bytes.now) (λ behind. HasFirst (Glob []) bytes.now (rest_bytes behind)) }
 {
     if bytes.is_empty() {
-        return Some(None);
+        return Some(Rest::Nothing);
     }
     let first = bytes[0];
     if first != DOT {
         return None;
     }
-    Some(Some(&bytes[1..]))
+    Some(Rest::Labels(&bytes[1..]))
 }
 
 /// What stands behind the first label and its dot, if one follows, where that label is a text, without case.
-fn without_first_text<'a>(text: &[u8], bytes: &'a [u8]) -> Option<Option<&'a [u8]>>
-    ensures { MatchOption result (LacksFirst (Plain text.now) bytes.now) (λ behind. HasFirst (Plain text.now) bytes.now (option_copied behind)) }
+fn without_first_text<'a>(text: &[u8], bytes: &'a [u8]) -> Option<Rest<'a>>
+    ensures { MatchOption result (LacksFirst (Plain text.now) bytes.now) (λ behind. HasFirst (Plain text.now) bytes.now (rest_bytes behind)) }
 {
     let end = text.len();
     if bytes.len() < end {
@@ -280,18 +284,18 @@ fn without_first_text<'a>(text: &[u8], bytes: &'a [u8]) -> Option<Option<&'a [u8
         return None;
     }
     if bytes.len() == end {
-        return Some(None);
+        return Some(Rest::Nothing);
     }
     let behind = bytes[end];
     if behind != DOT {
         return None;
     }
-    Some(Some(&bytes[end + 1..]))
+    Some(Rest::Labels(&bytes[end + 1..]))
 }
 
 /// What stands before the last label and its dot, if one does, where the pattern matches that label.
-fn without_last<'a>(pattern: &LabelPattern, bytes: &'a [u8]) -> Option<Option<&'a [u8]>>
-    ensures { MatchOption result (LacksLast pattern.now bytes.now) (λ front. HasLast pattern.now bytes.now (option_copied front)) }
+fn without_last<'a>(pattern: &LabelPattern, bytes: &'a [u8]) -> Option<Rest<'a>>
+    ensures { MatchOption result (LacksLast pattern.now bytes.now) (λ front. HasLast pattern.now bytes.now (rest_bytes front)) }
 {
     match pattern {
         LabelPattern::Plain(text) => without_last_text(text.as_bytes(), bytes),
@@ -307,8 +311,8 @@ fn without_last<'a>(pattern: &LabelPattern, bytes: &'a [u8]) -> Option<Option<&'
 }
 
 /// What stands before the last label and its dot, if one does, where that label is a text, without case.
-fn without_last_text<'a>(text: &[u8], bytes: &'a [u8]) -> Option<Option<&'a [u8]>>
-    ensures { MatchOption result (LacksLast (Plain text.now) bytes.now) (λ front. HasLast (Plain text.now) bytes.now (option_copied front)) }
+fn without_last_text<'a>(text: &[u8], bytes: &'a [u8]) -> Option<Rest<'a>>
+    ensures { MatchOption result (LacksLast (Plain text.now) bytes.now) (λ front. HasLast (Plain text.now) bytes.now (rest_bytes front)) }
 {
     if bytes.len() < text.len() {
         return None;
@@ -318,13 +322,13 @@ fn without_last_text<'a>(text: &[u8], bytes: &'a [u8]) -> Option<Option<&'a [u8]
         return None;
     }
     if start == 0 {
-        return Some(None);
+        return Some(Rest::Nothing);
     }
     let before = bytes[start - 1];
     if before != DOT {
         return None;
     }
-    Some(Some(&bytes[..start - 1]))
+    Some(Rest::Labels(&bytes[..start - 1]))
 }
 
 /// Whether bytes are a text, without case, and a label: no dot stands in them.
@@ -348,26 +352,31 @@ fn is_in_label(own: u8, byte: u8) -> bool
 }
 
 /// The first label, and what stands behind its dot, if one follows. Labels are short: a loop finds the dot sooner than memchr.
-fn first_label(bytes: &[u8]) -> (&[u8], Option<&[u8]>)
-    ensures parts { labels_in bytes.now ≡ result.0.now ∷ parts_of DOT (option_copied result.1) }
-    ensures shorter { IfSome result.1 (λ behind. length behind.now < length bytes.now) }
+fn first_label(bytes: &[u8]) -> (&[u8], Rest<'_>)
+    ensures parts { labels_in bytes.now ≡ result.0.now ∷ parts_of DOT (rest_bytes result.1) }
+    ensures shorter { IfSome (rest_bytes result.1) (λ behind. length behind < length bytes.now) }
 {
     for (at, byte) in bytes.iter().enumerate() {
         if *byte == DOT {
-            return (&bytes[..at], Some(&bytes[at + 1..]));
+            return (&bytes[..at], Rest::Labels(&bytes[at + 1..]));
         }
     }
-    (bytes, None)
+    (bytes, Rest::Nothing)
 }
 
 /// The bytes before the last dot, if there is one, and the last label.
-fn cut_last(bytes: &[u8]) -> (Option<&[u8]>, &[u8])
-    ensures { labels_in bytes.now ≡ parts_of DOT (option_copied result.0) ++ result.1.now ∷ [] }
+fn cut_last(bytes: &[u8]) -> (Rest<'_>, &[u8])
+    ensures { labels_in bytes.now ≡ parts_of DOT (rest_bytes result.0) ++ result.1.now ∷ [] }
 {
-    match memrchr(DOT, bytes) {
-        Some(at) => (Some(&bytes[..at]), &bytes[at + 1..]),
-        None => (None, bytes),
+    let mut start = bytes.len();
+    'bytes: while start > 0 {
+        let before = start - 1;
+        if bytes[before] == DOT {
+            return (Rest::Labels(&bytes[..before]), &bytes[start..]);
+        }
+        start = before;
     }
+    (Rest::Nothing, bytes)
 }
 
 /// The bytes without a dot at their end. What is left of a URL's host has its labels between dots.
@@ -375,11 +384,18 @@ pub fn without_last_dot(bytes: &[u8]) -> &[u8]
     ensures text { result.now ≡ without_last_dot bytes.now }
     ensures labels { slice_split (λ b. b == 46) result.now ≡ host_labels bytes.now }
 {
-    if bytes.ends_with(&[DOT]) {
+    if ends_with_dot(bytes) {
         &bytes[..bytes.len() - 1]
     } else {
         bytes
     }
+}
+
+/// Whether a dot stands at the end.
+pub(crate) fn ends_with_dot(text: &[u8]) -> bool
+    ensures { result ≡ ends_with_dot text.now }
+{
+    !text.is_empty() && text[text.len() - 1] == DOT
 }
 
 /// The last label without `*`, `?` and `[`.

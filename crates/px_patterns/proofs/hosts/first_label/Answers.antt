@@ -2,8 +2,8 @@ use Rattle.std.proofs.Common.{◌≡◌, ◌+◌, ◌∷◌, ◌∙◌, sym, ap,
 use Rattle.std.specs.List.{list_any}
 use Rattle.std.proofs.lemmas.List.{take_all, take_rest}
 use Rattle.px_patterns.specs.Hosts.{labels_in}
-use Rattle.px_patterns.proofs.EndLabelLemmas.{is_dot}
-use Rattle.px_patterns.proofs.FirstLabelLemmas.{alone, cut_at_first}
+use Rattle.px_patterns.proofs.EndLabelLemmas.{alone, is_dot}
+use Rattle.px_patterns.proofs.FirstLabelLemmas.{cut_at_first}
 use Rattle.px_patterns.proofs.hosts.first_label.Goals as goal
 
 pub returns-then-byte-eq-DOT-clause-parts : goal.returns-then-byte-eq-DOT-clause-parts

@@ -1,5 +1,5 @@
 use Rattle.std.proofs.Common.{◌∙◌, sym, ap, arith, drop, length}
-use Rattle.std.specs.Prelude.{option_copied}
+use Rattle.px_patterns.specs.Hosts.{rest_bytes}
 use Rattle.std.proofs.lemmas.List.{drop_all, take_rest}
 use Rattle.px_patterns.proofs.FirstLabelLemmas.{dot_at, ends_at, reached_rest, reaches_front, reaches_next, refused_at}
 use Rattle.px_patterns.proofs.GlobLemmas.{run_at}
@@ -15,7 +15,7 @@ loop-at-preserved c =
 
 pub returns-then-is_run : goal.returns-then-is_run
 returns-then-is_run c =
-    reached_rest c.without_first_run.result (λ behind. option_copied behind) c.args.items.now _ c.args.bytes.now _ c.loop-at.at c.loop-at.invariant
+    reached_rest c.without_first_run.result (λ behind. rest_bytes behind) c.args.items.now _ c.args.bytes.now _ c.loop-at.at c.loop-at.invariant
     (run_at c.args.items.now c.loop-at.at c.index-items-at.result c.loop-at-test.true c.index-items-at.is (sym c.is_run.ensures ∙ c.if-is_run.true))
     (take_rest c.args.bytes.now c.loop-at.at) c.without_first_run.ensures
 
@@ -35,7 +35,7 @@ returns-then-not-takes c =
 
 pub returns : goal.returns
 returns c =
-    reached_rest c.without_first_dot.result (λ behind. option_copied behind) c.args.items.now _ c.args.bytes.now _ c.loop-at.at c.loop-at.invariant
+    reached_rest c.without_first_empty.result (λ behind. rest_bytes behind) c.args.items.now _ c.args.bytes.now _ c.loop-at.at c.loop-at.invariant
     (sym (drop_all c.loop-at.at c.args.items.now c.loop-at-test.false))
     (take_rest c.args.bytes.now (length c.args.items.now)
-    ∙ ap (λ n. drop n c.args.bytes.now) (omega (arith, c.loop-at.invariant.in_items, c.loop-at-test.false))) c.without_first_dot.ensures
+    ∙ ap (λ n. drop n c.args.bytes.now) (omega (arith, c.loop-at.invariant.in_items, c.loop-at-test.false))) c.without_first_empty.ensures

@@ -1,5 +1,5 @@
 use Rattle.std.proofs.Common.{◌∙◌, sym}
-use Rattle.std.specs.Prelude.{option_copied}
+use Rattle.px_patterns.specs.Hosts.{rest_bytes}
 use Rattle.px_patterns.proofs.GlobLemmas.{glob-run}
 use Rattle.px_patterns.proofs.hosts.without_first_run.Goals as goal
 
@@ -13,7 +13,7 @@ returns-then-run_matches c = record {
 pub returns-else-run_matches : goal.returns-else-run_matches
 returns-else-run_matches c = record {
   label = c.first_label.result.0.now;
-  behind = option_copied c.first_label.result.1;
+  behind = rest_bytes c.first_label.result.1;
   cut = c.first_label.ensures.parts;
   fails = glob-run c.args.items.now c.first_label.result.0.now ∙ (sym c.run_matches.ensures ∙ c.if-run_matches.false);
 }

@@ -1,7 +1,7 @@
 use Rattle.std.proofs.Common.{◌≡◌, true, ◌∷◌, length}
 use Rattle.px_patterns.specs.Globs.{some_tail}
 use Rattle.px_patterns.specs.Hosts.{labels_in, labels_match}
-use Rattle.px_patterns.proofs.hosts.follow_somewhere.Given as goal
+use Rattle.px_patterns.proofs.hosts.matches_at_some_label.Given as goal
 
 abbrev pub invariant-labels : goal.invariant-labels
 invariant-labels l = some_tail (labels_match true (l.first ∷ l.others)) (labels_in l.host) ≡ some_tail (labels_match true (l.first ∷ l.others)) (labels_in l.rest)
