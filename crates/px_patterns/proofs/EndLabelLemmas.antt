@@ -6,14 +6,14 @@ use Rattle.std.specs.List.{list_any, onto_first}
 use Rattle.std.specs.Str.{str_eq_ignore_ascii_case}
 use Rattle.std.proofs.Math.Seq.{drop-append-add, get_or-append_seam, take-append_seam}
 use Rattle.std.proofs.lemmas.Bool.{and_parts, cases_Bool, eqb-true, not-true, or_from, or_parts}
-use Rattle.std.proofs.lemmas.List.{drop_all, drop_more, length-map, take-append-drop, take_all}
+use Rattle.std.proofs.lemmas.List.{drop_all, drop_more, length-map, take-append-drop, take_all, take_rest}
 use Rattle.std.proofs.lemmas.Slice.Eq.{bytes_eq-Decides}
 use Rattle.px_patterns.specs.declared.TheConstants.{DOT}
 use Rattle.px_patterns.specs.declared.labels.LabelPattern.TheVariants.{Plain}
 use Rattle.px_patterns.specs.Hosts.{HasFirst, HasLast, LacksFirst, LacksLast, is_in_label, is_label, labels_in}
 use Rattle.px_patterns.proofs.HostLemmas.{labels_in-last, labels_in-one}
 
-abbrev is_dot : ℕ → Bool
+abbrev pub is_dot : ℕ → Bool
 is_dot b = b == DOT
 
 -- ---- the walk over a label
@@ -48,10 +48,13 @@ label-no_dot (a ∷ text) (b ∷ label) is =
     let parts = and_parts (is_in_label a b) (is_label text label) is in
     or_from (b == DOT) (list_any is_dot label) (not-true (b == DOT) (and_parts (not (b == DOT)) (eq_ignore_ascii_case a b) parts.0).0) (label-no_dot text label parts.1)
 
-no_dot_at : (label : List ℕ) → list_any is_dot label ≡ false → (k d : ℕ) → k < length label → (slice_index_or label k d == DOT) ≡ false
+pub no_dot_at : (label : List ℕ) → list_any is_dot label ≡ false → (k d : ℕ) → k < length label → (slice_index_or label k d == DOT) ≡ false
 no_dot_at [] none k d short = absurd (omega arith)
 no_dot_at (b ∷ label) none zero d short = (or_parts (b == DOT) (list_any is_dot label) none).0
 no_dot_at (b ∷ label) none (suc k) d short = no_dot_at label (or_parts (b == DOT) (list_any is_dot label) none).1 k d (omega arith)
+
+pub alone : (bytes : List ℕ) → list_any is_dot bytes ≡ false → labels_in bytes ≡ bytes ∷ []
+alone bytes none = labels_in-one bytes (no_dot_at bytes none)
 
 same_length : (text label : List ℕ) → str_eq_ignore_ascii_case text label ≡ true → length text ≡ length label
 same_length text label same =
@@ -69,6 +72,22 @@ last_dot (b ∷ bytes) = elim (last_dot bytes) [
   ]
   | inr found ↦ inr (b ∷ found.0, found.1, ap (λ l. b ∷ l) found.2, found.3)
 ]
+
+-- the walk from the end
+pub no_dot_behind : (bytes : List ℕ) → list_any is_dot (drop (length bytes) bytes) ≡ false
+no_dot_behind bytes = ap (list_any is_dot) (drop_all (length bytes) bytes (omega arith))
+
+pub cut_at_last : (bytes : List ℕ) (start : ℕ) → 0 < start → start ≤ length bytes → slice_index bytes (start - 1) ≡ DOT → list_any is_dot (drop start bytes) ≡ false →
+    labels_in bytes ≡ labels_in (take (start - 1) bytes) ++ take (length bytes - start) (drop start bytes) ∷ []
+cut_at_last bytes start some within dot none =
+    let next : start - 1 + 1 ≡ start = omega (arith, some) in
+    let split : bytes ≡ take (start - 1) bytes ++ DOT ∷ drop start bytes =
+    sym (take-append-drop (start - 1) bytes)
+    ∙ (ap (λ l. take (start - 1) bytes ++ l) (drop_more bytes (start - 1) 0 (omega (arith, some, within)))
+    ∙ (ap (λ b. take (start - 1) bytes ++ b ∷ drop (start - 1 + 1) bytes) dot ∙ ap (λ n. take (start - 1) bytes ++ DOT ∷ drop n bytes) next)) in
+    ap labels_in split
+    ∙ (labels_in-last (take (start - 1) bytes) (drop start bytes) (no_dot_at (drop start bytes) none)
+    ∙ ap (λ l. labels_in (take (start - 1) bytes) ++ l ∷ []) (sym (take_rest bytes start)))
 
 -- where the text stands at the end, it isn't the whole, and another byte than a dot stands before it
 abbrev pub StandsInside : List ℕ → List ℕ → Type 0
@@ -118,7 +137,7 @@ has_last text bytes at within dot is =
 -- ---- the first label
 
 -- a list holds no dot, or is cut at its first one
-first_dot : (bytes : List ℕ) → (list_any is_dot bytes ≡ false) ⊎ ((label : List ℕ) × (behind : List ℕ) × (bytes ≡ label ++ DOT ∷ behind) × (list_any is_dot label ≡ false))
+pub first_dot : (bytes : List ℕ) → (list_any is_dot bytes ≡ false) ⊎ ((label : List ℕ) × (behind : List ℕ) × (bytes ≡ label ++ DOT ∷ behind) × (list_any is_dot label ≡ false))
 first_dot [] = inl refl
 first_dot (b ∷ bytes) = elim (cases_Bool (b == DOT)) [
   | inl does ↦ inr ([], bytes, ap (λ x. x ∷ bytes) (eqb-true b DOT does), refl)
@@ -129,7 +148,7 @@ first_dot (b ∷ bytes) = elim (cases_Bool (b == DOT)) [
 ]
 
 -- a text is cut at its first dot
-labels_in-first : (label behind : List ℕ) → list_any is_dot label ≡ false → labels_in (label ++ DOT ∷ behind) ≡ label ∷ labels_in behind
+pub labels_in-first : (label behind : List ℕ) → list_any is_dot label ≡ false → labels_in (label ++ DOT ∷ behind) ≡ label ∷ labels_in behind
 labels_in-first [] behind none = refl
 labels_in-first (b ∷ label) behind none =
     let parts = or_parts (b == DOT) (list_any is_dot label) none in

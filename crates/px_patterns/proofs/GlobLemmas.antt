@@ -1,18 +1,16 @@
 -- A glob matches a label exactly where the label can be cut into pieces, and where a scan from `*` to `*` finds it.
-use Rattle.std.proofs.Common.{◌≡◌, ℕ, ◌+◌, ◌-◌, ◌<◌, ◌≤◌, ◌↔◌, Bool, true, false, ◌&&◌, ◌||◌, IsTrue, List, [], ◌∷◌, ◌++◌, length, take, drop, map, refl, ap, sym, ◌∙◌, subst, arith, inl, inr, Option, None, Some, append-nil, append_assoc, length-append, length-drop}
+use Rattle.std.proofs.Common.{◌≡◌, ℕ, ◌+◌, ◌-◌, ◌<◌, ◌≤◌, ◌↔◌, Bool, true, false, ◌&&◌, ◌||◌, IsTrue, List, [], ◌∷◌, ◌++◌, length, take, drop, map, refl, ap, sym, ◌∙◌, subst, arith, inl, inr, None, Some, append-nil, append_assoc, length-append, length-drop}
 use Rattle.std.specs.Prelude.{◌==◌, slice_index, slice_index_or}
-use Rattle.std.specs.Char.{eq_ignore_ascii_case, to_ascii_lowercase}
+use Rattle.std.specs.Char.{eq_ignore_ascii_case}
 use Rattle.std.specs.Str.{str_eq_ignore_ascii_case}
 use Rattle.std.proofs.lemmas.Bool.{both_ways, false≢true, cases_Bool, and_parts, or_cases, and_from, eqb-true, eq-eqb, ne_eqb}
 use Rattle.std.proofs.lemmas.List.{drop-drop, drop_all, drop_at, drop_more, take-append-drop, take_rest}
-use Rattle.std.proofs.lemmas.Bool.Decides.{same_from_decides}
-use Rattle.std.specs.Cmp.Lexicographic.{bytes_decides}
 use Rattle.px_patterns.specs.declared.labels.Item.{Item}
 use Rattle.px_patterns.specs.declared.labels.Item.TheVariants.{AnyByte, AnyRun, Byte, Class}
 use Rattle.px_patterns.specs.declared.labels.LabelPattern.{LabelPattern}
 use Rattle.px_patterns.specs.declared.labels.LabelPattern.TheVariants.{Glob, Plain}
-use Rattle.px_patterns.specs.Globs.{ArePieces, CanBeCut, IsPiece, glob_matches, items_in, joined_pieces, label_matches, some_tail, takes, takes_first}
-use Rattle.px_patterns.specs.Runs.{behind_first, behind_run, has_run, is_run, takes_front}
+use Rattle.px_patterns.specs.Globs.{ArePieces, CanBeCut, glob_matches, items_in, joined_pieces, label_matches, some_tail, takes, takes_first}
+use Rattle.px_patterns.specs.Runs.{behind_first, has_run, is_run, takes_front}
 
 -- ---- tests
 
@@ -60,27 +58,14 @@ tail_of-some test (x ∷ xs) passes =
 
 -- ---- cuts
 
--- the first piece is a byte that the item takes
-first_piece : (item : Item) (piece : List ℕ) → is_run item ≡ false → IsPiece item piece → (b : ℕ) × (piece ≡ b ∷ []) × IsTrue (takes item b)
-first_piece AnyRun piece fixed is = absurd (cc fixed)
-first_piece AnyByte piece fixed is = is
-first_piece (Byte a) piece fixed is = is
-first_piece (Class ranges) piece fixed is = is
-
-piece_of : (item : Item) (b : ℕ) → is_run item ≡ false → takes item b ≡ true → IsPiece item (b ∷ [])
-piece_of AnyRun b fixed is = absurd (cc fixed)
-piece_of AnyByte b fixed is = (b, refl, is)
-piece_of (Byte a) b fixed is = (b, refl, is)
-piece_of (Class ranges) b fixed is = (b, refl, is)
-
-glob-fixed : (item : Item) (items : List Item) (label : List ℕ) → is_run item ≡ false → glob_matches (item ∷ items) label ≡ takes_first item (glob_matches items) label
+pub glob-fixed : (item : Item) (items : List Item) (label : List ℕ) → is_run item ≡ false → glob_matches (item ∷ items) label ≡ takes_first item (glob_matches items) label
 unfolding glob_matches
 glob-fixed AnyRun items label fixed = absurd (cc fixed)
 glob-fixed AnyByte items label fixed = refl
 glob-fixed (Byte a) items label fixed = refl
 glob-fixed (Class ranges) items label fixed = refl
 
-glob-run : (items : List Item) (label : List ℕ) → glob_matches (AnyRun ∷ items) label ≡ some_tail (glob_matches items) label
+pub glob-run : (items : List Item) (label : List ℕ) → glob_matches (AnyRun ∷ items) label ≡ some_tail (glob_matches items) label
 unfolding glob_matches
 glob-run items label = refl
 
@@ -125,23 +110,6 @@ glob-front (item ∷ front) more (b ∷ label) fixed =
     glob-fixed item (front ++ more) (b ∷ label) (first_fixed item front fixed)
     ∙ ap (λ t. takes item b && t) (glob-front front more label (rest_fixed item front fixed))
     ∙ and_assoc (takes item b) (takes_front front label) (glob_matches more (drop (length front) label))
-
--- what the items between two `*` take
-pub run_front : (items front : List Item) (behind : Option (List Item)) (label : List ℕ) → items ≡ front ++ behind_run behind → has_run front ≡ false →
-    glob_matches items label ≡ (takes_front front label && glob_matches (behind_run behind) (drop (length front) label))
-run_front items front behind label is fixed = ap (λ l. glob_matches l label) is ∙ glob-front front (behind_run behind) label fixed
-
-pub no_front : (items front : List Item) (behind : Option (List Item)) (label : List ℕ) → items ≡ front ++ behind_run behind → has_run front ≡ false → takes_front front label ≡ false → false ≡ glob_matches items label
-no_front items front behind label is fixed lacks = sym (run_front items front behind label is fixed ∙ rw lacks refl)
-
--- the front is taken, and a `*` follows, or nothing
-pub front_and_run : (items front more : List Item) (label : List ℕ) → items ≡ front ++ AnyRun ∷ more → has_run front ≡ false → takes_front front label ≡ true →
-    some_tail (glob_matches more) (drop (length front) label) ≡ glob_matches items label
-front_and_run items front more label is fixed takes = sym (run_front items front (Some more) label is fixed ∙ rw takes (glob-run more (drop (length front) label)))
-
-pub front_alone : (items front : List Item) (label : List ℕ) → items ≡ front ++ [] → has_run front ≡ false → takes_front front label ≡ true → (length (drop (length front) label) == 0) ≡ glob_matches items label
-unfolding glob_matches
-front_alone items front label is fixed takes = sym (run_front items front None label is fixed ∙ rw takes refl)
 
 pub takes_front-fits : (items : List Item) (bytes : List ℕ) → takes_front items bytes ≡ true → length items ≤ length bytes
 unfolding takes_front
@@ -250,12 +218,54 @@ no_place front more (b ∷ label) fixed none =
 pub front_too_long : (items : List Item) (bytes : List ℕ) → length bytes < length items → false ≡ takes_front items bytes
 front_too_long items bytes long = elim (cases_Bool (takes_front items bytes)) [ inl does ↦ absurd (omega (arith, takes_front-fits items bytes does)) | inr fails ↦ sym fails ]
 
+-- the item at a place
+pub item_at : (items : List Item) (at : ℕ) (item : Item) → at < length items → item ≡ slice_index_or items at item → drop at items ≡ item ∷ drop (at + 1) items
+item_at items at item within is = drop_more items at item within ∙ ap (λ i. i ∷ drop (at + 1) items) (sym is)
+
+run_is : (item : Item) → is_run item ≡ true → item ≡ AnyRun
+run_is AnyRun run = refl
+run_is AnyByte run = absurd (cc run)
+run_is (Byte b) run = absurd (cc run)
+run_is (Class ranges) run = absurd (cc run)
+
+-- a `*` at a place, and the items behind it
+pub run_at : (items : List Item) (at : ℕ) (item : Item) → at < length items → item ≡ slice_index_or items at item → is_run item ≡ true → AnyRun ∷ take (length items - (at + 1)) (drop (at + 1) items) ≡ drop at items
+run_at items at item within is run =
+    ap (λ l. AnyRun ∷ l) (take_rest items (at + 1)) ∙ (ap (λ i. i ∷ drop (at + 1) items) (sym (run_is item run)) ∙ sym (item_at items at item within is))
+
+-- one item and one byte of a glob
+pub glob_at : (items : List Item) (label : List ℕ) (at : ℕ) (item : Item) → at < length items → at < length label → item ≡ slice_index_or items at item → is_run item ≡ false →
+    glob_matches (drop at items) (drop at label) ≡ (takes item (slice_index label at) && glob_matches (drop (at + 1) items) (drop (at + 1) label))
+glob_at items label at item within fits is fixed =
+    ap (λ l. glob_matches l (drop at label)) (item_at items at item within is)
+    ∙ (ap (glob_matches (item ∷ drop (at + 1) items)) (drop_more label at 0 fits)
+    ∙ glob-fixed item (drop (at + 1) items) (slice_index label at ∷ drop (at + 1) label) fixed)
+
+pub glob_on_run : (items more : List Item) (label rest : List ℕ) (at : ℕ) → AnyRun ∷ more ≡ drop at items → rest ≡ drop at label → some_tail (glob_matches more) rest ≡ glob_matches (drop at items) (drop at label)
+glob_on_run items more label rest at same_items same_label =
+    sym (glob-run more rest) ∙ (ap (λ l. glob_matches l rest) same_items ∙ ap (glob_matches (drop at items)) same_label)
+
+pub glob_short : (items : List Item) (label : List ℕ) (at : ℕ) (item : Item) → at < length items → at ≡ length label → item ≡ slice_index_or items at item → is_run item ≡ false →
+    glob_matches (drop at items) (drop at label) ≡ false
+glob_short items label at item within end is fixed =
+    ap (λ l. glob_matches l (drop at label)) (item_at items at item within is)
+    ∙ (ap (glob_matches (item ∷ drop (at + 1) items)) (drop_all at label (omega (arith, end)))
+    ∙ glob-fixed item (drop (at + 1) items) [] fixed)
+
+pub glob_past : (items : List Item) (label : List ℕ) (at : ℕ) → at ≡ length items → at ≤ length label → glob_matches (drop at items) (drop at label) ≡ (length items == length label)
+unfolding glob_matches
+glob_past items label at past fits =
+    ap (λ l. glob_matches l (drop at label)) (drop_all at items (omega (arith, past)))
+    ∙ same_test (length (drop at label) == 0) (length items == length label)
+    (λ none. eq-eqb (length items) (length label) (omega (arith, past, fits, length-drop at label, eqb-true (length (drop at label)) 0 none)))
+    (λ same. eq-eqb (length (drop at label)) 0 (omega (arith, past, fits, length-drop at label, eqb-true (length items) (length label) same)))
+
 -- one item and one byte of the walk
 pub front_at : (items : List Item) (bytes : List ℕ) (at : ℕ) (item : Item) → at < length items → at < length bytes → item ≡ slice_index_or items at item →
     takes_front (drop at items) (drop at bytes) ≡ (takes item (slice_index bytes at) && takes_front (drop (at + 1) items) (drop (at + 1) bytes))
 unfolding takes_front
 front_at items bytes at item within fits is =
-    ap (λ l. takes_front l (drop at bytes)) (drop_more items at item within ∙ ap (λ i. i ∷ drop (at + 1) items) (sym is))
+    ap (λ l. takes_front l (drop at bytes)) (item_at items at item within is)
     ∙ ap (takes_front (item ∷ drop (at + 1) items)) (drop_more bytes at 0 fits)
 
 pub front_past : (items : List Item) (bytes : List ℕ) (at : ℕ) → length items ≤ at → takes_front (drop at items) (drop at bytes) ≡ true
@@ -268,10 +278,16 @@ unfolding behind_first
 behind_here items [] takes = rw takes refl
 behind_here items (b ∷ bytes) takes = rw takes refl
 
-pub behind_end : (items : List Item) (bytes : List ℕ) → takes_front items bytes ≡ false → length bytes ≡ 0 → behind_first items bytes ≡ None
+behind_too_short : (items : List Item) (bytes : List ℕ) → length bytes < length items → behind_first items bytes ≡ None
 unfolding behind_first
-behind_end items [] fails empty = rw fails refl
-behind_end items (b ∷ bytes) fails empty = absurd (omega (arith, empty))
+behind_too_short items [] short = rw (sym (front_too_long items [] short)) refl
+behind_too_short items (b ∷ bytes) short = rw (sym (front_too_long items (b ∷ bytes) short)) (behind_too_short items bytes (omega arith))
+
+-- no place comes later where the bytes are no longer than the items
+pub behind_end : (items : List Item) (bytes : List ℕ) → takes_front items bytes ≡ false → length bytes ≤ length items → behind_first items bytes ≡ None
+unfolding behind_first
+behind_end items [] fails short = rw fails refl
+behind_end items (b ∷ bytes) fails short = rw fails (behind_too_short items bytes (omega arith))
 
 pub behind_later : (items : List Item) (bytes : List ℕ) → takes_front items bytes ≡ false → (length bytes ≡ 0 → ⊥) → behind_first items bytes ≡ behind_first items (take (length bytes - 1) (drop 1 bytes))
 unfolding behind_first
@@ -293,11 +309,6 @@ label-cut (Plain text) label = (
   λ cut. sym (plain-glob text label) ∙ ap (glob_matches (map (λ b. Byte b) text)) (sym cut.2) ∙ glob-from-cut (map (λ b. Byte b) text) cut.0 cut.1,
 )
 label-cut (Glob items) label = (λ is. cut-from-glob items label is, λ cut. ap (glob_matches items) (sym cut.2) ∙ glob-from-cut items cut.0 cut.1)
-
--- a test of two texts without case
-pub same_text-from : (r : Bool) (a b : List ℕ) → (IsTrue r ↔ (map to_ascii_lowercase a ≡ map to_ascii_lowercase b)) → r ≡ str_eq_ignore_ascii_case a b
-same_text-from r a b is =
-    same_from_decides r (str_eq_ignore_ascii_case a b) is (bytes_decides (map to_ascii_lowercase a) (map to_ascii_lowercase b))
 
 -- ---- the scan behind a `*`
 

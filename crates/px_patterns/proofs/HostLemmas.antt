@@ -1,10 +1,10 @@
 -- Labels of hosts: from the front, from the end, and between.
-use Rattle.std.proofs.Common.{◌≡◌, ℕ, ◌+◌, ◌-◌, ◌<◌, ◌≤◌, ◌⊎◌, ◌↔◌, Bool, true, false, ◌&&◌, ◌||◌, IsTrue, List, [], ◌∷◌, ◌++◌, length, zero, suc, take, drop, refl, ap, sym, ◌∙◌, subst, arith, inl, inr, Option, None, Some, append-nil, append_assoc, All}
-use Rattle.std.specs.Prelude.{◌==◌, slice_get, slice_index, slice_index_or}
+use Rattle.std.proofs.Common.{◌≡◌, ℕ, ◌+◌, ◌<◌, ◌≤◌, ◌⊎◌, ◌↔◌, Bool, true, false, ◌&&◌, ◌||◌, IsTrue, List, [], ◌∷◌, ◌++◌, length, zero, suc, drop, refl, ap, sym, ◌∙◌, subst, arith, inl, inr, Option, None, Some, append-nil, append_assoc, All}
+use Rattle.std.specs.Prelude.{◌==◌, slice_get, slice_index_or}
 use Rattle.std.specs.List.{list_any, onto_first}
 use Rattle.std.specs.Str.{str_eq_ignore_ascii_case}
-use Rattle.std.proofs.lemmas.Bool.{and_from, both_ways, and_parts, cases_Bool, eqb-true, false≢true}
-use Rattle.std.proofs.lemmas.List.{drop_all, drop_more, get_or_default, get_or-drop, length-drop, take-append-drop, take_rest}
+use Rattle.std.proofs.lemmas.Bool.{and_from, both_ways, and_parts, cases_Bool, false≢true}
+use Rattle.std.proofs.lemmas.List.{drop_all, drop_more, length-drop}
 use Rattle.std.proofs.lemmas.List.Splits.{length-slice_split, slice_split_none}
 use Rattle.px_base.specs.Cuts.{parts_of}
 use Rattle.px_patterns.specs.declared.TheConstants.{DOT}
@@ -119,63 +119,64 @@ known_or (Some other) pattern text is = inl is
 known_or None (Plain other) text is = let same : other ≡ text = cc is in inr (ap (λ t. Plain t) same)
 known_or None (Glob items) text is = absurd (none_some text is)
 
-not_dot : (b : ℕ) → ¬ ((b == DOT) ≡ true) → (b == DOT) ≡ false
-not_dot b other = elim (cases_Bool (b == DOT)) [ inl does ↦ absurd (other does) | inr fails ↦ fails ]
-
--- no label may follow unless more may
-past_end : (more : Bool) (labels : List (List ℕ)) → 0 < length labels → labels_match more [] labels ≡ more
+-- no label may follow unless the end is open
+past_end : (open_end : Bool) (labels : List (List ℕ)) → 0 < length labels → labels_match open_end [] labels ≡ open_end
 unfolding labels_match
-past_end more [] some = absurd (omega arith)
-past_end more (label ∷ labels) some = refl
+past_end open_end [] some = absurd (omega arith)
+past_end open_end (label ∷ labels) some = refl
 
 -- ---- from the front
 
-pub match-cons : (more : Bool) (pattern : LabelPattern) (patterns : List LabelPattern) (label : List ℕ) (labels : List (List ℕ)) →
-    labels_match more (pattern ∷ patterns) (label ∷ labels) ≡ (label_matches pattern label && labels_match more patterns labels)
+pub match-cons : (open_end : Bool) (pattern : LabelPattern) (patterns : List LabelPattern) (label : List ℕ) (labels : List (List ℕ)) →
+    labels_match open_end (pattern ∷ patterns) (label ∷ labels) ≡ (label_matches pattern label && labels_match open_end patterns labels)
 unfolding labels_match
-match-cons more pattern patterns label labels = refl
+match-cons open_end pattern patterns label labels = refl
 
-pub match-short : (more : Bool) (patterns : List LabelPattern) → 0 < length patterns → labels_match more patterns [] ≡ false
+pub match-short : (open_end : Bool) (patterns : List LabelPattern) → 0 < length patterns → labels_match open_end patterns [] ≡ false
 unfolding labels_match
-match-short more [] some = absurd (omega arith)
-match-short more (pattern ∷ patterns) some = refl
+match-short open_end [] some = absurd (omega arith)
+match-short open_end (pattern ∷ patterns) some = refl
 
 -- one pattern and one label of the walk
-pub begin_step : (more : Bool) (patterns : List LabelPattern) (at : ℕ) (pattern : LabelPattern) (bytes label : List ℕ) (behind : Option (List ℕ)) → at < length patterns →
+pub front_step : (open_end : Bool) (patterns : List LabelPattern) (at : ℕ) (pattern : LabelPattern) (bytes label : List ℕ) (behind : Option (List ℕ)) → at < length patterns →
     pattern ≡ slice_index_or patterns at pattern → labels_in bytes ≡ label ∷ parts_of DOT behind →
-    labels_match more (drop at patterns) (parts_of DOT (Some bytes)) ≡ (label_matches pattern label && labels_match more (drop (at + 1) patterns) (parts_of DOT behind))
-begin_step more patterns at pattern bytes label behind within is cut =
-    ap (λ l. labels_match more l (labels_in bytes)) (drop_more patterns at pattern within ∙ ap (λ p. p ∷ drop (at + 1) patterns) (sym is))
-    ∙ ap (labels_match more (pattern ∷ drop (at + 1) patterns)) cut
-    ∙ match-cons more pattern (drop (at + 1) patterns) label (parts_of DOT behind)
+    labels_match open_end (drop at patterns) (parts_of DOT (Some bytes)) ≡ (label_matches pattern label && labels_match open_end (drop (at + 1) patterns) (parts_of DOT behind))
+front_step open_end patterns at pattern bytes label behind within is cut =
+    ap (λ l. labels_match open_end l (labels_in bytes)) (drop_more patterns at pattern within ∙ ap (λ p. p ∷ drop (at + 1) patterns) (sym is))
+    ∙ ap (labels_match open_end (pattern ∷ drop (at + 1) patterns)) cut
+    ∙ match-cons open_end pattern (drop (at + 1) patterns) label (parts_of DOT behind)
 
-pub begin_short : (more : Bool) (patterns : List LabelPattern) (at : ℕ) → at < length patterns → labels_match more (drop at patterns) [] ≡ false
-begin_short more patterns at within = match-short more (drop at patterns) (omega (arith, length-drop at patterns))
+pub front_short : (open_end : Bool) (patterns : List LabelPattern) (at : ℕ) → at < length patterns → labels_match open_end (drop at patterns) [] ≡ false
+front_short open_end patterns at within = match-short open_end (drop at patterns) (omega (arith, length-drop at patterns))
 
-pub begin_open : (more : Bool) (patterns : List LabelPattern) (at : ℕ) (bytes : List ℕ) → length patterns ≤ at → labels_match more (drop at patterns) (parts_of DOT (Some bytes)) ≡ more
-begin_open more patterns at bytes past =
-    ap (λ l. labels_match more l (labels_in bytes)) (drop_all at patterns past) ∙ past_end more (labels_in bytes) (omega (arith, length-slice_split (λ b. b == DOT) bytes))
+pub front_open : (open_end : Bool) (patterns : List LabelPattern) (at : ℕ) (bytes : List ℕ) → length patterns ≤ at → labels_match open_end (drop at patterns) (parts_of DOT (Some bytes)) ≡ open_end
+front_open open_end patterns at bytes past =
+    ap (λ l. labels_match open_end l (labels_in bytes)) (drop_all at patterns past) ∙ past_end open_end (labels_in bytes) (omega (arith, length-slice_split (λ b. b == DOT) bytes))
 
-pub begin_done : (more : Bool) (patterns : List LabelPattern) (at : ℕ) → length patterns ≤ at → labels_match more (drop at patterns) [] ≡ true
+pub front_done : (open_end : Bool) (patterns : List LabelPattern) (at : ℕ) → length patterns ≤ at → labels_match open_end (drop at patterns) [] ≡ true
 unfolding labels_match
-begin_done more patterns at past = ap (λ l. labels_match more l []) (drop_all at patterns past)
+front_done open_end patterns at past = ap (λ l. labels_match open_end l []) (drop_all at patterns past)
 
 -- ---- between
 
 -- one place of the search
-pub place_here : (patterns : List LabelPattern) (bytes : List ℕ) → labels_match true patterns (labels_in bytes) ≡ true → some_tail (labels_match true patterns) (labels_in bytes) ≡ true
-place_here patterns bytes begins = some_tail-at (labels_match true patterns) [] (labels_in bytes) begins
+pub place_here : (patterns : List LabelPattern) (bytes label : List ℕ) (behind : Option (List ℕ)) → labels_in bytes ≡ label ∷ parts_of DOT behind → labels_match true patterns (label ∷ parts_of DOT behind) ≡ true →
+    some_tail (labels_match true patterns) (labels_in bytes) ≡ true
+place_here patterns bytes label behind cut fits = some_tail-at (labels_match true patterns) [] (labels_in bytes) (ap (labels_match true patterns) cut ∙ fits)
 
-pub place_later : (patterns : List LabelPattern) (bytes label : List ℕ) (behind : Option (List ℕ)) → labels_in bytes ≡ label ∷ parts_of DOT behind → labels_match true patterns (labels_in bytes) ≡ false →
+pub place_later : (patterns : List LabelPattern) (bytes label : List ℕ) (behind : Option (List ℕ)) → labels_in bytes ≡ label ∷ parts_of DOT behind → labels_match true patterns (label ∷ parts_of DOT behind) ≡ false →
     some_tail (labels_match true patterns) (labels_in bytes) ≡ some_tail (labels_match true patterns) (parts_of DOT behind)
 place_later patterns bytes label behind cut fails =
-    let here : labels_match true patterns (label ∷ parts_of DOT behind) ≡ false = ap (labels_match true patterns) (sym cut) ∙ fails in
-    ap (some_tail (labels_match true patterns)) cut ∙ ap (λ t. t || some_tail (labels_match true patterns) (parts_of DOT behind)) here
+    ap (some_tail (labels_match true patterns)) cut ∙ ap (λ t. t || some_tail (labels_match true patterns) (parts_of DOT behind)) fails
 
-pub place_none : (patterns : List LabelPattern) (bytes label : List ℕ) → labels_in bytes ≡ label ∷ [] → labels_match true patterns (labels_in bytes) ≡ false → some_tail (labels_match true patterns) (labels_in bytes) ≡ false
+pub place_none : (pattern : LabelPattern) (patterns : List LabelPattern) (bytes label : List ℕ) → labels_in bytes ≡ label ∷ [] → labels_match true (pattern ∷ patterns) (label ∷ []) ≡ false →
+    some_tail (labels_match true (pattern ∷ patterns)) (labels_in bytes) ≡ false
 unfolding labels_match
-place_none [] bytes label cut fails = absurd (both_ways (labels_match true [] (labels_in bytes)) fails (ap (labels_match true []) cut))
-place_none (pattern ∷ patterns) bytes label cut fails = place_later (pattern ∷ patterns) bytes label None cut fails
+place_none pattern patterns bytes label cut fails = place_later (pattern ∷ patterns) bytes label None cut fails
+
+pub every_place : (patterns : List LabelPattern) (bytes : List ℕ) → length patterns ≡ 0 → true ≡ some_tail (labels_match true patterns) (labels_in bytes)
+every_place patterns bytes none =
+    sym (some_tail-at (labels_match true patterns) [] (labels_in bytes) (front_open true patterns 0 bytes (omega (arith, none))))
 
 -- ---- from the end
 
@@ -209,15 +210,15 @@ pub glob_last : (patterns before : List LabelPattern) (last : LabelPattern) (ite
 glob_last patterns before last items is glob = ap last_plain (is ∙ ap (λ p. before ++ p ∷ []) glob) ∙ last_plain-glob before items
 
 -- a plain label stands in each list of labels that the patterns match
-has_plain : (more : Bool) (patterns : List LabelPattern) (labels : List (List ℕ)) (text : List ℕ) → labels_match more patterns labels ≡ true → last_plain patterns ≡ Some text →
+has_plain : (open_end : Bool) (patterns : List LabelPattern) (labels : List (List ℕ)) (text : List ℕ) → labels_match open_end patterns labels ≡ true → last_plain patterns ≡ Some text →
     list_any (str_eq_ignore_ascii_case text) labels ≡ true
 unfolding labels_match
-has_plain more [] labels text matches plain = absurd (none_some text plain)
-has_plain more (pattern ∷ patterns) [] text matches plain = absurd (false≢true matches)
-has_plain more (pattern ∷ patterns) (label ∷ labels) text matches plain =
-    let both = and_parts (label_matches pattern label) (labels_match more patterns labels) matches in
+has_plain open_end [] labels text matches plain = absurd (none_some text plain)
+has_plain open_end (pattern ∷ patterns) [] text matches plain = absurd (false≢true matches)
+has_plain open_end (pattern ∷ patterns) (label ∷ labels) text matches plain =
+    let both = and_parts (label_matches pattern label) (labels_match open_end patterns labels) matches in
     elim (known_or (last_plain patterns) pattern text plain) [
-      | inl later ↦ or_right (str_eq_ignore_ascii_case text label) (list_any (str_eq_ignore_ascii_case text) labels) (has_plain more patterns labels text both.1 later)
+      | inl later ↦ or_right (str_eq_ignore_ascii_case text label) (list_any (str_eq_ignore_ascii_case text) labels) (has_plain open_end patterns labels text both.1 later)
       | inr here ↦ or_left (str_eq_ignore_ascii_case text label) (list_any (str_eq_ignore_ascii_case text) labels) (ap (λ p. label_matches p label) (sym here) ∙ both.0)
     ]
 
@@ -236,18 +237,18 @@ plain_kept pattern labels text fits plain =
     ]
 
 -- each plain label stands in each list of labels that the patterns match
-has_each : (more : Bool) (patterns : List LabelPattern) (labels : List (List ℕ)) (at : ℕ) (text : List ℕ) → labels_match more patterns labels ≡ true → slice_get patterns at ≡ Some (Plain text) →
+has_each : (open_end : Bool) (patterns : List LabelPattern) (labels : List (List ℕ)) (at : ℕ) (text : List ℕ) → labels_match open_end patterns labels ≡ true → slice_get patterns at ≡ Some (Plain text) →
     list_any (str_eq_ignore_ascii_case text) labels ≡ true
 unfolding labels_match
-has_each more [] labels at text matches is = cc
-has_each more (pattern ∷ patterns) [] at text matches is = absurd (false≢true matches)
-has_each more (pattern ∷ patterns) (label ∷ labels) zero text matches is =
-    let both = and_parts (label_matches pattern label) (labels_match more patterns labels) matches in
+has_each open_end [] labels at text matches is = cc
+has_each open_end (pattern ∷ patterns) [] at text matches is = absurd (false≢true matches)
+has_each open_end (pattern ∷ patterns) (label ∷ labels) zero text matches is =
+    let both = and_parts (label_matches pattern label) (labels_match open_end patterns labels) matches in
     let here : pattern ≡ Plain text = cc in
     or_left (str_eq_ignore_ascii_case text label) (list_any (str_eq_ignore_ascii_case text) labels) (ap (λ p. label_matches p label) (sym here) ∙ both.0)
-has_each more (pattern ∷ patterns) (label ∷ labels) (suc at) text matches is =
-    let both = and_parts (label_matches pattern label) (labels_match more patterns labels) matches in
-    or_right (str_eq_ignore_ascii_case text label) (list_any (str_eq_ignore_ascii_case text) labels) (has_each more patterns labels at text both.1 is)
+has_each open_end (pattern ∷ patterns) (label ∷ labels) (suc at) text matches is =
+    let both = and_parts (label_matches pattern label) (labels_match open_end patterns labels) matches in
+    or_right (str_eq_ignore_ascii_case text label) (list_any (str_eq_ignore_ascii_case text) labels) (has_each open_end patterns labels at text both.1 is)
 
 each_kept : (pattern : HostLabels) (labels : List (List ℕ)) (at : ℕ) (text : List ℕ) → fitting_labels pattern labels ≡ true → slice_get pattern.labels at ≡ Some (Plain text) →
     list_any (str_eq_ignore_ascii_case text) labels ≡ true
@@ -283,25 +284,25 @@ candidate-from pattern labels host shown r is without value holds =
 
 -- ---- what a match means
 
-each-from-match : (more : Bool) (patterns : List LabelPattern) (labels : List (List ℕ)) → labels_match more patterns labels ≡ true →
-    (fitting : List (List ℕ)) × (behind : List (List ℕ)) × (labels ≡ fitting ++ behind) × EachFits patterns fitting × (more ≡ false → behind ≡ [])
+each-from-match : (open_end : Bool) (patterns : List LabelPattern) (labels : List (List ℕ)) → labels_match open_end patterns labels ≡ true →
+    (fitting : List (List ℕ)) × (behind : List (List ℕ)) × (labels ≡ fitting ++ behind) × EachFits patterns fitting × (open_end ≡ false → behind ≡ [])
 unfolding labels_match
-each-from-match more [] [] matches = ([], [], refl, tt, λ closed. refl)
-each-from-match more [] (label ∷ labels) matches = ([], label ∷ labels, refl, tt, λ closed. absurd (both_ways more closed matches))
-each-from-match more (pattern ∷ patterns) [] matches = absurd (false≢true matches)
-each-from-match more (pattern ∷ patterns) (label ∷ labels) matches =
-    let both = and_parts (label_matches pattern label) (labels_match more patterns labels) matches in
-    let later = each-from-match more patterns labels both.1 in
+each-from-match open_end [] [] matches = ([], [], refl, tt, λ closed. refl)
+each-from-match open_end [] (label ∷ labels) matches = ([], label ∷ labels, refl, tt, λ closed. absurd (both_ways open_end closed matches))
+each-from-match open_end (pattern ∷ patterns) [] matches = absurd (false≢true matches)
+each-from-match open_end (pattern ∷ patterns) (label ∷ labels) matches =
+    let both = and_parts (label_matches pattern label) (labels_match open_end patterns labels) matches in
+    let later = each-from-match open_end patterns labels both.1 in
     (label ∷ later.0, later.1, ap (λ l. label ∷ l) later.2, ((label-cut pattern label).0 both.0, later.3), later.4)
 
-match-from-each : (more : Bool) (patterns : List LabelPattern) (fitting behind : List (List ℕ)) → EachFits patterns fitting → (more ≡ false → behind ≡ []) → labels_match more patterns (fitting ++ behind) ≡ true
+match-from-each : (open_end : Bool) (patterns : List LabelPattern) (fitting behind : List (List ℕ)) → EachFits patterns fitting → (open_end ≡ false → behind ≡ []) → labels_match open_end patterns (fitting ++ behind) ≡ true
 unfolding labels_match
-match-from-each more [] [] [] each closed = refl
-match-from-each more [] [] (label ∷ behind) each closed = elim (cases_Bool more) [ inl does ↦ does | inr fails ↦ absurd (cons_nil (closed fails)) ]
-match-from-each more [] (label ∷ fitting) behind each closed = absurd each
-match-from-each more (pattern ∷ patterns) [] behind each closed = absurd each
-match-from-each more (pattern ∷ patterns) (label ∷ fitting) behind each closed =
-    and_from (label_matches pattern label) (labels_match more patterns (fitting ++ behind)) ((label-cut pattern label).1 each.0) (match-from-each more patterns fitting behind each.1 closed)
+match-from-each open_end [] [] [] each closed = refl
+match-from-each open_end [] [] (label ∷ behind) each closed = elim (cases_Bool open_end) [ inl does ↦ does | inr fails ↦ absurd (cons_nil (closed fails)) ]
+match-from-each open_end [] (label ∷ fitting) behind each closed = absurd each
+match-from-each open_end (pattern ∷ patterns) [] behind each closed = absurd each
+match-from-each open_end (pattern ∷ patterns) (label ∷ fitting) behind each closed =
+    and_from (label_matches pattern label) (labels_match open_end patterns (fitting ++ behind)) ((label-cut pattern label).1 each.0) (match-from-each open_end patterns fitting behind each.1 closed)
 
 labels-fit : (pattern : HostLabels) (labels : List (List ℕ)) → fitting_labels pattern labels ≡ true → LabelsFit pattern labels
 labels-fit pattern labels fits =
@@ -341,23 +342,6 @@ unfolding host_matches
 host-fits Always host = (λ is. tt, λ fits. refl)
 host-fits (Address text) host = (λ is. is, λ fits. fits)
 host-fits (Labels pattern) host = (labels-fit pattern (host_labels host), fit-labels pattern (host_labels host))
-
--- ---- the last dot
-
-pub cut_at_last : (bytes : List ℕ) (at : ℕ) → at < length bytes → (slice_index bytes at == DOT) ≡ true → ((k : ℕ) → at + 1 ≤ k → k < length bytes → ¬ ((slice_index bytes k == DOT) ≡ true)) →
-    labels_in bytes ≡ labels_in (take at bytes) ++ take (length bytes - (at + 1)) (drop (at + 1) bytes) ∷ []
-cut_at_last bytes at within here none =
-    ap labels_in (sym (take-append-drop at bytes) ∙ ap (λ l. take at bytes ++ l) (drop_more bytes at 0 within))
-    ∙ ap (λ b. labels_in (take at bytes ++ b ∷ drop (at + 1) bytes)) (eqb-true (slice_index bytes at) DOT here)
-    ∙ labels_in-last (take at bytes) (drop (at + 1) bytes)
-    (λ k d short.
-    let low : at + 1 ≤ at + 1 + k = omega arith in
-    rw (get_or_default (drop (at + 1) bytes) k d 0 short)
-    (rw (get_or-drop (at + 1) bytes k 0) (not_dot (slice_index bytes (at + 1 + k)) (none (at + 1 + k) low (omega (arith, length-drop (at + 1) bytes))))))
-    ∙ ap (λ l. labels_in (take at bytes) ++ l ∷ []) (sym (take_rest bytes (at + 1)))
-
-pub cut_nowhere : (bytes : List ℕ) → ((k : ℕ) → 0 ≤ k → k < length bytes → ¬ ((slice_index bytes k == DOT) ≡ true)) → labels_in bytes ≡ bytes ∷ []
-cut_nowhere bytes none = labels_in-one bytes (λ k d short. rw (get_or_default bytes k d 0 short) (not_dot (slice_index bytes k) (none k (omega arith) short)))
 
 -- ---- patterns as a whole
 

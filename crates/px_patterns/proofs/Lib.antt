@@ -10,5 +10,6 @@ pub mod UrlLemmas
 pub mod Crossing
 pub mod UrlLaws
 pub mod EndLabelLemmas
+pub mod FirstLabelLemmas
 mod SlashLemmas
 pub mod UnionLemmas

@@ -1,7 +1,7 @@
 -- The expression `^/`: it has a match exactly where a slash stands first.
-use Rattle.std.proofs.Common.{◌≡◌, ◌<◌, ◌≤◌, ℕ, zero, suc, ◌+◌, ◌-◌, Bool, true, false, List, [], ◌∷◌, Option, None, Some, codes, chars, length, refl, ap, sym, subst, ◌∙◌, arith, inl, inr}
-use Rattle.std.specs.Prelude.{◌==◌, ◌&&◌, ◌||◌, IsSomeAnd, nat_lt, nat_le, if◌then◌else◌, is_some, option_and_then, option_map, slice_get, slice_index, Ok, Err}
-use Rattle.std.proofs.lemmas.Bool.{cases_Bool, le-leb}
+use Rattle.std.proofs.Common.{◌≡◌, ◌<◌, ◌≤◌, ℕ, zero, suc, ◌+◌, ◌-◌, Bool, true, false, List, [], ◌∷◌, Option, None, Some, codes, chars, length, refl, ap, sym, ◌∙◌, arith}
+use Rattle.std.specs.Prelude.{◌==◌, ◌&&◌, ◌||◌, IsSomeAnd, nat_lt, nat_le, if◌then◌else◌, is_some, option_and_then, option_map, slice_index, Ok}
+use Rattle.std.proofs.lemmas.Bool.{le-leb}
 use Rattle.std.proofs.lemmas.Bool.Decides.{nat_tests}
 use Rattle.std.proofs.lemmas.Option.{slice_get-get_or}
 use Rattle.std.specs.Option.{option_or}
@@ -10,14 +10,14 @@ use Rattle.ucd_case.specs.CaseFolding.{fold_pairs}
 use Rattle.ucd_case.specs.FoldOtherRows.{fold_other_rows}
 use Rattle.regex_hir.specs.Find.{Match, find, first_from}
 use Rattle.regex_hir.specs.Looks.{holds, holds_between}
-use Rattle.regex_hir.specs.Re.{Re, Rest, Trace, accept, attempt, byte_in, cat, look}
+use Rattle.regex_hir.specs.Re.{Re, Trace, accept, attempt, byte_in, cat, look}
 use Rattle.regex_hir.specs.Text.{byte_before}
 use Rattle.regex_hir.specs.declared.look.Look.TheVariants.{Start}
 use Rattle.regex_syntax.specs.Brackets.{Nested}
 use Rattle.regex_syntax.specs.Fold.{in_unicode_fold}
 use Rattle.regex_syntax.specs.Grammar.{Names, read}
 use Rattle.regex_syntax.specs.Same.{SameTree}
-use Rattle.regex_syntax.specs.Sets.{Set, members}
+use Rattle.regex_syntax.specs.Sets.{members}
 use Rattle.regex_syntax.proofs.CapturesLemmas.{alike_of_same}
 use Rattle.regex_syntax.proofs.SetLemmas.{in_ranges-members}
 use Rattle.regex.proofs.ForCallers.{is_match_alike}

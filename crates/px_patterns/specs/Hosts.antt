@@ -14,6 +14,8 @@ use Rattle.px_patterns.specs.declared.hosts.HostPart.{HostPart}
 use Rattle.px_patterns.specs.declared.hosts.HostPart.TheVariants as part
 use Rattle.px_patterns.specs.declared.hosts.HostPattern.{HostPattern}
 use Rattle.px_patterns.specs.declared.hosts.HostPattern.TheVariants.{Address, Always, Labels}
+use Rattle.px_patterns.specs.declared.hosts.Rest.{Rest}
+use Rattle.px_patterns.specs.declared.hosts.Rest.TheVariants as rest
 use Rattle.px_patterns.specs.declared.labels.LabelPattern.{LabelPattern}
 use Rattle.px_patterns.specs.declared.labels.LabelPattern.TheVariants.{Glob, Plain}
 use Rattle.px_patterns.specs.Globs.{CanBeCut, items_in, label_matches, label_of, some_tail}
@@ -98,10 +100,10 @@ HostFits (Labels pattern) host = LabelsFit pattern (host_labels host)
 
 -- whether the labels match one by one, and nothing follows unless it may
 unfoldable pub labels_match : Bool → List LabelPattern → List (List ℕ) → Bool
-labels_match more [] [] = true
-labels_match more [] (label ∷ labels) = more
-labels_match more (pattern ∷ patterns) [] = false
-labels_match more (pattern ∷ patterns) (label ∷ labels) = label_matches pattern label && labels_match more patterns labels
+labels_match open_end [] [] = true
+labels_match open_end [] (label ∷ labels) = open_end
+labels_match open_end (pattern ∷ patterns) [] = false
+labels_match open_end (pattern ∷ patterns) (label ∷ labels) = label_matches pattern label && labels_match open_end patterns labels
 
 abbrev pub fitting_labels : HostLabels → List (List ℕ) → Bool
 fitting_labels pattern labels =
@@ -117,6 +119,11 @@ abbrev pub host_part_matches : HostPart → List ℕ → Bool
 host_part_matches (part.Pattern pattern) host = host_matches pattern host
 
 -- ---- the first and the last label of a host
+
+-- the bytes of the labels beside one, if there are any
+abbrev pub rest_bytes : Rest → Option (List ℕ)
+rest_bytes (rest.Labels bytes) = Some bytes.now
+rest_bytes rest.Nothing = None
 
 -- the pattern matches the first label, and this stands behind its dot
 pub record HasFirst (pattern : LabelPattern) (bytes : List ℕ) (behind : Option (List ℕ)) : Type 0 where

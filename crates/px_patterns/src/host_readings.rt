@@ -4,7 +4,7 @@ ghost use Rattle.std.specs.List.{list_any};
 ghost use Rattle.px_patterns.specs.Faults.{IsClassRefusal, IsPatternRefusal};
 ghost use Rattle.px_patterns.specs.Hosts.{begins_with_dot, ends_with_dot, host_pattern, is_every_host, labels_in, labels_of, without_first_dot};
 
-use crate::hosts::without_last_dot;
+use crate::hosts::{ends_with_dot, without_last_dot};
 use crate::label_readings::read_label;
 use crate::{DOT, HostLabels, HostPattern, LabelPattern, PatternFault};
 use px_base::{List, cut};
@@ -41,12 +41,6 @@ fn begins_with_dot(text: &[u8]) -> bool
     ensures { result ≡ begins_with_dot text.now }
 {
     !text.is_empty() && text[0] == DOT
-}
-
-fn ends_with_dot(text: &[u8]) -> bool
-    ensures { result ≡ ends_with_dot text.now }
-{
-    !text.is_empty() && text[text.len() - 1] == DOT
 }
 
 /// The text without a dot at its front.

@@ -1,14 +1,15 @@
 // Host patterns.
-ghost use Rattle.std.specs.Prelude.{◌≡◌, ◌↔◌, ◌==◌, ◌++◌, ◌∷◌, [], true, false, IsTrue, MatchOption, length, option_copied};
+ghost use Rattle.std.specs.Prelude.{◌≡◌, ◌<◌, ◌↔◌, ◌==◌, ◌++◌, ◌∷◌, [], true, false, IfSome, IsTrue, MatchOption, length, option_copied};
 ghost use Rattle.std.specs.List.{slice_split};
 ghost use Rattle.px_base.specs.Cuts.{parts_of};
 ghost use Rattle.px_patterns.specs.Globs.{some_tail};
-ghost use Rattle.px_patterns.specs.Hosts.{HasFirst, HasLast, LacksFirst, LacksLast, host_labels, is_in_label, is_label, labels_in, labels_match, last_plain, without_last_dot};
-ghost use Rattle.px_patterns.specs.declared.labels.LabelPattern.TheVariants.{Plain};
+ghost use Rattle.px_patterns.specs.Hosts.{HasFirst, HasLast, LacksFirst, LacksLast, ends_with_dot, host_labels, is_in_label, is_label, labels_in, labels_match, last_plain, rest_bytes, without_last_dot};
+ghost use Rattle.px_patterns.specs.declared.labels.LabelPattern.TheVariants.{Glob, Plain};
+ghost use Rattle.px_patterns.specs.declared.labels.Item.TheVariants.{AnyRun};
 
-use crate::{DOT, LabelPattern};
-use memchr::memrchr;
-use px_base::{List, Text, cut, same_without_case};
+use crate::labels::run_matches;
+use crate::{DOT, Item, LabelPattern};
+use px_base::{List, Text, same_without_case};
 
 /// The labels of a host pattern.
 #[derive(Drop)]
@@ -108,6 +109,15 @@ impl HostPattern {
     }
 }
 
+/// What a host has beside one of its labels.
+#[derive(Clone, Copy)]
+pub(crate) enum Rest<'a> {
+    /// The labels between the dots of these bytes.
+    Labels(&'a [u8]),
+    /// No other label.
+    Nothing,
+}
+
 impl HostLabels {
     ghost use Rattle.px_patterns.specs.Hosts.{fitting_labels, labels_in};
 
@@ -117,64 +127,87 @@ impl HostLabels {
     {
         let patterns = self.labels.as_slice();
         if !self.open_front {
-            begin(patterns, self.open_end, Some(host))
+            matches_from_front(patterns, self.open_end, Rest::Labels(host))
         } else if self.open_end {
-            begin_somewhere(patterns, host)
+            matches_somewhere(patterns, host)
         } else {
-            end(patterns, host)
+            matches_at_end(patterns, host)
         }
     }
 }
 
-/// Whether the patterns match the labels one by one from the front; others may follow where `more` says so.
-fn begin(patterns: &[LabelPattern], more: bool, labels: Option<&[u8]>) -> bool
-    ensures { result ≡ labels_match more patterns.now (parts_of DOT (option_copied labels.entry)) }
+/// Whether the patterns match the labels one by one from the front; others may follow where `open_end` says so.
+fn matches_from_front(patterns: &[LabelPattern], open_end: bool, labels: Rest<'_>) -> bool
+    ensures { result ≡ labels_match open_end patterns.now (parts_of DOT (rest_bytes labels.entry)) }
 {
     let mut rest = labels;
     for pattern in patterns {
         match rest {
-            Some(bytes) => match without_first(pattern, bytes) {
+            Rest::Labels(bytes) => match without_first(pattern, bytes) {
                 Some(behind) => rest = behind,
                 None => return false,
             },
-            None => return false,
+            Rest::Nothing => return false,
         }
     }
     match rest {
-        Some(_) => more,
-        None => true,
+        Rest::Labels(_) => open_end,
+        Rest::Nothing => true,
     }
 }
 
 /// Whether the patterns match labels that stand side by side in a host.
-fn begin_somewhere(patterns: &[LabelPattern], host: &[u8]) -> bool
+fn matches_somewhere(patterns: &[LabelPattern], host: &[u8]) -> bool
     ensures { result ≡ some_tail (labels_match true patterns.now) (labels_in host.now) }
 {
+    match patterns.split_first() {
+        Some((first, others)) => matches_at_some_label(first, others, host),
+        None => true,
+    }
+}
+
+/// Whether the first pattern matches a label of a host, and the others those behind it.
+fn matches_at_some_label(first: &LabelPattern, others: &[LabelPattern], host: &[u8]) -> bool
+    ensures { result ≡ some_tail (labels_match true (first.now ∷ others.now)) (labels_in host.now) }
+{
     let mut rest = host;
-    'places: loop {
-        if begin(patterns, true, Some(rest)) {
+    'labels: loop {
+        let (label, behind) = first_label(rest);
+        if matches_from_label(first, others, label, behind) {
             return true;
         }
-        match cut(rest, DOT).1 {
-            Some(behind) => rest = behind,
-            None => return false,
+        match behind {
+            Rest::Labels(more) => rest = more,
+            Rest::Nothing => return false,
         }
     }
 }
 
+/// Whether the first pattern matches a label, and the others those behind it.
+fn matches_from_label(
+    first: &LabelPattern,
+    others: &[LabelPattern],
+    label: &[u8],
+    behind: Rest<'_>,
+) -> bool
+    ensures { result ≡ labels_match true (first.now ∷ others.now) (label.now ∷ parts_of DOT (rest_bytes behind.entry)) }
+{
+    first.matches(label) && matches_from_front(others, true, behind)
+}
+
 /// Whether the patterns match the last labels of a host.
-fn end(patterns: &[LabelPattern], host: &[u8]) -> bool
+fn matches_at_end(patterns: &[LabelPattern], host: &[u8]) -> bool
     ensures { result ≡ some_tail (labels_match false patterns.now) (labels_in host.now) }
 {
     let mut left = patterns;
-    let mut rest = Some(host);
+    let mut rest = Rest::Labels(host);
     'labels: while let Some((last, before)) = left.split_last() {
         match rest {
-            Some(bytes) => match without_last(last, bytes) {
+            Rest::Labels(bytes) => match without_last(last, bytes) {
                 Some(front) => rest = front,
                 None => return false,
             },
-            None => return false,
+            Rest::Nothing => return false,
         }
         left = before;
     }
@@ -182,25 +215,66 @@ fn end(patterns: &[LabelPattern], host: &[u8]) -> bool
 }
 
 /// What stands behind the first label and its dot, if one follows, where the pattern matches that label.
-fn without_first<'a>(pattern: &LabelPattern, bytes: &'a [u8]) -> Option<Option<&'a [u8]>>
-    ensures { MatchOption result (LacksFirst pattern.now bytes.now) (λ behind. HasFirst pattern.now bytes.now (option_copied behind)) }
+fn without_first<'a>(pattern: &LabelPattern, bytes: &'a [u8]) -> Option<Rest<'a>>
+    ensures { MatchOption result (LacksFirst pattern.now bytes.now) (λ behind. HasFirst pattern.now bytes.now (rest_bytes behind)) }
 {
     match pattern {
         LabelPattern::Plain(text) => without_first_text(text.as_bytes(), bytes),
-        LabelPattern::Glob(_) => {
-            let (label, behind) = cut(bytes, DOT);
-            if pattern.matches(label) {
-                Some(behind)
-            } else {
-                None
-            }
-        }
+        LabelPattern::Glob(items) => without_first_glob(items.as_slice(), bytes),
     }
 }
 
+/// What stands behind the first label and its dot, if one follows, where items match that label.
+fn without_first_glob<'a>(items: &[Item], bytes: &'a [u8]) -> Option<Rest<'a>>
+    ensures { MatchOption result (LacksFirst (Glob items.now) bytes.now) (λ behind. HasFirst (Glob items.now) bytes.now (rest_bytes behind)) }
+{
+    for (at, item) in items.iter().enumerate() {
+        if item.is_run() {
+            return without_first_run(&items[at + 1..], &bytes[at..]);
+        }
+        if at == bytes.len() {
+            return None;
+        }
+        let byte = bytes[at];
+        if byte == DOT {
+            return None;
+        }
+        if !item.takes(byte) {
+            return None;
+        }
+    }
+    without_first_empty(&bytes[items.len()..])
+}
+
+/// What stands behind the first label and its dot, if one follows, where a `*` and items match that label.
+fn without_first_run<'a>(items: &[Item], bytes: &'a [u8]) -> Option<Rest<'a>>
+    ensures { MatchOption result (LacksFirst (Glob (AnyRun ∷ items.now)) bytes.now) (λ behind. HasFirst (Glob (AnyRun ∷ items.now)) bytes.now (rest_bytes behind)) }
+{
+    let (label, behind) = first_label(bytes);
+    if run_matches(items, label) {
+        Some(behind)
+    } else {
+        None
+    }
+}
+
+/// What stands behind the dot at the front, if one is there, where the first label is empty.
+fn without_first_empty(bytes: &[u8]) -> Option<Rest<'_>>
+    ensures { MatchOption result (LacksFirst (Glob []) bytes.now) (λ behind. HasFirst (Glob []) bytes.now (rest_bytes behind)) }
+{
+    if bytes.is_empty() {
+        return Some(Rest::Nothing);
+    }
+    let first = bytes[0];
+    if first != DOT {
+        return None;
+    }
+    Some(Rest::Labels(&bytes[1..]))
+}
+
 /// What stands behind the first label and its dot, if one follows, where that label is a text, without case.
-fn without_first_text<'a>(text: &[u8], bytes: &'a [u8]) -> Option<Option<&'a [u8]>>
-    ensures { MatchOption result (LacksFirst (Plain text.now) bytes.now) (λ behind. HasFirst (Plain text.now) bytes.now (option_copied behind)) }
+fn without_first_text<'a>(text: &[u8], bytes: &'a [u8]) -> Option<Rest<'a>>
+    ensures { MatchOption result (LacksFirst (Plain text.now) bytes.now) (λ behind. HasFirst (Plain text.now) bytes.now (rest_bytes behind)) }
 {
     let end = text.len();
     if bytes.len() < end {
@@ -210,18 +284,18 @@ fn without_first_text<'a>(text: &[u8], bytes: &'a [u8]) -> Option<Option<&'a [u8
         return None;
     }
     if bytes.len() == end {
-        return Some(None);
+        return Some(Rest::Nothing);
     }
     let behind = bytes[end];
     if behind != DOT {
         return None;
     }
-    Some(Some(&bytes[end + 1..]))
+    Some(Rest::Labels(&bytes[end + 1..]))
 }
 
 /// What stands before the last label and its dot, if one does, where the pattern matches that label.
-fn without_last<'a>(pattern: &LabelPattern, bytes: &'a [u8]) -> Option<Option<&'a [u8]>>
-    ensures { MatchOption result (LacksLast pattern.now bytes.now) (λ front. HasLast pattern.now bytes.now (option_copied front)) }
+fn without_last<'a>(pattern: &LabelPattern, bytes: &'a [u8]) -> Option<Rest<'a>>
+    ensures { MatchOption result (LacksLast pattern.now bytes.now) (λ front. HasLast pattern.now bytes.now (rest_bytes front)) }
 {
     match pattern {
         LabelPattern::Plain(text) => without_last_text(text.as_bytes(), bytes),
@@ -237,8 +311,8 @@ fn without_last<'a>(pattern: &LabelPattern, bytes: &'a [u8]) -> Option<Option<&'
 }
 
 /// What stands before the last label and its dot, if one does, where that label is a text, without case.
-fn without_last_text<'a>(text: &[u8], bytes: &'a [u8]) -> Option<Option<&'a [u8]>>
-    ensures { MatchOption result (LacksLast (Plain text.now) bytes.now) (λ front. HasLast (Plain text.now) bytes.now (option_copied front)) }
+fn without_last_text<'a>(text: &[u8], bytes: &'a [u8]) -> Option<Rest<'a>>
+    ensures { MatchOption result (LacksLast (Plain text.now) bytes.now) (λ front. HasLast (Plain text.now) bytes.now (rest_bytes front)) }
 {
     if bytes.len() < text.len() {
         return None;
@@ -248,13 +322,13 @@ fn without_last_text<'a>(text: &[u8], bytes: &'a [u8]) -> Option<Option<&'a [u8]
         return None;
     }
     if start == 0 {
-        return Some(None);
+        return Some(Rest::Nothing);
     }
     let before = bytes[start - 1];
     if before != DOT {
         return None;
     }
-    Some(Some(&bytes[..start - 1]))
+    Some(Rest::Labels(&bytes[..start - 1]))
 }
 
 /// Whether bytes are a text, without case, and a label: no dot stands in them.
@@ -277,14 +351,32 @@ fn is_in_label(own: u8, byte: u8) -> bool
     byte != DOT && (own == byte || own.eq_ignore_ascii_case(&byte))
 }
 
-/// The bytes before the last dot, if there is one, and the last label.
-fn cut_last(bytes: &[u8]) -> (Option<&[u8]>, &[u8])
-    ensures { labels_in bytes.now ≡ parts_of DOT (option_copied result.0) ++ result.1.now ∷ [] }
+/// The first label, and what stands behind its dot, if one follows. Labels are short: a loop finds the dot sooner than memchr.
+fn first_label(bytes: &[u8]) -> (&[u8], Rest<'_>)
+    ensures parts { labels_in bytes.now ≡ result.0.now ∷ parts_of DOT (rest_bytes result.1) }
+    ensures shorter { IfSome (rest_bytes result.1) (λ behind. length behind < length bytes.now) }
 {
-    match memrchr(DOT, bytes) {
-        Some(at) => (Some(&bytes[..at]), &bytes[at + 1..]),
-        None => (None, bytes),
+    for (at, byte) in bytes.iter().enumerate() {
+        if *byte == DOT {
+            return (&bytes[..at], Rest::Labels(&bytes[at + 1..]));
+        }
     }
+    (bytes, Rest::Nothing)
+}
+
+/// The bytes before the last dot, if there is one, and the last label.
+fn cut_last(bytes: &[u8]) -> (Rest<'_>, &[u8])
+    ensures { labels_in bytes.now ≡ parts_of DOT (rest_bytes result.0) ++ result.1.now ∷ [] }
+{
+    let mut start = bytes.len();
+    'bytes: while start > 0 {
+        let before = start - 1;
+        if bytes[before] == DOT {
+            return (Rest::Labels(&bytes[..before]), &bytes[start..]);
+        }
+        start = before;
+    }
+    (Rest::Nothing, bytes)
 }
 
 /// The bytes without a dot at their end. What is left of a URL's host has its labels between dots.
@@ -292,11 +384,18 @@ pub fn without_last_dot(bytes: &[u8]) -> &[u8]
     ensures text { result.now ≡ without_last_dot bytes.now }
     ensures labels { slice_split (λ b. b == 46) result.now ≡ host_labels bytes.now }
 {
-    if bytes.ends_with(&[DOT]) {
+    if ends_with_dot(bytes) {
         &bytes[..bytes.len() - 1]
     } else {
         bytes
     }
+}
+
+/// Whether a dot stands at the end.
+pub(crate) fn ends_with_dot(text: &[u8]) -> bool
+    ensures { result ≡ ends_with_dot text.now }
+{
+    !text.is_empty() && text[text.len() - 1] == DOT
 }
 
 /// The last label without `*`, `?` and `[`.

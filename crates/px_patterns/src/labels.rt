@@ -35,7 +35,8 @@ pub enum LabelPattern {
 }
 
 impl Item {
-    fn is_run(&self) -> bool
+    /// Whether it is a `*`.
+    pub(crate) fn is_run(&self) -> bool
         ensures { result ≡ is_run self.now }
     {
         match self {
@@ -47,7 +48,7 @@ impl Item {
     }
 
     /// Whether the item stands for one byte, and for this one.
-    fn takes(&self, byte: u8) -> bool
+    pub(crate) fn takes(&self, byte: u8) -> bool
         ensures { result ≡ takes self.now byte }
     {
         match self {
@@ -106,19 +107,22 @@ impl LabelPattern {
 fn glob_matches(items: &[Item], label: &[u8]) -> bool
     ensures { result ≡ glob_matches items.now label.now }
 {
-    let (front, behind) = cut_at_run(items);
-    if !takes_front(front, label) {
-        return false;
+    for (at, item) in items.iter().enumerate() {
+        if item.is_run() {
+            return run_matches(&items[at + 1..], &label[at..]);
+        }
+        if at == label.len() {
+            return false;
+        }
+        if !item.takes(label[at]) {
+            return false;
+        }
     }
-    let rest = &label[front.len()..];
-    match behind {
-        Some(more) => run_matches(more, rest),
-        None => rest.is_empty(),
-    }
+    items.len() == label.len()
 }
 
 /// The same behind a `*`: whether a label, or one of the texts at its end, can be cut.
-fn run_matches(items: &[Item], label: &[u8]) -> bool
+pub(crate) fn run_matches(items: &[Item], label: &[u8]) -> bool
     ensures { result ≡ some_tail (glob_matches items.now) label.now }
 {
     let mut items = items;
@@ -179,7 +183,7 @@ fn behind_first<'a>(items: &[Item], bytes: &'a [u8]) -> Option<&'a [u8]>
         if takes_front(items, rest) {
             return Some(&rest[items.len()..]);
         }
-        if rest.is_empty() {
+        if rest.len() <= items.len() {
             return None;
         }
         rest = &rest[1..];

@@ -1,5 +1,4 @@
-use Rattle.std.proofs.Common.{◌∙◌, sym, ap, length, Some}
-use Rattle.std.proofs.lemmas.Bool.{eqb-true, eqb-false}
+use Rattle.std.proofs.Common.{◌∙◌, sym, ap, arith, length, Some}
 use Rattle.std.proofs.lemmas.List.{take_rest}
 use Rattle.px_patterns.proofs.GlobLemmas.{behind_end, behind_here, behind_later}
 use Rattle.px_patterns.proofs.labels.behind_first.Goals as goal
@@ -9,12 +8,11 @@ returns-then-takes_front c =
     ap (λ l. Some l) (take_rest c.places.rest.now (length c.args.items.now))
     ∙ sym (c.places.invariant ∙ behind_here c.args.items.now c.places.rest.now (sym c.takes_front.ensures.value ∙ c.if-takes_front.true))
 
-pub returns-then-is_empty : goal.returns-then-is_empty
-returns-then-is_empty c =
-    sym (c.places.invariant
-    ∙ behind_end c.args.items.now c.places.rest.now (sym c.takes_front.ensures.value ∙ c.if-takes_front.false) (eqb-true (length c.places.rest.now) 0 (sym c.is_empty.ensures ∙ c.if-is_empty.true)))
+pub returns-then-rest-items : goal.returns-then-rest-items
+returns-then-rest-items c =
+    sym (c.places.invariant ∙ behind_end c.args.items.now c.places.rest.now (sym c.takes_front.ensures.value ∙ c.if-takes_front.false) c.if-rest-items.true)
 
 pub places-preserved : goal.places-preserved
 places-preserved c =
     c.places.invariant
-    ∙ behind_later c.args.items.now c.places.rest.now (sym c.takes_front.ensures.value ∙ c.if-takes_front.false) (eqb-false (length c.places.rest.now) 0 (sym c.is_empty.ensures ∙ c.if-is_empty.false))
+    ∙ behind_later c.args.items.now c.places.rest.now (sym c.takes_front.ensures.value ∙ c.if-takes_front.false) (λ none. absurd (omega (arith, none, c.if-rest-items.false)))
