@@ -1,5 +1,5 @@
 -- A body that is passed on: whole elements as they come, whatever data they hold.
-use Rattle.std.specs.Prelude.{◌≡◌, ◌≢◌, ℕ, ◌+◌, ◌≤◌, ◌==◌, min, Bool, List, [], ◌++◌, length, take, if◌then◌else◌}
+use Rattle.std.specs.Prelude.{◌≡◌, ◌≢◌, ℕ, ◌+◌, ◌≤◌, ◌==◌, min, Bool, List, [], ◌++◌, length, take, IsTrue, if◌then◌else◌}
 use Rattle.px_framing.specs.declared.places.Place.{Place}
 use Rattle.px_framing.specs.Body.{Part}
 use Rattle.px_framing.specs.declared.stages.Stage.{Stage}
@@ -7,7 +7,9 @@ use Rattle.px_framing.specs.declared.stages.Stage.TheVariants as stage
 use Rattle.px_framing.specs.declared.places.State.{State}
 use Rattle.px_framing.specs.declared.places.State.TheVariants.{More, Whole, Cut, Misframed}
 use Rattle.px_framing.specs.declared.advances.Far.{Far}
+use Rattle.px_framing.specs.declared.lines.Line.{Line}
 use Rattle.px_framing.specs.Elements.{AreWhole}
+use Rattle.px_framing.specs.Lines.{after, crlf, may_stand}
 use Rattle.px_framing.specs.Reading.{before, goes_on, is_to_close, reads, reads_on, stage_state, IsSettledAt, KeepsKind, Reading, Uses}
 
 -- From place, behind the bytes kept, these bytes were taken, and those put out are of whole elements. What all bytes are read to
@@ -15,6 +17,13 @@ use Rattle.px_framing.specs.Reading.{before, goes_on, is_to_close, reads, reads_
 pub record Goes (place : Place) (kept bytes put : List ℕ) (next : Place) (kept' : List ℕ) : Type 0 where
   pub data_put : List ℕ
   pub same : (rest : List ℕ) → reads place kept (bytes ++ rest) ≡ before put data_put (length bytes) (reads next kept' rest)
+
+-- a whole line that may stand at this place is at the front of these bytes
+pub record IsLineAt (place : Place) (bytes : List ℕ) (line : Line) : Type 0 where
+  pub within : line.text_len + 2 ≤ length bytes
+  pub text_and_end : take (line.text_len + 2) bytes ≡ take line.text_len bytes ++ crlf
+  pub stands : IsTrue (may_stand place (take line.text_len bytes))
+  pub next_is : line.next ≡ after place (take line.text_len bytes)
 
 -- the bytes kept and the first bytes of a piece, up to the end of its last whole element; nothing where none ends in it
 abbrev pub settled : List ℕ → List ℕ → ℕ → List ℕ

@@ -1,11 +1,11 @@
 // Passes a chunked body on: how far whole elements reach in a piece, without a copy of their bytes.
 ghost use Rattle.std.specs.Prelude.{◌≡◌, ◌+◌, ◌∷◌, ◌++◌, [], ◌<◌, ◌≤◌, length, take, min, true, false, vec_len, vec_capacity, if◌then◌else◌};
-ghost use Rattle.px_framing.specs.Lines.{IsOpen, crlf};
+ghost use Rattle.px_framing.specs.Lines.{IsOpen};
 ghost use Rattle.px_framing.specs.Reading.{is_last, is_line, IsHeld, Room};
 ghost use Rattle.px_framing.specs.Passing.{Goes, settled};
 
 use crate::advances::append;
-use crate::lines::{judge, line_at};
+use crate::lines::{begins_with_line_end, judge, line_at};
 use crate::places::{Place, Verdict};
 
 /// A step in a piece: how many bytes it took, whether a whole element ends with them, and what comes next.
@@ -14,6 +14,30 @@ pub struct Gone {
     pub used: usize,
     pub ends: bool,
     pub next: Place,
+}
+
+/// Passes the last bytes of data of a chunk, and with them the CRLF behind them where it is there whole.
+fn pass_last_data(len: usize, rest: &[u8]) -> Gone
+    requires some { 0 < len }
+    requires within { len ≤ length rest.now }
+    ensures used { (0 < result.used) × (result.used ≤ length rest.now) }
+    ensures ends { result.ends ≡ true }
+    ensures held { IsHeld result.next [] }
+    ensures goes { Goes (Place.Data len) [] (take result.used rest.now) (take result.used rest.now) result.next [] }
+{
+    if begins_with_line_end(&rest[len..]) {
+        Gone {
+            used: len + 2,
+            ends: true,
+            next: Place::Size,
+        }
+    } else {
+        Gone {
+            used: len,
+            ends: true,
+            next: Place::Gap,
+        }
+    }
 }
 
 /// Passes a run of data.
@@ -26,11 +50,7 @@ fn pass_data(left: u64, rest: &[u8]) -> Gone
     ensures goes { Goes (Place.Data left) [] (take result.used rest.now) (take result.used rest.now) result.next [] }
 {
     if left <= rest.len() as u64 {
-        Gone {
-            used: left as usize,
-            ends: true,
-            next: Place::Gap,
-        }
+        pass_last_data(left as usize, rest)
     } else {
         Gone {
             used: rest.len(),
@@ -126,17 +146,8 @@ fn pass_gap(kept: &mut Vec<u8>, rest: &[u8]) -> Gone
             next: Place::Size,
         }
     } else {
-        pass_line(Place::Gap, kept, rest)
+        pass_byte(Place::Gap, kept, rest[0])
     }
-}
-
-fn begins_with_line_end(bytes: &[u8]) -> bool
-    ensures { result ≡ true → (2 ≤ length bytes.now) × (take 2 bytes.now ≡ crlf) }
-{
-    if bytes.len() < 2 {
-        return false;
-    }
-    bytes[0] == b'\r' && bytes[1] == b'\n'
 }
 
 /// Passes a run of data, a whole line or a byte of one.
