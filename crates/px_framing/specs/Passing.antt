@@ -1,5 +1,5 @@
 -- A body that is passed on: whole elements as they come, whatever data they hold.
-use Rattle.std.specs.Prelude.{◌≡◌, ◌≢◌, ℕ, ◌+◌, ◌≤◌, ◌==◌, min, Bool, List, [], ◌++◌, length, take, IsTrue, if◌then◌else◌}
+use Rattle.std.specs.Prelude.{◌≡◌, ◌≢◌, ℕ, ◌+◌, ◌<◌, ◌≤◌, ◌==◌, min, Bool, true, false, List, [], ◌++◌, length, take, IsTrue, if◌then◌else◌}
 use Rattle.px_framing.specs.declared.places.Place.{Place}
 use Rattle.px_framing.specs.Body.{Part}
 use Rattle.px_framing.specs.declared.stages.Stage.{Stage}
@@ -8,15 +8,25 @@ use Rattle.px_framing.specs.declared.places.State.{State}
 use Rattle.px_framing.specs.declared.places.State.TheVariants.{More, Whole, Cut, Misframed}
 use Rattle.px_framing.specs.declared.advances.Far.{Far}
 use Rattle.px_framing.specs.declared.lines.Line.{Line}
+use Rattle.px_framing.specs.declared.passes.Gone.{Gone}
 use Rattle.px_framing.specs.Elements.{AreWhole}
 use Rattle.px_framing.specs.Lines.{after, crlf, may_stand}
-use Rattle.px_framing.specs.Reading.{before, goes_on, is_to_close, reads, reads_on, stage_state, IsSettledAt, KeepsKind, Reading, Uses}
+use Rattle.px_framing.specs.Reading.{before, goes_on, is_last, is_to_close, reads, reads_on, stage_state, IsHeld, IsSettledAt, KeepsKind, Reading, Uses}
 
 -- From place, behind the bytes kept, these bytes were taken, and those put out are of whole elements. What all bytes are read to
 -- is the same before and behind.
 pub record Goes (place : Place) (kept bytes put : List ℕ) (next : Place) (kept' : List ℕ) : Type 0 where
   pub data_put : List ℕ
   pub same : (rest : List ℕ) → reads place kept (bytes ++ rest) ≡ before put data_put (length bytes) (reads next kept' rest)
+
+-- From place, behind the bytes kept, a step took bytes at the front of these. Where a whole element ends with them, nothing is kept
+-- any more, and else, where more may come, all of them.
+pub record StepsOn (place : Place) (kept bytes : List ℕ) (gone : Gone) (kept' : List ℕ) : Type 0 where
+  pub used : (0 < gone.used) × (gone.used ≤ length bytes)
+  pub held : IsHeld gone.next kept'
+  pub goes : Goes place kept (take gone.used bytes) (if gone.ends then kept ++ take gone.used bytes else []) gone.next kept'
+  pub fresh : gone.ends ≡ true → kept' ≡ []
+  pub grows : gone.ends ≡ false → is_last gone.next ≡ false → kept' ≡ kept ++ take gone.used bytes
 
 -- a whole line that may stand at this place is at the front of these bytes
 pub record IsLineAt (place : Place) (bytes : List ℕ) (line : Line) : Type 0 where

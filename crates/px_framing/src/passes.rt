@@ -2,7 +2,7 @@
 ghost use Rattle.std.specs.Prelude.{◌≡◌, ◌+◌, ◌∷◌, ◌++◌, [], ◌<◌, ◌≤◌, length, take, min, true, false, vec_len, vec_capacity, if◌then◌else◌};
 ghost use Rattle.px_framing.specs.Lines.{IsOpen};
 ghost use Rattle.px_framing.specs.Reading.{is_last, is_line, IsHeld, Room};
-ghost use Rattle.px_framing.specs.Passing.{Goes, settled};
+ghost use Rattle.px_framing.specs.Passing.{Goes, StepsOn, settled};
 
 use crate::advances::append;
 use crate::lines::{begins_with_line_end, judge, line_at};
@@ -20,10 +20,7 @@ pub struct Gone {
 fn pass_last_data(len: usize, rest: &[u8]) -> Gone
     requires some { 0 < len }
     requires within { len ≤ length rest.now }
-    ensures used { (0 < result.used) × (result.used ≤ length rest.now) }
-    ensures ends { result.ends ≡ true }
-    ensures held { IsHeld result.next [] }
-    ensures goes { Goes (Place.Data len) [] (take result.used rest.now) (take result.used rest.now) result.next [] }
+    ensures { StepsOn (Place.Data len) [] rest.now result [] }
 {
     if begins_with_line_end(&rest[len..]) {
         Gone {
@@ -44,10 +41,7 @@ fn pass_last_data(len: usize, rest: &[u8]) -> Gone
 fn pass_data(left: u64, rest: &[u8]) -> Gone
     requires some { 0 < length rest.now }
     requires left { 0 < left }
-    ensures used { (0 < result.used) × (result.used ≤ length rest.now) }
-    ensures ends { result.ends ≡ true }
-    ensures held { IsHeld result.next [] }
-    ensures goes { Goes (Place.Data left) [] (take result.used rest.now) (take result.used rest.now) result.next [] }
+    ensures { StepsOn (Place.Data left) [] rest.now result [] }
 {
     if left <= rest.len() as u64 {
         pass_last_data(left as usize, rest)
@@ -65,11 +59,7 @@ fn pass_byte(place: Place, kept: &mut Vec<u8>, byte: u8) -> Gone
     requires line { is_line place ≡ true }
     requires held { IsOpen place kept.old.items }
     requires kept { Room kept.old 1 }
-    ensures used { result.used ≡ 1 }
-    ensures held { IsHeld result.next kept.new.items }
-    ensures goes { Goes place kept.old.items (byte ∷ []) (if result.ends then kept.old.items ++ byte ∷ [] else []) result.next kept.new.items }
-    ensures fresh { result.ends ≡ true → kept.new.items ≡ [] }
-    ensures grows { result.ends ≡ false → is_last result.next ≡ false → kept.new.items ≡ kept.old.items ++ byte ∷ [] }
+    ensures step { StepsOn place kept.old.items (byte ∷ []) result kept.new.items }
     ensures kept_room { vec_capacity kept.old ≤ vec_capacity kept.new }
 {
     let len = kept.len();
@@ -105,11 +95,7 @@ fn pass_line(place: Place, kept: &mut Vec<u8>, rest: &[u8]) -> Gone
     requires line { is_line place ≡ true }
     requires held { IsOpen place kept.old.items }
     requires kept { Room kept.old 1 }
-    ensures used { (0 < result.used) × (result.used ≤ length rest.now) }
-    ensures held { IsHeld result.next kept.new.items }
-    ensures goes { Goes place kept.old.items (take result.used rest.now) (if result.ends then kept.old.items ++ take result.used rest.now else []) result.next kept.new.items }
-    ensures fresh { result.ends ≡ true → kept.new.items ≡ [] }
-    ensures grows { result.ends ≡ false → is_last result.next ≡ false → kept.new.items ≡ kept.old.items ++ take result.used rest.now }
+    ensures step { StepsOn place kept.old.items rest.now result kept.new.items }
     ensures kept_room { vec_capacity kept.old ≤ vec_capacity kept.new }
 {
     if kept.is_empty() {
@@ -132,11 +118,7 @@ fn pass_gap(kept: &mut Vec<u8>, rest: &[u8]) -> Gone
     requires some { 0 < length rest.now }
     requires held { IsOpen Place.Gap kept.old.items }
     requires kept { Room kept.old 1 }
-    ensures used { (0 < result.used) × (result.used ≤ length rest.now) }
-    ensures held { IsHeld result.next kept.new.items }
-    ensures goes { Goes Place.Gap kept.old.items (take result.used rest.now) (if result.ends then kept.old.items ++ take result.used rest.now else []) result.next kept.new.items }
-    ensures fresh { result.ends ≡ true → kept.new.items ≡ [] }
-    ensures grows { result.ends ≡ false → is_last result.next ≡ false → kept.new.items ≡ kept.old.items ++ take result.used rest.now }
+    ensures step { StepsOn Place.Gap kept.old.items rest.now result kept.new.items }
     ensures kept_room { vec_capacity kept.old ≤ vec_capacity kept.new }
 {
     if kept.is_empty() && begins_with_line_end(rest) {
@@ -156,11 +138,7 @@ fn pass_some(place: Place, kept: &mut Vec<u8>, rest: &[u8]) -> Gone
     requires more { is_last place ≡ false }
     requires held { IsHeld place kept.old.items }
     requires kept { Room kept.old 1 }
-    ensures used { (0 < result.used) × (result.used ≤ length rest.now) }
-    ensures held { IsHeld result.next kept.new.items }
-    ensures goes { Goes place kept.old.items (take result.used rest.now) (if result.ends then kept.old.items ++ take result.used rest.now else []) result.next kept.new.items }
-    ensures fresh { result.ends ≡ true → kept.new.items ≡ [] }
-    ensures grows { result.ends ≡ false → is_last result.next ≡ false → kept.new.items ≡ kept.old.items ++ take result.used rest.now }
+    ensures step { StepsOn place kept.old.items rest.now result kept.new.items }
     ensures kept_room { vec_capacity kept.old ≤ vec_capacity kept.new }
 {
     match place {
