@@ -1,18 +1,17 @@
 -- What is passed on of a piece.
-use Rattle.std.proofs.Common.{◌≡◌, ◌≢◌, ℕ, zero, suc, ◌+◌, ◌-◌, ◌<◌, ◌≤◌, Bool, true, false, ◌==◌, cond, min, List, [], ◌∷◌, ◌++◌, length, take, drop, slice_index, refl, sym, ◌∙◌, ap, subst, arith, append_assoc, length-append, length-take}
+use Rattle.std.proofs.Common.{◌≡◌, ◌≢◌, ℕ, zero, suc, ◌+◌, ◌-◌, ◌<◌, ◌≤◌, Bool, true, false, ◌==◌, cond, min, List, [], ◌∷◌, ◌++◌, length, take, drop, refl, sym, ◌∙◌, ap, subst, arith, append_assoc, length-append, length-take}
 use Rattle.std.proofs.lemmas.List.{append-nil, take_all, take-take}
 use Rattle.std.proofs.Math.Seq.{drop-append_seam}
 use Rattle.std.proofs.lemmas.Bool.Decides.{nat_tests}
 use Rattle.px_framing.specs.declared.places.Place.{Place}
 use Rattle.px_framing.specs.declared.places.Place.TheVariants.{Size, Data, Gap, Trailers, Done, Wrong}
-use Rattle.px_framing.specs.declared.passes.Gone.{Gone}
 use Rattle.px_framing.specs.declared.stages.Stage.{Stage}
 use Rattle.px_framing.specs.declared.stages.Stage.TheVariants as stage
 use Rattle.px_framing.specs.declared.places.State.{State}
 use Rattle.px_framing.specs.Body.{Part, nothing, first_bytes}
 use Rattle.px_framing.specs.Reading.{before, reads_on, goes_on, is_ended, is_last, is_to_close, end_state, stage_before, stage_state, state_at, IsHeld, Uses, KeepsKind, Reading, Steps, IsSettled, IsSettledAt}
 use Rattle.px_framing.specs.declared.places.State.TheVariants.{More, Whole, Cut, Misframed}
-use Rattle.px_framing.specs.Passing.{Goes, PassesOn, StepsOn, settled, bytes_left, data_in, due, last_state, IsDataOf}
+use Rattle.px_framing.specs.Passing.{Goes, PassesOn, settled, bytes_left, data_in, due, last_state, IsDataOf}
 use Rattle.px_framing.proofs.MoveLemmas.{goes-more, taken-on}
 use Rattle.px_framing.proofs.BodyLemmas.{whole-from}
 use Rattle.px_framing.proofs.StepLemmas.{pass-chunks, first-all, first-part, nothing-left}
@@ -50,20 +49,6 @@ kept-len k k1 piece at whole all =
     let same = ap (λ (w : List ℕ). length w) all in
     let few = length-take at piece in
     omega arith
-
--- a step over a byte is one over the bytes that begin with it
-pub step-in : (p : Place) (k k' bytes : List ℕ) (b : ℕ) (gone : Gone) → 0 < length bytes → slice_index bytes 0 ≡ b → StepsOn p k (b ∷ []) gone k' → StepsOn p k bytes gone k'
-step-in p k k' [] b gone some is s = absurd (omega arith)
-step-in p k k' (x ∷ xs) b gone some is s =
-    let one : gone.used ≡ 1 = omega (arith, s.used.0, s.used.1) in
-    let same : take gone.used (b ∷ []) ≡ take gone.used (x ∷ xs) = ap (λ (n : ℕ). take n (b ∷ [])) one ∙ ap (λ (c : ℕ). c ∷ []) (sym is) ∙ ap (λ (n : ℕ). take n (x ∷ xs)) (sym one) in
-    record {
-      used = (s.used.0, omega (arith, one));
-      held = s.held;
-      goes = subst (λ (w : List ℕ). Goes p k w (cond gone.ends (k ++ w) []) gone.next k') same s.goes;
-      fresh = s.fresh;
-      grows = λ e more. s.grows e more ∙ ap (λ (w : List ℕ). k ++ w) same;
-    }
 
 -- ---- stages
 

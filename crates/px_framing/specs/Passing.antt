@@ -1,5 +1,6 @@
 -- A body that is passed on: whole elements as they come, whatever data they hold.
 use Rattle.std.specs.Prelude.{◌≡◌, ◌≢◌, ℕ, ◌+◌, ◌<◌, ◌≤◌, ◌==◌, min, Bool, true, false, List, [], ◌++◌, length, take, IsTrue, if◌then◌else◌}
+use Rattle.px_framing.specs.declared.TheConstants.{LINE_LIMIT}
 use Rattle.px_framing.specs.declared.places.Place.{Place}
 use Rattle.px_framing.specs.Body.{Part}
 use Rattle.px_framing.specs.declared.stages.Stage.{Stage}
@@ -44,7 +45,7 @@ abbrev pub HasLineRoom : Stage → ℕ → ℕ → Type 0
 HasLineRoom (stage.Ended state) bytes capacity = Unit {0}
 HasLineRoom (stage.Bytes left) bytes capacity = Unit {0}
 HasLineRoom (stage.Rest room) bytes capacity = Unit {0}
-HasLineRoom (stage.Chunks place room) bytes capacity = min 8192 bytes ≤ capacity
+HasLineRoom (stage.Chunks place room) bytes capacity = min LINE_LIMIT bytes ≤ capacity
 
 -- the data of settled bytes: all of them, but for chunks
 abbrev pub IsDataOf : Stage → List ℕ → List ℕ → Type 0
@@ -79,7 +80,7 @@ bytes_left (stage.Chunks place room) = room
 pub record Passes (old : Stage) (kept piece : List ℕ) (far : Far) (kept' : List ℕ) : Type 0 where
   pub passes : PassesOn old kept piece (settled kept piece far.whole) far.used far.stage kept'
   pub settled_stage : IsSettledAt far.stage kept'
-  pub short : length kept' ≤ 8192
+  pub short : length kept' ≤ LINE_LIMIT
   pub whole : far.whole ≤ far.used
   pub used : Uses piece far.used (stage_state far.stage)
   pub left : stage_state far.stage ≡ More → bytes_left far.stage + far.used ≡ bytes_left old

@@ -1,5 +1,6 @@
 // Passes a chunked body on: how far whole elements reach in a piece, without a copy of their bytes.
 ghost use Rattle.std.specs.Prelude.{◌≡◌, ◌+◌, ◌∷◌, ◌++◌, [], ◌<◌, ◌≤◌, length, take, min, true, false, vec_len, vec_capacity, if◌then◌else◌};
+ghost use Rattle.px_framing.specs.declared.TheConstants.{LINE_LIMIT};
 ghost use Rattle.px_framing.specs.Lines.{IsOpen};
 ghost use Rattle.px_framing.specs.Reading.{is_last, is_line, IsHeld, Room};
 ghost use Rattle.px_framing.specs.Passing.{Goes, StepsOn, settled};
@@ -170,12 +171,12 @@ pub struct Reach {
 pub fn pass_piece(start: Place, kept: &mut Vec<u8>, piece: &[u8]) -> Reach
     requires more { is_last start ≡ false }
     requires held { IsHeld start kept.old.items }
-    requires kept { min 8192 (length kept.old.items + length piece.now) ≤ vec_capacity kept.old }
+    requires kept { min LINE_LIMIT (length kept.old.items + length piece.now) ≤ vec_capacity kept.old }
     ensures whole { result.whole ≤ result.used }
     ensures used { result.used ≤ length piece.now }
     ensures all { is_last result.next ≡ false → result.used ≡ length piece.now }
     ensures held { IsHeld result.next kept.new.items }
-    ensures short { length kept.new.items ≤ 8192 }
+    ensures short { length kept.new.items ≤ LINE_LIMIT }
     ensures goes { Goes start kept.old.items (take result.used piece.now) (settled kept.old.items piece.now result.whole) result.next kept.new.items }
 {
     let mut place = start;

@@ -1,5 +1,6 @@
 use Rattle.std.proofs.Common.{◌≡◌, ◌+◌, ◌-◌, ◌<◌, ap, sym, ◌∙◌, arith, slice_index, eqb-true, length}
 use Rattle.std.proofs.lemmas.List.{get_or-take}
+use Rattle.px_framing.specs.declared.TheConstants.{LINE_LIMIT}
 use Rattle.px_framing.proofs.LineLemmas.{line-bytes}
 use Rattle.px_framing.proofs.lines.line_to_lf.Goals as goal
 
@@ -10,7 +11,7 @@ returns-in-Some-next_place c =
     let within : at < length c.front.result.now = c.in-Some.ensures.0.high in
     let same : at - 1 + 1 ≡ at = omega arith in
     let lf : slice_index bytes (at - 1 + 1) ≡ 10 =
-    ap (slice_index bytes) same ∙ sym (get_or-take 8192 bytes at 0 (omega (arith, within, c.front.ensures.len)))
+    ap (slice_index bytes) same ∙ sym (get_or-take LINE_LIMIT bytes at 0 (omega (arith, within, c.front.ensures.len)))
     ∙ ap (λ xs. slice_index xs at) (sym c.front.ensures.bytes) ∙ eqb-true (slice_index c.front.result.now at) 10 c.in-Some.ensures.1 in
     record {
       within = omega (arith, within, c.front.ensures.len);
