@@ -1,6 +1,5 @@
 -- A reader of a body: what the bytes to come will be read to. A body read from its start is read to what `Body` says.
 use Rattle.std.specs.Prelude.{◌≡◌, ℕ, ◌+◌, ◌-◌, ◌<◌, ◌≤◌, Bool, true, false, ◌&&◌, ◌==◌, nat_le, nat_lt, slice_index, List, [], ◌∷◌, ◌++◌, length, take, drop, if◌then◌else◌, Vec, vec_len, vec_capacity}
-use Rattle.px_framing.specs.declared.TheConstants.{LINE_LIMIT}
 use Rattle.px_framing.specs.declared.places.Place.{Place}
 use Rattle.px_framing.specs.declared.places.Place.TheVariants.{Size, Data, Gap, Trailers, Done, Wrong}
 use Rattle.px_framing.specs.declared.places.State.{State}
@@ -202,4 +201,4 @@ IsSettledAt (stage.Chunks place room) kept = IsHeld place kept × (is_last place
 
 pub record IsSettled (r : Reading) : Type 0 where
   pub settled : IsSettledAt r.stage r.kept
-  pub short : length r.kept ≤ LINE_LIMIT
+  pub short : length r.kept ≤ 8192
