@@ -1,15 +1,16 @@
 -- What is kept of an unfinished line, and a whole line at once.
-use Rattle.std.proofs.Common.{◌≡◌, ℕ, ◌+◌, ◌-◌, ◌<◌, ◌≤◌, ◌⊎◌, inl, inr, Bool, true, false, ◌==◌, ◌&&◌, cond, nat_lt, nat_le, List, [], ◌∷◌, ◌++◌, length, take, slice_index, Option, Some, None, IsTrue, refl, sym, ◌∙◌, ap, subst, arith, append_assoc, eqb-true, lt-ltb}
-use Rattle.std.proofs.lemmas.List.{append-nil, length_push, get_or_at, take_at}
+use Rattle.std.proofs.Common.{◌≡◌, ℕ, ◌+◌, ◌-◌, ◌<◌, ◌≤◌, ◌⊎◌, inl, inr, Bool, true, false, ◌==◌, ◌&&◌, cond, nat_lt, nat_le, ◌^◌, List, [], ◌∷◌, ◌++◌, length, take, drop, length-drop, le-leb, slice_index, Option, Some, None, IsTrue, refl, sym, ◌∙◌, ap, subst, arith, append_assoc, eqb-true, lt-ltb}
+use Rattle.std.proofs.lemmas.List.{append-nil, length_push, length-take-le, get_or_at, take_at}
 use Rattle.std.proofs.lemmas.Bool.Decides.{nat_tests}
 use Rattle.px_framing.specs.declared.places.Place.{Place}
 use Rattle.px_framing.specs.declared.places.Place.TheVariants.{Size, Data, Gap, Trailers, Done, Wrong}
 use Rattle.px_framing.specs.declared.places.Verdict.TheVariants as verdict
-use Rattle.px_framing.specs.Lines.{crlf, may_stand, after, after_size, size_of, IsOpen}
+use Rattle.std.specs.Str.Parse.{digits_value}
+use Rattle.px_framing.specs.Lines.{crlf, front_while, is_hex, may_stand, after, after_size, size_of, IsOpen}
 use Rattle.px_framing.specs.Reading.{before, ends_in_cr, without_last, verdict_of, is_line, reads, IsHeld}
-use Rattle.px_framing.specs.Passing.{Goes}
-use Rattle.px_framing.proofs.LineLemmas.{closed, no_cr, ends_in}
-use Rattle.px_framing.proofs.MoveLemmas.{move-open, move-line, goes-then}
+use Rattle.px_framing.specs.Passing.{Goes, IsLineAt}
+use Rattle.px_framing.proofs.LineLemmas.{closed, no_cr, ends_in, digits-taken, size-of-digits}
+use Rattle.px_framing.proofs.MoveLemmas.{move-open, move-line, move-data, data-place-zero, goes-then, goes-more, taken-on}
 
 -- ---- the last byte
 
@@ -94,10 +95,33 @@ goes-line p n k k' text bytes l h e f a c =
           ∙ (λ i. before (sym a i) m.data_put (length (sym a i)) (reads (sym c i) (sym f i) rest));
     }
 
+-- a size line of digits alone
+pub digits-line : (bytes : List ℕ) (len value : ℕ) (next : Place) → len ≡ length (front_while is_hex bytes) → 0 < len → len ≤ 254 → len ≤ length bytes → value ≡ digits_value 16 (front_while is_hex bytes) → value < 2 ^ 63
+    → (2 ≤ length (drop len bytes)) × (take 2 (drop len bytes) ≡ crlf) → next ≡ after_size (Some value) → IsLineAt Size bytes (record { text_len = len; next = next })
+unfolding may_stand after
+digits-line bytes len value next is some fits within value_is small behind next_is =
+    let front : take len bytes ≡ front_while is_hex bytes = digits-taken bytes len is in
+    let size : size_of (take len bytes) ≡ Some value = ap size_of front ∙ size-of-digits bytes (omega arith) (omega arith) ∙ ap Some (sym value_is) in
+    let long : nat_le (length (take len bytes)) 254 ≡ true = ap (λ (w : List ℕ). nat_le (length w) 254) front ∙ le-leb (length (front_while is_hex bytes)) 254 (omega arith) in
+    record {
+      within = let l = length-drop len bytes in omega (arith, behind.0);
+      text_and_end = sym (taken-on bytes len 2) ∙ ap (λ (w : List ℕ). take len bytes ++ w) behind.1;
+      stands = rw (size, long) refl;
+      next_is = next_is ∙ ap after_size (sym size);
+    }
+
 -- the CRLF behind the data
 pub goes-gap : (k bytes : List ℕ) → k ≡ [] → bytes ≡ crlf → Goes Gap k bytes bytes Size k
 unfolding may_stand after
 goes-gap k bytes none is = goes-line Gap Size k k [] bytes refl refl none none is refl
+
+-- the last data of a chunk and the CRLF behind them
+pub goes-data-end : (n : ℕ) (bytes : List ℕ) → 0 < n → n ≤ length bytes → take 2 (drop n bytes) ≡ crlf → Goes (Data n) [] (take (n + 2) bytes) (take (n + 2) bytes) Size []
+goes-data-end n bytes some within is =
+    let len = length-take-le n bytes within in
+    let run = move-data n (take n bytes) Gap (omega (arith, len)) (omega (arith, len)) (data-place-zero (n - length (take n bytes)) (omega (arith, len))) in
+    subst (λ (w : List ℕ). Goes (Data n) [] (take (n + 2) bytes) w Size []) (taken-on bytes n 2)
+    (goes-more (Data n) Gap Size [] [] [] bytes (take n bytes) (take 2 (drop n bytes)) n 2 run (goes-gap [] (take 2 (drop n bytes)) refl is))
 
 -- ---- what is held
 

@@ -8,7 +8,7 @@ use Rattle.std.specs.Char.{digit_value}
 use Rattle.px_framing.specs.declared.places.Place.{Place}
 use Rattle.px_framing.specs.declared.places.Place.TheVariants.{Size, Data, Gap, Trailers, Done, Wrong}
 use Rattle.px_base.specs.Blanks.{is_blank}
-use Rattle.std.specs.Str.Parse.{digits_value_after}
+use Rattle.std.specs.Str.Parse.{digits_value, digits_value_after}
 use Rattle.px_framing.specs.Lines.{crlf, is_hex, is_plain, is_extension, front_while, behind_while, size_from, size_of, may_stand, IsOpen, NoLine}
 
 -- where two joins are one list, one front begins the other
@@ -211,3 +211,88 @@ line-bytes bytes n within cr lf =
     let e : n + 2 ≡ n + 1 + 1 = omega arith in
     ap (λ k. take k bytes) e ∙ take_more bytes (n + 1) 0 (omega arith) ∙ ap (λ (xs : List ℕ). xs ++ slice_index bytes (n + 1) ∷ []) (take_more bytes n 0 (omega arith))
     ∙ ap (λ b. (take n bytes ++ slice_index bytes n ∷ []) ++ b ∷ []) lf ∙ ap (λ b. (take n bytes ++ b ∷ []) ++ 10 ∷ []) cr ∙ append_assoc (take n bytes) (13 ∷ []) (10 ∷ [])
+
+-- ---- the digits at the front
+
+front-again : (test : ℕ → Bool) (xs : List ℕ) → front_while test (front_while test xs) ≡ front_while test xs
+front-again test [] = refl
+front-again test (x ∷ xs) = again (test x) refl (front-again test xs)
+  where
+    again : (c : Bool) → test x ≡ c → front_while test (front_while test xs) ≡ front_while test xs → front_while test (cond c (x ∷ front_while test xs) []) ≡ cond c (x ∷ front_while test xs) []
+    again true e more = ap (λ d. cond d (x ∷ front_while test (front_while test xs)) []) e ∙ ap (λ (w : List ℕ). x ∷ w) more
+    again false e more = refl
+
+none-behind-front : (test : ℕ → Bool) (xs : List ℕ) → behind_while test (front_while test xs) ≡ []
+none-behind-front test [] = refl
+none-behind-front test (x ∷ xs) = none (test x) refl (none-behind-front test xs)
+  where
+    none : (c : Bool) → test x ≡ c → behind_while test (front_while test xs) ≡ [] → behind_while test (cond c (x ∷ front_while test xs) []) ≡ []
+    none true e more = ap (λ d. cond d (behind_while test (front_while test xs)) (x ∷ front_while test xs)) e ∙ more
+    none false e more = refl
+
+front-taken : (test : ℕ → Bool) (xs : List ℕ) → take (length (front_while test xs)) xs ≡ front_while test xs
+front-taken test [] = refl
+front-taken test (x ∷ xs) = taken (test x) (front-taken test xs)
+  where
+    taken : (c : Bool) → take (length (front_while test xs)) xs ≡ front_while test xs → take (length (cond c (x ∷ front_while test xs) [])) (x ∷ xs) ≡ cond c (x ∷ front_while test xs) []
+    taken true more = ap (λ (w : List ℕ). x ∷ w) more
+    taken false more = refl
+
+front-dropped : (test : ℕ → Bool) (xs : List ℕ) → drop (length (front_while test xs)) xs ≡ behind_while test xs
+front-dropped test [] = refl
+front-dropped test (x ∷ xs) = dropped (test x) (front-dropped test xs)
+  where
+    dropped : (c : Bool) → drop (length (front_while test xs)) xs ≡ behind_while test xs → drop (length (cond c (x ∷ front_while test xs) [])) (x ∷ xs) ≡ cond c (behind_while test xs) (x ∷ xs)
+    dropped true more = more
+    dropped false more = refl
+
+-- without a digit no size is given
+pub no-digits : (text : List ℕ) → 0 ≡ length (front_while is_hex text) → None ≡ size_of text
+unfolding size_of
+no-digits [] e = refl
+no-digits (b ∷ bs) e = none (is_hex b) (size_from (digits_value 16 (front_while is_hex (b ∷ bs))) (behind_while is_hex (b ∷ bs))) e
+  where
+    none : (c : Bool) (o : Option ℕ) → 0 ≡ length (cond c (b ∷ front_while is_hex bs) []) → None ≡ cond c o None
+    none true o f = absurd (omega arith)
+    none false o f = refl
+
+-- nor by too great a number
+pub large-digits : (text : List ℕ) → 2 ^ 63 ≤ digits_value 16 (front_while is_hex text) → None ≡ size_of text
+unfolding size_of
+large-digits [] large = refl
+large-digits (b ∷ bs) large = none (is_hex b) _ (size-too-large _ (behind_while is_hex (b ∷ bs)) large)
+  where
+    none : (c : Bool) (o : Option ℕ) → o ≡ None → None ≡ cond c o None
+    none true o e = sym e
+    none false o e = refl
+
+size-from-digits : (text : List ℕ) → 0 < length (front_while is_hex text) → size_of text ≡ size_from (digits_value 16 (front_while is_hex text)) (behind_while is_hex text)
+unfolding size_of
+size-from-digits [] some = absurd (omega arith)
+size-from-digits (b ∷ bs) some = from (is_hex b) (size_from (digits_value 16 (front_while is_hex (b ∷ bs))) (behind_while is_hex (b ∷ bs))) some
+  where
+    from : (c : Bool) (o : Option ℕ) → 0 < length (cond c (b ∷ front_while is_hex bs) []) → cond c o None ≡ o
+    from true o f = refl
+    from false o f = absurd (omega arith)
+
+-- the size by the digits and what stands behind them
+pub size-read : (text : List ℕ) (len : ℕ) (ends : Bool) → len ≡ length (front_while is_hex text) → 0 < len → digits_value 16 (front_while is_hex text) < 2 ^ 63
+    → ends ≡ is_extension (behind_while is_blank (drop len text)) → cond ends (Some (digits_value 16 (front_while is_hex text))) None ≡ size_of text
+size-read text len ends is some small e =
+    let fits : nat_lt (digits_value 16 (front_while is_hex text)) (2 ^ 63) ≡ true = lt-ltb (digits_value 16 (front_while is_hex text)) (2 ^ 63) small in
+    let behind : drop len text ≡ behind_while is_hex text = ap (λ (n : ℕ). drop n text) is ∙ front-dropped is_hex text in
+    let same : is_extension (behind_while is_blank (behind_while is_hex text)) ≡ ends = ap (λ (w : List ℕ). is_extension (behind_while is_blank w)) (sym behind) ∙ sym e in
+    sym (size-from-digits text (omega arith) ∙ (rw (fits, same) refl))
+
+-- the front that is digits
+pub digits-taken : (bytes : List ℕ) (len : ℕ) → len ≡ length (front_while is_hex bytes) → take len bytes ≡ front_while is_hex bytes
+digits-taken bytes len is = ap (λ (n : ℕ). take n bytes) is ∙ front-taken is_hex bytes
+
+-- the size by digits alone
+pub size-of-digits : (bytes : List ℕ) → 0 < length (front_while is_hex bytes) → digits_value 16 (front_while is_hex bytes) < 2 ^ 63
+    → size_of (front_while is_hex bytes) ≡ Some (digits_value 16 (front_while is_hex bytes))
+size-of-digits bytes some small =
+    let fits : nat_lt (digits_value 16 (front_while is_hex bytes)) (2 ^ 63) ≡ true = lt-ltb (digits_value 16 (front_while is_hex bytes)) (2 ^ 63) small in
+    let again : front_while is_hex (front_while is_hex bytes) ≡ front_while is_hex bytes = front-again is_hex bytes in
+    let none : behind_while is_hex (front_while is_hex bytes) ≡ [] = none-behind-front is_hex bytes in
+    size-from-digits (front_while is_hex bytes) (subst (λ (w : List ℕ). 0 < length w) (sym again) some) ∙ (rw (again, none, fits) refl)

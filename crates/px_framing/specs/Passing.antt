@@ -1,5 +1,6 @@
 -- A body that is passed on: whole elements as they come, whatever data they hold.
-use Rattle.std.specs.Prelude.{◌≡◌, ◌≢◌, ℕ, ◌+◌, ◌≤◌, ◌==◌, min, Bool, List, [], ◌++◌, length, take, if◌then◌else◌}
+use Rattle.std.specs.Prelude.{◌≡◌, ◌≢◌, ℕ, ◌+◌, ◌<◌, ◌≤◌, ◌==◌, min, Bool, true, false, List, [], ◌++◌, length, take, IsTrue, if◌then◌else◌}
+use Rattle.px_framing.specs.declared.TheConstants.{LINE_LIMIT}
 use Rattle.px_framing.specs.declared.places.Place.{Place}
 use Rattle.px_framing.specs.Body.{Part}
 use Rattle.px_framing.specs.declared.stages.Stage.{Stage}
@@ -7,14 +8,33 @@ use Rattle.px_framing.specs.declared.stages.Stage.TheVariants as stage
 use Rattle.px_framing.specs.declared.places.State.{State}
 use Rattle.px_framing.specs.declared.places.State.TheVariants.{More, Whole, Cut, Misframed}
 use Rattle.px_framing.specs.declared.advances.Far.{Far}
+use Rattle.px_framing.specs.declared.lines.Line.{Line}
+use Rattle.px_framing.specs.declared.passes.Gone.{Gone}
 use Rattle.px_framing.specs.Elements.{AreWhole}
-use Rattle.px_framing.specs.Reading.{before, goes_on, is_to_close, reads, reads_on, stage_state, IsSettledAt, KeepsKind, Reading, Uses}
+use Rattle.px_framing.specs.Lines.{after, crlf, may_stand}
+use Rattle.px_framing.specs.Reading.{before, goes_on, is_last, is_to_close, reads, reads_on, stage_state, IsHeld, IsSettledAt, KeepsKind, Reading, Uses}
 
 -- From place, behind the bytes kept, these bytes were taken, and those put out are of whole elements. What all bytes are read to
 -- is the same before and behind.
 pub record Goes (place : Place) (kept bytes put : List ℕ) (next : Place) (kept' : List ℕ) : Type 0 where
   pub data_put : List ℕ
   pub same : (rest : List ℕ) → reads place kept (bytes ++ rest) ≡ before put data_put (length bytes) (reads next kept' rest)
+
+-- From place, behind the bytes kept, a step took bytes at the front of these. Where a whole element ends with them, nothing is kept
+-- any more, and else, where more may come, all of them.
+pub record StepsOn (place : Place) (kept bytes : List ℕ) (gone : Gone) (kept' : List ℕ) : Type 0 where
+  pub used : (0 < gone.used) × (gone.used ≤ length bytes)
+  pub held : IsHeld gone.next kept'
+  pub goes : Goes place kept (take gone.used bytes) (if gone.ends then kept ++ take gone.used bytes else []) gone.next kept'
+  pub fresh : gone.ends ≡ true → kept' ≡ []
+  pub grows : gone.ends ≡ false → is_last gone.next ≡ false → kept' ≡ kept ++ take gone.used bytes
+
+-- a whole line that may stand at this place is at the front of these bytes
+pub record IsLineAt (place : Place) (bytes : List ℕ) (line : Line) : Type 0 where
+  pub within : line.text_len + 2 ≤ length bytes
+  pub text_and_end : take (line.text_len + 2) bytes ≡ take line.text_len bytes ++ crlf
+  pub stands : IsTrue (may_stand place (take line.text_len bytes))
+  pub next_is : line.next ≡ after place (take line.text_len bytes)
 
 -- the bytes kept and the first bytes of a piece, up to the end of its last whole element; nothing where none ends in it
 abbrev pub settled : List ℕ → List ℕ → ℕ → List ℕ
@@ -25,7 +45,7 @@ abbrev pub HasLineRoom : Stage → ℕ → ℕ → Type 0
 HasLineRoom (stage.Ended state) bytes capacity = Unit {0}
 HasLineRoom (stage.Bytes left) bytes capacity = Unit {0}
 HasLineRoom (stage.Rest room) bytes capacity = Unit {0}
-HasLineRoom (stage.Chunks place room) bytes capacity = min 8192 bytes ≤ capacity
+HasLineRoom (stage.Chunks place room) bytes capacity = min LINE_LIMIT bytes ≤ capacity
 
 -- the data of settled bytes: all of them, but for chunks
 abbrev pub IsDataOf : Stage → List ℕ → List ℕ → Type 0
@@ -60,7 +80,7 @@ bytes_left (stage.Chunks place room) = room
 pub record Passes (old : Stage) (kept piece : List ℕ) (far : Far) (kept' : List ℕ) : Type 0 where
   pub passes : PassesOn old kept piece (settled kept piece far.whole) far.used far.stage kept'
   pub settled_stage : IsSettledAt far.stage kept'
-  pub short : length kept' ≤ 8192
+  pub short : length kept' ≤ LINE_LIMIT
   pub whole : far.whole ≤ far.used
   pub used : Uses piece far.used (stage_state far.stage)
   pub left : stage_state far.stage ≡ More → bytes_left far.stage + far.used ≡ bytes_left old

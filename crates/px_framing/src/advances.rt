@@ -1,5 +1,6 @@
 // A piece further: what of it is settled, and the stage behind it.
 ghost use Rattle.std.specs.Prelude.{◌≡◌, ◌+◌, ◌++◌, [], ◌<◌, ◌≤◌, length, take, drop, min, false, List, ℕ, OnOk, OnErr, IfOk, vec_len, vec_capacity};
+ghost use Rattle.px_framing.specs.declared.TheConstants.{LINE_LIMIT};
 ghost use Rattle.px_framing.specs.Reading.{IsHeld, IsSettledAt, Room, is_last};
 ghost use Rattle.px_framing.specs.Passing.{HasLineRoom, IsDataOf, Passes, settled};
 
@@ -33,7 +34,7 @@ pub fn append(out: &mut Vec<u8>, bytes: &[u8])
 
 /// Room for the unfinished line that a piece of a chunked body may leave.
 pub fn line_room(stage: Stage, kept: &mut Vec<u8>, piece: &[u8]) -> Result<(), Mem>
-    requires short { length kept.old.items ≤ 8192 }
+    requires short { length kept.old.items ≤ LINE_LIMIT }
     ensures same { kept.new.items ≡ kept.old.items }
     ensures room { OnOk result (HasLineRoom stage (length kept.new.items + length piece.now) (vec_capacity kept.new)) }
 {
@@ -46,9 +47,9 @@ pub fn line_room(stage: Stage, kept: &mut Vec<u8>, piece: &[u8]) -> Result<(), M
 }
 
 fn reserve_line(kept: &mut Vec<u8>, len: usize) -> Result<(), Mem>
-    requires short { length kept.old.items ≤ 8192 }
+    requires short { length kept.old.items ≤ LINE_LIMIT }
     ensures same { kept.new.items ≡ kept.old.items }
-    ensures room { OnOk result (min 8192 (length kept.new.items + len) ≤ vec_capacity kept.new) }
+    ensures room { OnOk result (min LINE_LIMIT (length kept.new.items + len) ≤ vec_capacity kept.new) }
 {
     let most = LINE_LIMIT - kept.len();
     if len < most {
@@ -62,7 +63,7 @@ fn reserve_line(kept: &mut Vec<u8>, len: usize) -> Result<(), Mem>
 /// Passes the bytes of a piece that belong to the body.
 pub fn pass_on(stage: Stage, kept: &mut Vec<u8>, piece: &[u8]) -> Far
     requires settled { IsSettledAt stage kept.old.items }
-    requires short { length kept.old.items ≤ 8192 }
+    requires short { length kept.old.items ≤ LINE_LIMIT }
     requires room { HasLineRoom stage (length kept.old.items + length piece.now) (vec_capacity kept.old) }
     ensures { Passes stage kept.old.items piece.now result kept.new.items }
 {
@@ -123,7 +124,7 @@ fn pass_chunks(place: Place, room: u64, kept: &mut Vec<u8>, piece: &[u8]) -> Far
     requires held { IsHeld place kept.old.items }
     requires more { is_last place ≡ false }
     requires some { 0 < room }
-    requires room { min 8192 (length kept.old.items + length piece.now) ≤ vec_capacity kept.old }
+    requires room { min LINE_LIMIT (length kept.old.items + length piece.now) ≤ vec_capacity kept.old }
     ensures { Passes (Stage.Chunks place room) kept.old.items piece.now result kept.new.items }
 {
     let bytes = front(piece, room);
@@ -142,7 +143,7 @@ fn pass_chunks(place: Place, room: u64, kept: &mut Vec<u8>, piece: &[u8]) -> Far
 /// Passes the bytes of a piece, and adds to `out`, which has room for them, those that are settled.
 pub fn add_settled(stage: Stage, kept: &mut Vec<u8>, piece: &[u8], out: &mut Vec<u8>) -> Far
     requires settled { IsSettledAt stage kept.old.items }
-    requires short { length kept.old.items ≤ 8192 }
+    requires short { length kept.old.items ≤ LINE_LIMIT }
     requires room { HasLineRoom stage (length kept.old.items + length piece.now) (vec_capacity kept.old) }
     requires out { Room out.old (length kept.old.items + length piece.now) }
     ensures passes { Passes stage kept.old.items piece.now result kept.new.items }

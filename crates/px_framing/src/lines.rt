@@ -1,10 +1,11 @@
 // The lines of a chunked body.
-ghost use Rattle.std.specs.Prelude.{◌≡◌, ◌↔◌, ◌+◌, ◌-◌, ◌∷◌, ◌++◌, [], ◌<◌, ◌≤◌, length, take, IsTrue, SomeIff, IfSome, MatchOption, min, ℕ, List, false};
+ghost use Rattle.std.specs.Prelude.{◌≡◌, ◌↔◌, ◌+◌, ◌-◌, ◌^◌, ◌∷◌, ◌++◌, [], ◌<◌, ◌≤◌, length, take, true, Some, IsTrue, SomeIff, IfSome, MatchOption, min, ℕ, List, false};
 ghost use Rattle.std.specs.Char.{digit_value};
 ghost use Rattle.std.specs.List.{list_all};
 ghost use Rattle.std.specs.Str.Parse.{digits_value};
 ghost use Rattle.px_base.specs.Blanks.{is_blank};
-ghost use Rattle.px_framing.specs.Lines.{after, behind_while, crlf, front_while, is_extension, is_hex, is_plain, may_stand, size_from, size_of, IsOpen};
+ghost use Rattle.px_framing.specs.Lines.{after, after_size, behind_while, crlf, front_while, is_extension, is_hex, is_plain, may_stand, size_of, IsOpen};
+ghost use Rattle.px_framing.specs.Passing.{IsLineAt};
 ghost use Rattle.px_framing.specs.Reading.{ends_in_cr, verdict_of};
 
 use crate::LINE_LIMIT;
@@ -60,42 +61,64 @@ fn ends_size(bytes: &[u8]) -> bool
     true
 }
 
-/// The size that digits and what stands behind them give.
-fn digits_and_end(text: &[u8]) -> Option<u64>
-    ensures { result ≡ size_from (digits_value 16 (front_while is_hex text.now)) (behind_while is_hex text.now) }
+/// The hexadecimal digits at the front of bytes: how many they are, and the number that they give.
+#[derive(Clone, Copy)]
+struct Digits {
+    len: usize,
+    value: u64,
+}
+
+/// The digits at the front of the bytes, unless they give 2^63 or more.
+fn digits_at(bytes: &[u8]) -> Option<Digits>
+    ensures len { IfSome result (λ digits. digits.len ≡ length (front_while is_hex bytes.now)) }
+    ensures within { IfSome result (λ digits. digits.len ≤ length bytes.now) }
+    ensures value { IfSome result (λ digits. digits.value ≡ digits_value 16 (front_while is_hex bytes.now)) }
+    ensures small { MatchOption result (2 ^ 63 ≤ digits_value 16 (front_while is_hex bytes.now)) (λ digits. digits.value < 2 ^ 63) }
 {
-    let mut size = 0;
-    for i in 0..text.len() {
-        match hex_digit(text[i]) {
+    let mut value = 0;
+    for i in 0..bytes.len() {
+        match hex_digit(bytes[i]) {
             Some(digit) => {
-                if size >= 1 << 59 {
+                if value >= 1 << 59 {
                     return None;
                 }
-                size = size * 16 + digit;
+                value = value * 16 + digit;
             }
-            None => {
-                if ends_size(&text[i..]) {
-                    return Some(size);
-                } else {
-                    return None;
-                }
-            }
+            None => return Some(Digits { len: i, value }),
         }
     }
-    Some(size)
+    Some(Digits {
+        len: bytes.len(),
+        value,
+    })
 }
 
 /// The size that a size line's text gives.
-#[tactic(auto, unfolding(crate::specs::Lines::size_of))]
 fn read_size(text: &[u8]) -> Option<u64>
     ensures { result ≡ size_of text.now }
 {
-    if text.is_empty() {
-        return None;
-    }
-    match hex_digit(text[0]) {
-        Some(_) => digits_and_end(text),
+    match digits_at(text) {
+        Some(digits) => {
+            if digits.len == 0 {
+                None
+            } else if ends_size(&text[digits.len..]) {
+                Some(digits.value)
+            } else {
+                None
+            }
+        }
         None => None,
+    }
+}
+
+/// What comes after a size line of that size.
+fn place_after_size(size: u64) -> Place
+    ensures { result ≡ after_size (Some size) }
+{
+    if size == 0 {
+        Place::Trailers(0)
+    } else {
+        Place::Data(size)
     }
 }
 
@@ -109,10 +132,8 @@ pub fn next_place(place: Place, text: &[u8]) -> Option<Place>
             Some(size) => {
                 if text.len() > SIZE_TEXT {
                     None
-                } else if size == 0 {
-                    Some(Place::Trailers(0))
                 } else {
-                    Some(Place::Data(size))
+                    Some(place_after_size(size))
                 }
             }
             None => None,
@@ -218,12 +239,38 @@ pub struct Line {
     pub next: Place,
 }
 
-/// The whole line that may stand there at the front of the bytes, if there is one.
-pub fn line_at(place: Place, bytes: &[u8]) -> Option<Line>
-    ensures within { IfSome result (λ line. line.text_len + 2 ≤ length bytes.now) }
-    ensures bytes { IfSome result (λ line. take (line.text_len + 2) bytes.now ≡ take line.text_len bytes.now ++ crlf) }
-    ensures stands { IfSome result (λ line. IsTrue (may_stand place (take line.text_len bytes.now))) }
-    ensures next { IfSome result (λ line. line.next ≡ after place (take line.text_len bytes.now)) }
+/// Whether the bytes begin with CRLF.
+pub fn begins_with_line_end(bytes: &[u8]) -> bool
+    ensures { result ≡ true → (2 ≤ length bytes.now) × (take 2 bytes.now ≡ crlf) }
+{
+    bytes.len() >= 2 && bytes[0] == b'\r' && bytes[1] == b'\n'
+}
+
+/// The size line of digits alone at the front of the bytes, if there is one.
+fn plain_size_line(bytes: &[u8]) -> Option<Line>
+    ensures { IfSome result (λ line. IsLineAt Place.Size bytes.now line) }
+{
+    match digits_at(bytes) {
+        Some(digits) => {
+            if digits.len == 0 || digits.len > SIZE_TEXT {
+                return None;
+            }
+            if begins_with_line_end(&bytes[digits.len..]) {
+                Some(Line {
+                    text_len: digits.len,
+                    next: place_after_size(digits.value),
+                })
+            } else {
+                None
+            }
+        }
+        None => None,
+    }
+}
+
+/// The whole line that may stand there at the front of the bytes, if there is one, by the first LF.
+fn line_to_lf(place: Place, bytes: &[u8]) -> Option<Line>
+    ensures { IfSome result (λ line. IsLineAt place bytes.now line) }
 {
     match memchr(b'\n', front(bytes, LINE_LIMIT as u64)) {
         Some(at) => {
@@ -239,5 +286,22 @@ pub fn line_at(place: Place, bytes: &[u8]) -> Option<Line>
             }
         }
         None => None,
+    }
+}
+
+/// The whole line that may stand there at the front of the bytes, if there is one.
+pub fn line_at(place: Place, bytes: &[u8]) -> Option<Line>
+    ensures { IfSome result (λ line. IsLineAt place bytes.now line) }
+{
+    match place {
+        Place::Size => match plain_size_line(bytes) {
+            Some(line) => Some(line),
+            None => line_to_lf(Place::Size, bytes),
+        },
+        Place::Gap => line_to_lf(place, bytes),
+        Place::Trailers(_) => line_to_lf(place, bytes),
+        Place::Data(_) => None,
+        Place::Done => None,
+        Place::Wrong => None,
     }
 }

@@ -1,11 +1,12 @@
 // Passes a chunked body on: how far whole elements reach in a piece, without a copy of their bytes.
 ghost use Rattle.std.specs.Prelude.{◌≡◌, ◌+◌, ◌∷◌, ◌++◌, [], ◌<◌, ◌≤◌, length, take, min, true, false, vec_len, vec_capacity, if◌then◌else◌};
-ghost use Rattle.px_framing.specs.Lines.{IsOpen, crlf};
+ghost use Rattle.px_framing.specs.declared.TheConstants.{LINE_LIMIT};
+ghost use Rattle.px_framing.specs.Lines.{IsOpen};
 ghost use Rattle.px_framing.specs.Reading.{is_last, is_line, IsHeld, Room};
-ghost use Rattle.px_framing.specs.Passing.{Goes, settled};
+ghost use Rattle.px_framing.specs.Passing.{Goes, StepsOn, settled};
 
 use crate::advances::append;
-use crate::lines::{judge, line_at};
+use crate::lines::{begins_with_line_end, judge, line_at};
 use crate::places::{Place, Verdict};
 
 /// A step in a piece: how many bytes it took, whether a whole element ends with them, and what comes next.
@@ -16,21 +17,35 @@ pub struct Gone {
     pub next: Place,
 }
 
+/// Passes the last bytes of data of a chunk, and with them the CRLF behind them where it is there whole.
+fn pass_last_data(len: usize, rest: &[u8]) -> Gone
+    requires some { 0 < len }
+    requires within { len ≤ length rest.now }
+    ensures { StepsOn (Place.Data len) [] rest.now result [] }
+{
+    if begins_with_line_end(&rest[len..]) {
+        Gone {
+            used: len + 2,
+            ends: true,
+            next: Place::Size,
+        }
+    } else {
+        Gone {
+            used: len,
+            ends: true,
+            next: Place::Gap,
+        }
+    }
+}
+
 /// Passes a run of data.
 fn pass_data(left: u64, rest: &[u8]) -> Gone
     requires some { 0 < length rest.now }
     requires left { 0 < left }
-    ensures used { (0 < result.used) × (result.used ≤ length rest.now) }
-    ensures ends { result.ends ≡ true }
-    ensures held { IsHeld result.next [] }
-    ensures goes { Goes (Place.Data left) [] (take result.used rest.now) (take result.used rest.now) result.next [] }
+    ensures { StepsOn (Place.Data left) [] rest.now result [] }
 {
     if left <= rest.len() as u64 {
-        Gone {
-            used: left as usize,
-            ends: true,
-            next: Place::Gap,
-        }
+        pass_last_data(left as usize, rest)
     } else {
         Gone {
             used: rest.len(),
@@ -45,11 +60,7 @@ fn pass_byte(place: Place, kept: &mut Vec<u8>, byte: u8) -> Gone
     requires line { is_line place ≡ true }
     requires held { IsOpen place kept.old.items }
     requires kept { Room kept.old 1 }
-    ensures used { result.used ≡ 1 }
-    ensures held { IsHeld result.next kept.new.items }
-    ensures goes { Goes place kept.old.items (byte ∷ []) (if result.ends then kept.old.items ++ byte ∷ [] else []) result.next kept.new.items }
-    ensures fresh { result.ends ≡ true → kept.new.items ≡ [] }
-    ensures grows { result.ends ≡ false → is_last result.next ≡ false → kept.new.items ≡ kept.old.items ++ byte ∷ [] }
+    ensures step { StepsOn place kept.old.items (byte ∷ []) result kept.new.items }
     ensures kept_room { vec_capacity kept.old ≤ vec_capacity kept.new }
 {
     let len = kept.len();
@@ -85,11 +96,7 @@ fn pass_line(place: Place, kept: &mut Vec<u8>, rest: &[u8]) -> Gone
     requires line { is_line place ≡ true }
     requires held { IsOpen place kept.old.items }
     requires kept { Room kept.old 1 }
-    ensures used { (0 < result.used) × (result.used ≤ length rest.now) }
-    ensures held { IsHeld result.next kept.new.items }
-    ensures goes { Goes place kept.old.items (take result.used rest.now) (if result.ends then kept.old.items ++ take result.used rest.now else []) result.next kept.new.items }
-    ensures fresh { result.ends ≡ true → kept.new.items ≡ [] }
-    ensures grows { result.ends ≡ false → is_last result.next ≡ false → kept.new.items ≡ kept.old.items ++ take result.used rest.now }
+    ensures step { StepsOn place kept.old.items rest.now result kept.new.items }
     ensures kept_room { vec_capacity kept.old ≤ vec_capacity kept.new }
 {
     if kept.is_empty() {
@@ -112,11 +119,7 @@ fn pass_gap(kept: &mut Vec<u8>, rest: &[u8]) -> Gone
     requires some { 0 < length rest.now }
     requires held { IsOpen Place.Gap kept.old.items }
     requires kept { Room kept.old 1 }
-    ensures used { (0 < result.used) × (result.used ≤ length rest.now) }
-    ensures held { IsHeld result.next kept.new.items }
-    ensures goes { Goes Place.Gap kept.old.items (take result.used rest.now) (if result.ends then kept.old.items ++ take result.used rest.now else []) result.next kept.new.items }
-    ensures fresh { result.ends ≡ true → kept.new.items ≡ [] }
-    ensures grows { result.ends ≡ false → is_last result.next ≡ false → kept.new.items ≡ kept.old.items ++ take result.used rest.now }
+    ensures step { StepsOn Place.Gap kept.old.items rest.now result kept.new.items }
     ensures kept_room { vec_capacity kept.old ≤ vec_capacity kept.new }
 {
     if kept.is_empty() && begins_with_line_end(rest) {
@@ -126,17 +129,8 @@ fn pass_gap(kept: &mut Vec<u8>, rest: &[u8]) -> Gone
             next: Place::Size,
         }
     } else {
-        pass_line(Place::Gap, kept, rest)
+        pass_byte(Place::Gap, kept, rest[0])
     }
-}
-
-fn begins_with_line_end(bytes: &[u8]) -> bool
-    ensures { result ≡ true → (2 ≤ length bytes.now) × (take 2 bytes.now ≡ crlf) }
-{
-    if bytes.len() < 2 {
-        return false;
-    }
-    bytes[0] == b'\r' && bytes[1] == b'\n'
 }
 
 /// Passes a run of data, a whole line or a byte of one.
@@ -145,11 +139,7 @@ fn pass_some(place: Place, kept: &mut Vec<u8>, rest: &[u8]) -> Gone
     requires more { is_last place ≡ false }
     requires held { IsHeld place kept.old.items }
     requires kept { Room kept.old 1 }
-    ensures used { (0 < result.used) × (result.used ≤ length rest.now) }
-    ensures held { IsHeld result.next kept.new.items }
-    ensures goes { Goes place kept.old.items (take result.used rest.now) (if result.ends then kept.old.items ++ take result.used rest.now else []) result.next kept.new.items }
-    ensures fresh { result.ends ≡ true → kept.new.items ≡ [] }
-    ensures grows { result.ends ≡ false → is_last result.next ≡ false → kept.new.items ≡ kept.old.items ++ take result.used rest.now }
+    ensures step { StepsOn place kept.old.items rest.now result kept.new.items }
     ensures kept_room { vec_capacity kept.old ≤ vec_capacity kept.new }
 {
     match place {
@@ -181,12 +171,12 @@ pub struct Reach {
 pub fn pass_piece(start: Place, kept: &mut Vec<u8>, piece: &[u8]) -> Reach
     requires more { is_last start ≡ false }
     requires held { IsHeld start kept.old.items }
-    requires kept { min 8192 (length kept.old.items + length piece.now) ≤ vec_capacity kept.old }
+    requires kept { min LINE_LIMIT (length kept.old.items + length piece.now) ≤ vec_capacity kept.old }
     ensures whole { result.whole ≤ result.used }
     ensures used { result.used ≤ length piece.now }
     ensures all { is_last result.next ≡ false → result.used ≡ length piece.now }
     ensures held { IsHeld result.next kept.new.items }
-    ensures short { length kept.new.items ≤ 8192 }
+    ensures short { length kept.new.items ≤ LINE_LIMIT }
     ensures goes { Goes start kept.old.items (take result.used piece.now) (settled kept.old.items piece.now result.whole) result.next kept.new.items }
 {
     let mut place = start;

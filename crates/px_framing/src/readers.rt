@@ -1,5 +1,6 @@
 // Reads a body that comes in pieces.
 ghost use Rattle.std.specs.Prelude.{◌≡◌, ◌≢◌, ◌+◌, ◌++◌, [], ◌<◌, ◌≤◌, length, take, List, ℕ, OnErr, IfOk};
+ghost use Rattle.px_framing.specs.declared.TheConstants.{LINE_LIMIT};
 ghost use Rattle.px_framing.specs.Reading.{IsSettledAt, Uses, end_state as end_state_spec, stage_state};
 ghost use Rattle.px_framing.specs.Passing.{IsDataOf, Passes, settled};
 
@@ -218,7 +219,7 @@ fn advance(
     plain: &mut Vec<u8>,
 ) -> Result<Far, Mem>
     requires settled { IsSettledAt stage kept.old.items }
-    requires short { length kept.old.items ≤ 8192 }
+    requires short { length kept.old.items ≤ LINE_LIMIT }
     ensures passes { IfOk result (λ far. Passes stage kept.old.items piece.now far kept.new.items) }
     ensures raw { IfOk result (λ far. raw.new.items ≡ raw.old.items ++ settled kept.old.items piece.now far.whole) }
     ensures plain { IfOk result (λ far. (data_bytes : List ℕ) → IsDataOf stage (settled kept.old.items piece.now far.whole) data_bytes → plain.new.items ≡ plain.old.items ++ data_bytes) }
@@ -238,7 +239,7 @@ fn advance(
 /// Takes a piece, its data into `plain`.
 fn extract(stage: Stage, kept: &mut Vec<u8>, piece: &[u8], plain: &mut Vec<u8>) -> Result<Far, Mem>
     requires settled { IsSettledAt stage kept.old.items }
-    requires short { length kept.old.items ≤ 8192 }
+    requires short { length kept.old.items ≤ LINE_LIMIT }
     ensures passes { IfOk result (λ far. Passes stage kept.old.items piece.now far kept.new.items) }
     ensures plain { IfOk result (λ far. (data_bytes : List ℕ) → IsDataOf stage (settled kept.old.items piece.now far.whole) data_bytes → plain.new.items ≡ plain.old.items ++ data_bytes) }
     ensures err { OnErr result ((kept.new.items ≡ kept.old.items) × (plain.new.items ≡ plain.old.items)) }

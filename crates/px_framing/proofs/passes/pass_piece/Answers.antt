@@ -10,21 +10,21 @@ pub returns-then-is_last_place-clause-goes : goal.returns-then-is_last_place-cla
 returns-then-is_last_place-clause-goes c =
     let gone = c.pass_some-gone in
     subst (λ (n : ℕ). Goes c.args.start c.args.kept.now.items (take (c.loop-at.at + gone.result.used) c.args.piece.now) (settled c.args.kept.now.items c.args.piece.now n) gone.result.next gone.new.kept.items) (sym c.farther-whole.ensures)
-    (goes-step _ _ _ _ _ _ c.args.piece.now c.loop-at.at gone.result.used c.loop-at.whole gone.result.ends gone.ensures.used.0 c.loop-at.invariant.goes c.loop-at.invariant.all (rw take_rest at gone.ensures.goes))
+    (goes-step _ _ _ _ _ _ c.args.piece.now c.loop-at.at gone.result.used c.loop-at.whole gone.result.ends gone.ensures.step.used.0 c.loop-at.invariant.goes c.loop-at.invariant.all (rw take_rest at gone.ensures.step.goes))
 
 pub loop-at-preserved : goal.loop-at-preserved
 loop-at-preserved c =
     let gone = c.pass_some-gone in
     let going : is_last gone.result.next ≡ false = search rules in
     record {
-      within = omega arith;
+      within = omega (arith, gone.ensures.step.used.1);
       more = going;
-      held = gone.ensures.held;
+      held = gone.ensures.step.held;
       whole = grind arith;
       goes = subst (λ (n : ℕ). Goes c.args.start c.args.kept.now.items (take (c.loop-at.at + gone.result.used) c.args.piece.now) (settled c.args.kept.now.items c.args.piece.now n) gone.result.next gone.new.kept.items) (sym c.farther-whole.ensures)
-          (goes-step _ _ _ _ _ _ c.args.piece.now c.loop-at.at gone.result.used c.loop-at.whole gone.result.ends gone.ensures.used.0 c.loop-at.invariant.goes c.loop-at.invariant.all (rw take_rest at gone.ensures.goes));
+          (goes-step _ _ _ _ _ _ c.args.piece.now c.loop-at.at gone.result.used c.loop-at.whole gone.result.ends gone.ensures.step.used.0 c.loop-at.invariant.goes c.loop-at.invariant.all (rw take_rest at gone.ensures.step.goes));
       all = subst (λ (n : ℕ). settled c.args.kept.now.items c.args.piece.now n ++ gone.new.kept.items ≡ c.args.kept.now.items ++ take (c.loop-at.at + gone.result.used) c.args.piece.now) (sym c.farther-whole.ensures)
-          (all-step c.args.kept.now.items c.loop-at.kept.items gone.new.kept.items c.args.piece.now c.loop-at.at gone.result.used c.loop-at.whole gone.result.ends gone.ensures.used.0 c.loop-at.invariant.all gone.ensures.fresh (λ e. rw take_rest at gone.ensures.grows e going));
+          (all-step c.args.kept.now.items c.loop-at.kept.items gone.new.kept.items c.args.piece.now c.loop-at.at gone.result.used c.loop-at.whole gone.result.ends gone.ensures.step.used.0 c.loop-at.invariant.all gone.ensures.step.fresh (λ e. rw take_rest at gone.ensures.step.grows e going));
       kept = omega arith;
     }
 
