@@ -1,14 +1,14 @@
 -- Looking for a filter by kind and name, and the places of filters.
-use Rattle.std.proofs.Common.{◌≡◌, ℕ, suc, ◌+◌, ◌<◌, Bool, true, false, cond, List, [], ◌∷◌, ◌++◌, take, drop, length, get_or, find, Option, Some, None, IfSome, option_map, refl, sym, ap, ◌∙◌, arith, length-take}
+use Rattle.std.proofs.Common.{◌≡◌, ℕ, suc, ◌+◌, ◌<◌, Bool, true, false, cond, List, [], ◌∷◌, ◌++◌, take, drop, length, get_or, find, Option, Some, None, IfSome, option_map, unwrap_or, refl, sym, ap, ◌∙◌, arith, length-take}
 use Rattle.std.specs.List.{slice_get}
-use Rattle.std.specs.Option.{option_and_then}
+use Rattle.std.specs.Option.{option_and_then, option_map_or}
 use Rattle.std.proofs.lemmas.List.{take_more}
 use Rattle.std.proofs.lemmas.Option.{slice_get-get_or}
 use Rattle.px_filter_files.specs.declared.files.FilterFile.{FilterFile}
 use Rattle.px_filter_files.specs.declared.files.NamedFilter.{NamedFilter}
-use Rattle.px_filter_files.specs.FilterFiles.{FiltersOfFiles, filters_of_all, found, has_key}
+use Rattle.px_filter_files.specs.FilterFiles.{FiltersOfFiles, filters_of_all, found, has_key, jobs_of}
 use Rattle.px_filter_files.specs.Headings.{Key}
-use Rattle.px_filter_files.specs.Places.{first_place, or_here}
+use Rattle.px_filter_files.specs.Places.{first_place, jobs_at, jobs_at_place, or_here}
 
 module _ {X : Type 0} (p : X → Bool) where
   further : (o : Option ℕ) (here : Bool) (n : ℕ) → option_map (λ k. k + 1) (or_here o here n) ≡ or_here (option_map (λ k. k + 1) o) here (n + 1)
@@ -73,6 +73,22 @@ module _ (all : FiltersOfFiles) (key : Key) where
   pub found_none : None ≡ first_place (has_key key) all.filters → found all key ≡ None
   found_none place =
       found_by_place ∙ ap (λ o. option_map (λ (f : NamedFilter). f.filter) (option_and_then (slice_get all.filters) o)) (sym place)
+
+  -- the jobs at the place of the first filter are its jobs
+  pub jobs_by_place : jobs_at_place all (first_place (has_key key) all.filters) ≡ jobs_of all key
+  jobs_by_place = moved_in (first_place (has_key key) all.filters) ∙ ap (λ o. unwrap_or o []) (sym found_by_place)
+    where
+      by_filter : (o : Option NamedFilter) → option_map_or (λ (f : NamedFilter). f.filter) o [] ≡ unwrap_or (option_map (λ (f : NamedFilter). f.filter) o) []
+      by_filter None = refl
+      by_filter (Some f) = refl
+
+      moved_in : (o : Option ℕ) → jobs_at_place all o ≡ unwrap_or (option_map (λ (f : NamedFilter). f.filter) (option_and_then (slice_get all.filters) o)) []
+      moved_in None = refl
+      moved_in (Some at) = by_filter (slice_get all.filters at)
+
+-- the jobs of the filter that stands at a place
+pub jobs_there : (all : FiltersOfFiles) (at : ℕ) (d : NamedFilter) → at < length all.filters → (get_or all.filters at d).filter ≡ jobs_at all at
+jobs_there all at d inside = sym (ap (λ o. option_map_or (λ (f : NamedFilter). f.filter) o []) (slice_get-get_or all.filters at d inside))
 
 -- ---- the filters of files
 

@@ -3,13 +3,14 @@ use Rattle.std.specs.Prelude.{◌≡◌, ◌+◌, ℕ, Bool, List, [], ◌∷◌
 use Rattle.std.specs.BTreeMap.{BTreeMap, get_by}
 use Rattle.std.specs.Cmp.Lexicographic.{slice_cmp}
 use Rattle.std.specs.List.{slice_get}
+use Rattle.std.specs.Option.{option_map_or}
 use Rattle.std.specs.Ordering.{nat_cmp}
 use Rattle.px_subst.specs.Jobs.{JobParts}
 use Rattle.px_filter_files.specs.declared.files.NamedFilter.{NamedFilter}
 use Rattle.px_filter_files.specs.declared.kinds.FilterKind.{FilterKind}
 use Rattle.px_filter_files.specs.declared.kinds.FilterKind.TheVariants.{Content, ClientHeader, ServerHeader, ClientTagger, ServerTagger}
 use Rattle.px_filter_files.specs.declared.places.Places.{Places}
-use Rattle.px_filter_files.specs.FilterFiles.{has_key}
+use Rattle.px_filter_files.specs.FilterFiles.{FiltersOfFiles, has_key}
 
 -- the place of the first item with a property
 abbrev pub first_place : {X : Type 0} → (X → Bool) → List X → Option ℕ
@@ -19,6 +20,14 @@ first_place p (x ∷ xs) = if p x then Some 0 else option_map (λ n. n + 1) (fir
 -- the place that a map from names has for a name
 abbrev pub place_in : {Y : Type 0} → BTreeMap (Vec ℕ Y) ℕ → List ℕ → Option ℕ
 place_in map name = get_by (λ k. slice_cmp nat_cmp name k.items) map
+
+-- the jobs of the filter at a place
+abbrev pub jobs_at : FiltersOfFiles → ℕ → List JobParts
+jobs_at all at = option_map_or (λ (f : NamedFilter). f.filter) (slice_get all.filters at) []
+
+-- the same, where there may be no place: then there are no jobs
+abbrev pub jobs_at_place : FiltersOfFiles → Option ℕ → List JobParts
+jobs_at_place all place = option_map_or (jobs_at all) place []
 
 -- a place, or this one where there is none and the item has the property
 abbrev pub or_here : Option ℕ → Bool → ℕ → Option ℕ

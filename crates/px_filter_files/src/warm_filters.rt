@@ -1,8 +1,8 @@
 // The filters of all files, with what each keeps from run to run.
 ghost use Rattle.std.specs.Prelude.{◌≡◌, ◌<◌, length, unwrap_or, IfOk, IfSome};
 ghost use Rattle.px_subst.specs.Jobs.{run_filter, unchanged};
-ghost use Rattle.px_filter_files.specs.FilterFiles.{jobs_of};
-ghost use Rattle.px_filter_files.specs.Places.{AreKeptOf};
+ghost use Rattle.px_filter_files.specs.FilterFiles.{has_key, jobs_of};
+ghost use Rattle.px_filter_files.specs.Places.{AreKeptOf, first_place, jobs_at, jobs_at_place};
 
 use crate::files::NamedFilter;
 use crate::filters::Filters;
@@ -75,6 +75,36 @@ impl<'f> WarmFilters<'f> {
         Ok(WarmFilters { filters, kept })
     }
 
+    /// The place of the first filter of this kind and name, which is the same as long as these filters are lent: it may be
+    /// kept and given to `try_run_at` again and again. It takes no memory, and looks at few filters.
+    pub fn place(&self, kind: FilterKind, name: &[u8]) -> Option<usize>
+        ensures place { result ≡ first_place (has_key (record { kind = kind; name = name.now })) self.now.filters }
+        ensures within { IfSome result (λ at. at < length self.now.filters) }
+        ensures jobs { jobs_at_place self.now result ≡ jobs_of self.now (record { kind = kind; name = name.now }) }
+    {
+        self.filters.place(kind, name)
+    }
+
+    /// What the filter at a place of these filters makes of a text, or None where it hits nothing. After want of memory it
+    /// may be run again.
+    pub fn try_run_at(
+        &mut self,
+        alloc: Global,
+        at: usize,
+        text: &[u8],
+        vars: &Vars,
+    ) -> Result<Option<Outcome>, Mem>
+        requires { at < length self.old.filters }
+        ensures value { IfOk result (λ found. unwrap_or found (unchanged text.now)
+            ≡ run_filter (jobs_at self.old at) vars.now text.now) }
+        ensures hit { IfOk result (λ found. IfSome found (λ outcome. 0 < outcome.hits)) }
+        ensures same { self.new ≡ self.old }
+    {
+        let filters = self.filters;
+        let filter = &filters.as_slice()[at].filter;
+        run_kept(alloc, filter, &mut self.kept[at], text, vars)
+    }
+
     /// What the first filter of this kind and name makes of a text, or None where it hits nothing. Where there is no such
     /// filter nothing is hit. After want of memory it may be run again.
     pub fn try_run(
@@ -90,15 +120,8 @@ impl<'f> WarmFilters<'f> {
         ensures hit { IfOk result (λ found. IfSome found (λ outcome. 0 < outcome.hits)) }
         ensures same { self.new ≡ self.old }
     {
-        let filters = self.filters;
-        match filters.place(kind, name) {
-            Some(at) => run_kept(
-                alloc,
-                &filters.as_slice()[at].filter,
-                &mut self.kept[at],
-                text,
-                vars,
-            ),
+        match self.place(kind, name) {
+            Some(at) => self.try_run_at(alloc, at, text, vars),
             None => Ok(None),
         }
     }

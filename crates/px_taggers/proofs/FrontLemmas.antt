@@ -4,7 +4,7 @@ use Rattle.std.specs.Prelude.{OnErr, fold}
 use mathlib.Core.Logic.{⊎_elim}
 use Rattle.px_actions.specs.Sets.{IsUpdatedByFront, is_among}
 use Rattle.px_merge.specs.Merging.{tagged, updates_in}
-use Rattle.px_taggers.specs.Fronts.{IsFront, IsWithinLine, IsWithinLines, IsWithinTag, IsWithinTagger, IsWithinTaggers}
+use Rattle.px_taggers.specs.Fronts.{IsFront, IsWithinLine, IsWithinLines, IsWithinTag, IsWithinTagger}
 use Rattle.px_taggers.specs.Tagging.{Rules, Tagged, after_line, after_tag, after_tagger, in_force, put, state, tag_of}
 
 -- ---- item by item
@@ -34,11 +34,11 @@ front_begins : {X : Type 0} (part : Tagged → X → Tagged → Type 0) (step : 
 front_begins part step begins s [] = refl
 front_begins part step begins s (x ∷ xs) = inl (begins s x)
 
-tag_begins : (rules : Rules) (s : Tagged) (tag : Option (List ℕ)) → IsWithinTag rules s tag s
+pub tag_begins : (rules : Rules) (s : Tagged) (tag : Option (List ℕ)) → IsWithinTag rules s tag s
 tag_begins rules s None = refl
 tag_begins rules s (Some tag) = inl refl
 
-pub tagger_begins : (rules : Rules) (line : List ℕ) (s : Tagged) (name : List ℕ) → IsWithinTagger rules line s name s
+tagger_begins : (rules : Rules) (line : List ℕ) (s : Tagged) (name : List ℕ) → IsWithinTagger rules line s name s
 tagger_begins rules line s name = tag_begins rules s (tag_of rules line name)
 
 line_begins : (rules : Rules) (s : Tagged) (line : List ℕ) → IsWithinLine rules s line s

@@ -1,5 +1,5 @@
 -- Set and tags where tagging stopped for want of memory: those of a front of the work.
-use Rattle.std.specs.Prelude.{◌≡◌, ◌⊎◌, ℕ, Bool, true, false, List, [], ◌∷◌, ◌++◌, Option, None, Some}
+use Rattle.std.specs.Prelude.{◌≡◌, ◌⊎◌, ℕ, false, List, [], ◌∷◌, ◌++◌, Option, None, Some}
 use Rattle.px_actions.specs.Sets.{IsUpdatedByFront, is_among}
 use Rattle.px_merge.specs.Merging.{absent, tagged, updates_in}
 use Rattle.px_taggers.specs.Tagging.{Rules, Tagged, after_line, after_lines, after_tagger, in_force, tag_of}

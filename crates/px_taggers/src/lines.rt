@@ -1,9 +1,10 @@
 // Header lines of which tags are made.
 ghost use Rattle.std.specs.Prelude.{◌≡◌, [], IfOk, List, OnErr, OnOk, false, ℕ};
 ghost use Rattle.px_taggers.specs.Fronts.{IsWithinLines, IsWithinTagging};
-ghost use Rattle.px_taggers.specs.Tagging.{TagsLike, after_lines, in_force, rules, state, tag_headers};
+ghost use Rattle.px_taggers.specs.Places.{AreInForce};
+ghost use Rattle.px_taggers.specs.Tagging.{TagsLike, after_lines, rules, state, tag_headers};
 
-use crate::taggers::{action_of, run_taggers};
+use crate::taggers::{action_of, filters_of, run_taggers};
 use crate::turns::Turn;
 use px_actions::ActionSet;
 use px_base::{List, Mem, Text};
@@ -12,37 +13,42 @@ use px_merge::{Sections, Side, Warm};
 use px_subst::Vars;
 use std::alloc::Global;
 
-/// The names of the taggers in force.
-fn names_in_force(alloc: Global, set: &ActionSet, side: Side) -> Result<Vec<Text>, Mem>
-    ensures { IfOk result (λ names. names.items ≡ in_force side set.now) }
+/// The places of the taggers in force among the filters. A name that no filter has gives none.
+fn places_in_force(
+    alloc: Global,
+    filters: &WarmFilters<'_>,
+    set: &ActionSet,
+    side: Side,
+) -> Result<Vec<Option<usize>>, Mem>
+    ensures { IfOk result (λ places. AreInForce filters.now side set.now places.items) }
 {
-    let mut names = Vec::new(alloc);
+    let mut places = Vec::new(alloc);
     'names: for name in set.values(action_of(side)) {
-        names.push(Text::from_bytes(alloc, name.as_bytes())?)?;
+        places.push(filters.place(filters_of(side), name.as_bytes()))?;
     }
-    Ok(names)
+    Ok(places)
 }
 
-/// The names of the taggers in force, by those before a turn in which a tag was new or none was.
-fn names_behind(
+/// The places of the taggers in force, by those before a turn in which a tag was new or none was.
+fn places_behind(
     alloc: Global,
-    names: Vec<Text>,
+    filters: &WarmFilters<'_>,
+    places: Vec<Option<usize>>,
     is_new: bool,
     set: &ActionSet,
     side: Side,
-) -> Result<Vec<Text>, Mem>
-    requires { is_new ≡ false → names.items ≡ in_force side set.now }
-    ensures { IfOk result (λ names. names.items ≡ in_force side set.now) }
+) -> Result<Vec<Option<usize>>, Mem>
+    requires { is_new ≡ false → AreInForce filters.now side set.now places.items }
+    ensures { IfOk result (λ places. AreInForce filters.now side set.now places.items) }
 {
     if is_new {
-        names_in_force(alloc, set, side)
+        places_in_force(alloc, filters, set, side)
     } else {
-        Ok(names)
+        Ok(places)
     }
 }
 
 /// Runs on each line the taggers in force when its turn begins.
-#[tactic(auto, unfolding(crate::specs::Tagging::after_line))]
 fn tag_lines(
     alloc: Global,
     sections: &mut Warm<'_>,
@@ -58,7 +64,7 @@ fn tag_lines(
     ensures sections { sections.new ≡ sections.old }
     ensures filters { filters.new ≡ filters.old }
 {
-    let mut names = names_in_force(alloc, set, side)?;
+    let mut places = places_in_force(alloc, filters, set, side)?;
     let mut rest = lines;
     'lines: while let Some((line, others)) = rest.split_first() {
         let turn = Turn {
@@ -66,8 +72,16 @@ fn tag_lines(
             side,
             vars,
         };
-        let is_new = run_taggers(alloc, sections, filters, set, tags, names.as_slice(), &turn)?;
-        names = names_behind(alloc, names, is_new, set, side)?;
+        let is_new = run_taggers(
+            alloc,
+            sections,
+            filters,
+            set,
+            tags,
+            places.as_slice(),
+            &turn,
+        )?;
+        places = places_behind(alloc, filters, places, is_new, set, side)?;
         rest = others;
     }
     Ok(())

@@ -1,9 +1,10 @@
 // Taggers that run on a line.
-ghost use Rattle.std.specs.Prelude.{◌≡◌, ◌<◌, List, IfOk, IfSome, OnErr, false, fold, unwrap_or};
-ghost use Rattle.px_merge.specs.declared.places.Placed.{Placed};
+ghost use Rattle.std.specs.Prelude.{◌≡◌, ◌<◌, IfOk, IfSome, OnErr, false, unwrap_or};
+ghost use Rattle.px_filter_files.specs.Places.{jobs_at_place};
 ghost use Rattle.px_subst.specs.Jobs.{unchanged};
-ghost use Rattle.px_taggers.specs.Fronts.{IsWithinTagger, IsWithinTaggers};
-ghost use Rattle.px_taggers.specs.Tagging.{action_of, after_tagger, filters_of, rules, state, tag_in, tag_of};
+ghost use Rattle.px_taggers.specs.Fronts.{IsWithinLine};
+ghost use Rattle.px_taggers.specs.Places.{AreInForce, IsPlaceOf, IsWithinPlace, after_place, tag_by};
+ghost use Rattle.px_taggers.specs.Tagging.{action_of, after_line, filters_of, rules, state, tag_in};
 
 use crate::tags::{is_among, put};
 use crate::turns::Turn;
@@ -25,7 +26,7 @@ pub fn action_of(side: Side) -> Kind
 }
 
 /// The filters that are taggers of a side.
-fn filters_of(side: Side) -> FilterKind
+pub fn filters_of(side: Side) -> FilterKind
     ensures { result ≡ filters_of side }
 {
     match side {
@@ -46,39 +47,44 @@ fn tag_in(found: Option<Outcome>, line: &[u8]) -> Option<Text>
     Some(outcome.text)
 }
 
-/// The tag that the tagger of a name makes of a line.
-#[tactic(auto, unfolding(crate::specs::Tagging::tag_of))]
+/// The tag that the tagger at a place makes of a line. Where there is no place there is no tag.
+#[tactic(auto, unfolding(crate::specs::Places::tag_by))]
 fn make_tag(
     alloc: Global,
     filters: &mut WarmFilters<'_>,
-    name: &[u8],
+    place: Option<usize>,
     turn: &Turn<'_>,
 ) -> Result<Option<Text>, Mem>
-    ensures value { (sections : List Placed) → IfOk result (λ tag. tag ≡ tag_of (rules sections filters.old turn.now.side turn.now.vars.now) turn.now.line.now name.now) }
+    requires { IsPlaceOf filters.old place }
+    ensures value { IfOk result (λ tag. tag ≡ tag_by (jobs_at_place filters.old place) turn.now.vars.now turn.now.line.now) }
     ensures same { filters.new ≡ filters.old }
 {
-    let found = filters.try_run(alloc, filters_of(turn.side), name, turn.line, turn.vars)?;
+    let Some(at) = place else {
+        return Ok(None);
+    };
+    let found = filters.try_run_at(alloc, at, turn.line, turn.vars)?;
     Ok(tag_in(found, turn.line))
 }
 
-/// Runs the tagger of a name on a line. Whether its tag is new.
-#[tactic(auto, using(crate::proofs::FrontLemmas::made_none, crate::proofs::FrontLemmas::made_old, crate::proofs::FrontLemmas::made_new, crate::proofs::FrontLemmas::put_stopped, crate::proofs::FrontLemmas::tagger_begins))]
+/// Runs the tagger at a place on a line. Whether its tag is new.
+#[tactic(auto, using(crate::proofs::FrontLemmas::made_none, crate::proofs::FrontLemmas::made_old, crate::proofs::FrontLemmas::made_new, crate::proofs::FrontLemmas::put_stopped, crate::proofs::FrontLemmas::tag_begins))]
 fn run_tagger(
     alloc: Global,
     sections: &mut Warm<'_>,
     filters: &mut WarmFilters<'_>,
     set: &mut ActionSet,
     tags: &mut List<Text>,
-    name: &[u8],
+    place: Option<usize>,
     turn: &Turn<'_>,
 ) -> Result<bool, Mem>
-    ensures done { IfOk result (λ _. state set.new tags.new ≡ after_tagger (rules sections.old.sections filters.old turn.now.side turn.now.vars.now) turn.now.line.now (state set.old tags.old) name.now) }
+    requires { IsPlaceOf filters.old place }
+    ensures done { IfOk result (λ _. state set.new tags.new ≡ after_place (rules sections.old.sections filters.old turn.now.side turn.now.vars.now) turn.now.line.now (state set.old tags.old) place) }
     ensures still { IfOk result (λ is_new. is_new ≡ false → set.new ≡ set.old) }
-    ensures err { OnErr result (IsWithinTagger (rules sections.old.sections filters.old turn.now.side turn.now.vars.now) turn.now.line.now (state set.old tags.old) name.now (state set.new tags.new)) }
+    ensures err { OnErr result (IsWithinPlace (rules sections.old.sections filters.old turn.now.side turn.now.vars.now) turn.now.line.now (state set.old tags.old) place (state set.new tags.new)) }
     ensures sections { sections.new ≡ sections.old }
     ensures filters { filters.new ≡ filters.old }
 {
-    let Some(tag) = make_tag(alloc, filters, name, turn)? else {
+    let Some(tag) = make_tag(alloc, filters, place, turn)? else {
         return Ok(false);
     };
     if is_among(tag.as_bytes(), tags.as_slice()) {
@@ -88,26 +94,27 @@ fn run_tagger(
     Ok(true)
 }
 
-/// Runs the taggers of some names on a line. Whether one of their tags is new.
+/// Runs the taggers in force, which stand at these places, on a line. Whether one of their tags is new.
 pub fn run_taggers(
     alloc: Global,
     sections: &mut Warm<'_>,
     filters: &mut WarmFilters<'_>,
     set: &mut ActionSet,
     tags: &mut List<Text>,
-    names: &[Text],
+    places: &[Option<usize>],
     turn: &Turn<'_>,
 ) -> Result<bool, Mem>
-    ensures done { IfOk result (λ _. state set.new tags.new ≡ fold (after_tagger (rules sections.old.sections filters.old turn.now.side turn.now.vars.now) turn.now.line.now) (state set.old tags.old) names.now) }
+    requires { AreInForce filters.old turn.now.side set.old places.now }
+    ensures done { IfOk result (λ _. state set.new tags.new ≡ after_line (rules sections.old.sections filters.old turn.now.side turn.now.vars.now) (state set.old tags.old) turn.now.line.now) }
     ensures still { IfOk result (λ is_new. is_new ≡ false → set.new ≡ set.old) }
-    ensures err { OnErr result (IsWithinTaggers (rules sections.old.sections filters.old turn.now.side turn.now.vars.now) turn.now.line.now (state set.old tags.old) names.now (state set.new tags.new)) }
+    ensures err { OnErr result (IsWithinLine (rules sections.old.sections filters.old turn.now.side turn.now.vars.now) (state set.old tags.old) turn.now.line.now (state set.new tags.new)) }
     ensures sections { sections.new ≡ sections.old }
     ensures filters { filters.new ≡ filters.old }
 {
     let mut has_new = false;
-    let mut rest = names;
-    'names: while let Some((name, others)) = rest.split_first() {
-        let is_new = run_tagger(alloc, sections, filters, set, tags, name.as_bytes(), turn)?;
+    let mut rest = places;
+    'places: while let Some((place, others)) = rest.split_first() {
+        let is_new = run_tagger(alloc, sections, filters, set, tags, *place, turn)?;
         has_new = has_new || is_new;
         rest = others;
     }

@@ -1,8 +1,7 @@
-use Rattle.std.proofs.Common.{◌≡◌, ◌∙◌, [], ap, length, sym, arith}
+use Rattle.std.proofs.Common.{◌≡◌, ◌∙◌, ap, length, sym, arith}
 use Rattle.std.proofs.lemmas.List.{nil_from_length}
 use Rattle.std.proofs.lemmas.Grind.{common_steps}
 use Rattle.px_actions.specs.Sets.{values}
-use Rattle.px_taggers.specs.Tagging.{in_force}
 use Rattle.px_taggers.proofs.StillLemmas.{needs_no_line}
 use Rattle.px_taggers.proofs.lines.has_taggers.Goals as goal
 

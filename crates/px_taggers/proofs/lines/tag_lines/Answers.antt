@@ -1,20 +1,18 @@
 use Rattle.std.proofs.Common.{◌≡◌, ◌∷◌, ap, ◌∙◌, arith}
-use Rattle.std.specs.Prelude.{fold}
 use Rattle.std.proofs.lemmas.Grind.{common_steps}
 use Rattle.px_merge.specs.Merged.{Merged}
 use Rattle.px_taggers.specs.Fronts.{IsWithinLine}
-use Rattle.px_taggers.specs.Tagging.{after_line, after_tagger, rules, state}
+use Rattle.px_taggers.specs.Tagging.{after_line, rules, state}
 use Rattle.px_taggers.proofs.FrontLemmas.{lines_begin, lines_pause, on_err_given, runs_more}
 use Rattle.px_taggers.proofs.lines.tag_lines.Goals as goal
 
-pub returns-in_err-names-clause-err : goal.returns-in_err-names-clause-err
-returns-in_err-names-clause-err c =
+pub returns-in_err-places-clause-err : goal.returns-in_err-places-clause-err
+returns-in_err-places-clause-err c =
     on_err_given c.from_residual.result
     (lines_begin (rules c.args.sections.now.sections c.args.filters.now c.args.side c.args.vars.now) (state c.args.set.now c.args.tags.now) c.args.lines.now)
 
-pub returns-in_err-names-2-clause-err : goal.returns-in_err-names-2-clause-err
-unfolding after_line
-returns-in_err-names-2-clause-err c =
+pub returns-in_err-places-2-clause-err : goal.returns-in_err-places-2-clause-err
+returns-in_err-places-2-clause-err c =
     let side = c.args.side in
     let vars = c.args.vars.now in
     let sections = c.args.sections.now.sections in
@@ -22,15 +20,13 @@ returns-in_err-names-2-clause-err c =
     let start = state c.args.set.now c.args.tags.now in
     let before = state c.lines.set c.lines.tags in
     let behind = state c.run_taggers.new.set c.run_taggers.new.tags in
-    let names = c.as_slice.result.now in
     let line = c.as_bytes.result.now in
     let cut : c.lines.rest.now ≡ c.in-Some.line.now ∷ c.in-Some.others.now = grind (arith, common_steps) in
     let is : behind ≡ after_line all before c.in-Some.line.now =
     c.in_ok-is_new.ensures.done
-    ∙ ap (λ (m : Merged). fold (after_tagger (rules m.sections c.lines.filters side vars) line) before names) c.lines.invariant.sections
-    ∙ ap (λ filters. fold (after_tagger (rules sections filters side vars) line) before names) c.lines.invariant.filters
-    ∙ ap (λ l. fold (after_tagger all l) before names) c.as_bytes.ensures
-    ∙ ap (λ ns. fold (after_tagger all c.in-Some.line.now) before ns) (c.as_slice.ensures.value ∙ c.lines.invariant.names) in
-    on_err_given c.from_residual-in_err-names-2.result
+    ∙ ap (λ (m : Merged). after_line (rules m.sections c.lines.filters side vars) before line) c.lines.invariant.sections
+    ∙ ap (λ filters. after_line (rules sections filters side vars) before line) c.lines.invariant.filters
+    ∙ ap (after_line all before) c.as_bytes.ensures in
+    on_err_given c.from_residual-in_err-places-2.result
     (lines_pause all start c.args.lines.now behind c.in-Some.others.now
     (runs_more (IsWithinLine all) (after_line all) start c.args.lines.now before behind c.lines.rest.now c.in-Some.others.now c.in-Some.line.now cut is c.lines.invariant.runs))

@@ -1,6 +1,7 @@
 use Rattle.std.proofs.Common.{◌≡◌, length}
 use Rattle.px_taggers.specs.Fronts.{IsWithinLine}
-use Rattle.px_taggers.specs.Tagging.{after_line, in_force, rules, state}
+use Rattle.px_taggers.specs.Places.{AreInForce}
+use Rattle.px_taggers.specs.Tagging.{after_line, rules, state}
 use Rattle.px_taggers.proofs.FrontLemmas.{RunsOn}
 use Rattle.px_taggers.proofs.lines.tag_lines.Given as goal
 
@@ -10,7 +11,7 @@ invariant-lines l =
     record {
       sections : l.sections ≡ l.initial.sections;
       filters : l.filters ≡ l.initial.filters;
-      names : l.names.items ≡ in_force l.side l.set;
+      places : AreInForce l.filters l.side l.set l.places.items;
       runs : RunsOn (IsWithinLine all) (after_line all) (state l.initial.set l.initial.tags) l.lines (state l.set l.tags) l.rest;
     }
 
