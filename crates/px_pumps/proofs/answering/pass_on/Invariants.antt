@@ -1,9 +1,0 @@
-use Rattle.px_pumps.specs.Pumps.{pieces_left}
-use Rattle.px_pumps.specs.Hearing.{Flowing}
-use Rattle.px_pumps.proofs.answering.pass_on.Given as goal
-
-abbrev pub invariant-pieces : goal.invariant-pieces
-invariant-pieces g l = Flowing l.initial.pump (g.I.Source.state l.initial.link_in) (g.I.Source.state l.link_in) (g.O.Sink.state l.initial.client_out) (g.O.Sink.state l.client_out) l.initial.warm l.warm l.pump
-
-abbrev pub decreases-pieces : goal.decreases-pieces
-decreases-pieces g l = pieces_left l.pump.stage
