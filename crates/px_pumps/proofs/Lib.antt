@@ -2,4 +2,5 @@ mod HeadLemmas
 mod AskingLemmas
 mod PassageLemmas
 mod PumpLemmas
+mod HeardLemmas
 mod HearingLemmas

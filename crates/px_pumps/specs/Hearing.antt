@@ -13,7 +13,7 @@ use Rattle.px_pumps.specs.declared.talks.Talked.{Talked}
 use Rattle.px_pumps.specs.declared.talks.Talked.TheVariants as talked
 use Rattle.px_pumps.specs.Answering.{Ask, Answered}
 use Rattle.px_pumps.specs.Pumps.{Pumping, PumpAfter, Pumped, SoFar, keeps_at}
-use Rattle.px_pumps.specs.Returning.{TalkGives, broken}
+use Rattle.px_pumps.specs.Returning.{TalkCause, TalkGives, IsHeard, broken}
 
 -- what came of a talk by which that answer is returned
 abbrev pub AnswerGives : Ask → List ℕ → Bool → List ℕ → List ℕ → Talked → Type 0
@@ -87,3 +87,24 @@ pub record Flowing (first : Pumping) (i i' : SourceState) (o o' : SinkState) (w 
   pub filters_same : w'.filters ≡ w.filters
   pub sections_lent : w'.sections ≡ p.config.sections
   pub filters_lent : w'.filters ≡ p.config.filters
+
+-- what came of the whole talk, that began at a pump that was fed nothing; w is the store lent
+pub record HeardOut (first : Pumping) (i i' : SourceState) (o o' : SinkState) (w w' : Warm) (t : Talked) : Type 0 where
+  pub hears : (ask : Ask) → PumpAfter ask [] [] first → Hears ask i i' o o' t
+  pub cause : TalkCause o o' t
+  pub heard : IsHeard t
+  pub open_ : o'.finished ≡ o.finished
+  pub in_goes_on : SourceGoesOn i i'
+  pub out_goes_on : SinkGoesOn o o'
+  pub sections_same : w'.sections ≡ w.sections
+  pub filters_same : w'.filters ≡ w.filters
+
+-- a step of a talk that leads on from wherever it stands
+abbrev pub GoesOn : SourceState → SourceState → SinkState → SinkState → Warm → Warm → Pumping → Pumping → Type 0
+GoesOn i i' o o' w w' p p' =
+    (first : Pumping) (i0 : SourceState) (o0 : SinkState) (w0 : Warm) → Flowing first i0 i o0 o w0 w p → Flowing first i0 i' o0 o' w0 w' p'
+
+-- a step of a talk that ends it, wherever it stands
+abbrev pub EndsHere : SourceState → SourceState → SinkState → SinkState → Warm → Warm → Pumping → Talked → Type 0
+EndsHere i i' o o' w w' p t =
+    (first : Pumping) (i0 : SourceState) (o0 : SinkState) (w0 : Warm) → Flowing first i0 i o0 o w0 w p → HeardOut first i0 i' o0 o' w0 w' t

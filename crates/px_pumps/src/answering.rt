@@ -1,5 +1,5 @@
 // Answering: reads an answer, feeds the pump, writes what comes out, and reads again.
-ghost use Rattle.std.specs.Prelude.{◌≡◌, ◌≢◌, ◌<◌, ◌++◌, ℕ, Bool, [], List, IsTrue, IfOk, MatchResult, length};
+ghost use Rattle.std.specs.Prelude.{◌≡◌, ◌≢◌, ◌<◌, ◌++◌, ℕ, Bool, [], List, IsTrue, IfNone, IfOk, IfSome, MatchResult, length};
 ghost use Rattle.px_base.specs.Sources.{SourceGoesOn};
 ghost use Rattle.px_base.specs.Sinks.{SinkGoesOn};
 ghost use Rattle.px_templates.specs.declared.pages.Page as page;
@@ -7,7 +7,7 @@ ghost use Rattle.px_pumps.specs.declared.dues.Due as due;
 ghost use Rattle.px_pumps.specs.Answering.{Ask};
 ghost use Rattle.px_pumps.specs.Asking.{ask_of};
 ghost use Rattle.px_pumps.specs.Pumps.{PumpAfter, IsOfAnswer, pieces_left, EndsTalk};
-ghost use Rattle.px_pumps.specs.Hearing.{AnswerGives, Hears, FedOn, Stopped, FeedCause, talk_refused};
+ghost use Rattle.px_pumps.specs.Hearing.{AnswerGives, EndsHere, GoesOn, HeardOut, Hears, FedOn, Stopped, FeedCause, talk_refused};
 ghost use Rattle.px_pumps.specs.Returning.{TalkCause, IsHeard};
 
 use crate::flows::Flow;
@@ -19,6 +19,10 @@ use px_base::{Failed, Mem, Sink, SinkFault, Source, Text, write_all};
 use px_config::{Config, Warm};
 use px_streams::PIECE;
 use std::alloc::Global;
+
+/// The most bytes that the first read of an answer asks for. Most answers that have no long body come whole by it, and no larger
+/// room has to be cleared for them.
+const FIRST_PIECE: usize = 2_048;
 
 /// Feeds a piece, and writes what comes out.
 fn feed_on<O: Sink>(
@@ -108,6 +112,66 @@ fn end_on<O: Sink>(
     }
 }
 
+/// Reads a piece of an answer, and writes what comes out of it. None where the answer goes on.
+fn pass_piece<I: Source, O: Sink>(
+    pump: &mut Pump<'_>,
+    warm: &mut Warm<'_>,
+    buf: &mut [u8],
+    out: &mut Text,
+    link_in: &mut I,
+    client_out: &mut O,
+) -> Option<Talked>
+    requires room { 0 < length buf.old }
+    requires sections { warm.old.sections ≡ pump.old.config.sections }
+    requires filters { warm.old.filters ≡ pump.old.config.filters }
+    ensures goes_on { IfNone result (GoesOn (I.state link_in.old) (I.state link_in.new) (O.state client_out.old) (O.state client_out.new) warm.old warm.new pump.old pump.new) }
+    ensures fewer { IfNone result (pieces_left pump.new.stage < pieces_left pump.old.stage) }
+    ensures ends { IfSome result (EndsHere (I.state link_in.old) (I.state link_in.new) (O.state client_out.old) (O.state client_out.new) warm.old warm.new pump.old) }
+    ensures config { IfNone result (pump.new.config ≡ pump.old.config) }
+    ensures same_sections { IfNone result (warm.new.sections ≡ warm.old.sections) }
+    ensures same_filters { IfNone result (warm.new.filters ≡ warm.old.filters) }
+{
+    match link_in.read(buf) {
+        Err(Failed) => Some(end_on(pump, warm, true, out, client_out)),
+        Ok(count) => {
+            if count == 0 {
+                return Some(end_on(pump, warm, false, out, client_out));
+            }
+            match feed_on(pump, warm, &buf[..count], out, client_out) {
+                Err(fault) => Some(end_refused(fault)),
+                Ok(flow) => match flow {
+                    Flow::More => None,
+                    Flow::Done(ending) => Some(Talked::Ended(Conclusion {
+                        ending,
+                        after: after_whole(pump.keeps()),
+                    })),
+                    Flow::Refused(page) => Some(Talked::Page(page)),
+                },
+            }
+        }
+    }
+}
+
+/// Reads the rest of an answer, and returns it to the client, each piece before the next is read.
+fn pass_rest<I: Source, O: Sink>(
+    pump: &mut Pump<'_>,
+    warm: &mut Warm<'_>,
+    out: &mut Text,
+    link_in: &mut I,
+    client_out: &mut O,
+) -> Talked
+    requires sections { warm.old.sections ≡ pump.old.config.sections }
+    requires filters { warm.old.filters ≡ pump.old.config.filters }
+    ensures ends { EndsHere (I.state link_in.old) (I.state link_in.new) (O.state client_out.old) (O.state client_out.new) warm.old warm.new pump.old result }
+{
+    let mut buf = [0u8; PIECE];
+    'pieces: loop {
+        if let Some(talked) = pass_piece(pump, warm, &mut buf, out, link_in, client_out) {
+            return talked;
+        }
+    }
+}
+
 /// Reads an answer to its end, and returns it to the client, each piece before the next is read.
 fn pass_on<I: Source, O: Sink>(
     alloc: Global,
@@ -118,39 +182,13 @@ fn pass_on<I: Source, O: Sink>(
 ) -> Talked
     requires sections { warm.old.sections ≡ pump.old.config.sections }
     requires filters { warm.old.filters ≡ pump.old.config.filters }
-    ensures hears { (ask : Ask) → PumpAfter ask [] [] pump.old → Hears ask (I.state link_in.old) (I.state link_in.new) (O.state client_out.old) (O.state client_out.new) result }
-    ensures cause { TalkCause (O.state client_out.old) (O.state client_out.new) result }
-    ensures heard { IsHeard result }
-    ensures open { (O.state client_out.new).finished ≡ (O.state client_out.old).finished }
-    ensures in_goes_on { SourceGoesOn (I.state link_in.old) (I.state link_in.new) }
-    ensures out_goes_on { SinkGoesOn (O.state client_out.old) (O.state client_out.new) }
-    ensures same_sections { warm.new.sections ≡ warm.old.sections }
-    ensures same_filters { warm.new.filters ≡ warm.old.filters }
+    ensures heard { HeardOut pump.old (I.state link_in.old) (I.state link_in.new) (O.state client_out.old) (O.state client_out.new) warm.old warm.new result }
 {
-    let mut buf = [0u8; PIECE];
+    let mut buf = [0u8; FIRST_PIECE];
     let mut out = Text::new(alloc);
-    'pieces: loop {
-        match link_in.read(&mut buf) {
-            Err(Failed) => return end_on(pump, warm, true, &mut out, client_out),
-            Ok(count) => {
-                if count == 0 {
-                    return end_on(pump, warm, false, &mut out, client_out);
-                }
-                match feed_on(pump, warm, &buf[..count], &mut out, client_out) {
-                    Err(fault) => return end_refused(fault),
-                    Ok(flow) => match flow {
-                        Flow::More => {}
-                        Flow::Done(ending) => {
-                            return Talked::Ended(Conclusion {
-                                ending,
-                                after: after_whole(pump.keeps()),
-                            });
-                        }
-                        Flow::Refused(page) => return Talked::Page(page),
-                    },
-                }
-            }
-        }
+    match pass_piece(pump, warm, &mut buf, &mut out, link_in, client_out) {
+        Some(talked) => talked,
+        None => pass_rest(pump, warm, &mut out, link_in, client_out),
     }
 }
 

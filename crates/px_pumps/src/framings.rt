@@ -97,8 +97,8 @@ fn copy_texts(alloc: Global, texts: &[Text]) -> Result<List<Text>, Mem>
     Ok(copies)
 }
 
-/// A status line with its version written as HTTP/1.1.
-fn as_version_1_1(alloc: Global, line: &[u8]) -> Result<Text, Mem>
+/// A copy of a status line with its version written as HTTP/1.1.
+fn copy_as_version_1_1(alloc: Global, line: &[u8]) -> Result<Text, Mem>
     ensures { IfOk result (λ text. text ≡ as_version_1_1 line.now) }
 {
     let mut text = Text::with_capacity(alloc, line.len())?;
@@ -107,13 +107,24 @@ fn as_version_1_1(alloc: Global, line: &[u8]) -> Result<Text, Mem>
     Ok(text)
 }
 
+/// A status line with its version written as HTTP/1.1. One that begins so is moved.
+fn as_version_1_1(alloc: Global, line: Text) -> Result<Text, Mem>
+    ensures { IfOk result (λ text. text ≡ as_version_1_1 line) }
+{
+    if line.as_bytes().starts_with(VERSION) {
+        Ok(line)
+    } else {
+        copy_as_version_1_1(alloc, line.as_bytes())
+    }
+}
+
 /// What the header actions made of a head, with its version written as HTTP/1.1.
 fn returned_lines(alloc: Global, out: ServerOut) -> Result<HeaderLines, Mem>
     ensures { IfOk result (λ lines. lines ≡ returned_lines out) }
 {
     let ServerOut { first_line, fields } = out;
     Ok(HeaderLines {
-        first_line: as_version_1_1(alloc, first_line.as_bytes())?,
+        first_line: as_version_1_1(alloc, first_line)?,
         fields,
     })
 }
