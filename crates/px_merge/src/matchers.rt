@@ -9,7 +9,7 @@ use crate::expressions::{expression_at, number_at, pattern_at};
 use crate::places::{Place, Placed};
 use crate::selections::section_at;
 use crate::sides::TagTest;
-use crate::tries::{try_tags, try_url};
+use crate::tries::{may_fit, try_tags, try_url};
 use px_base::{Mem, Steps, Text};
 use px_patterns::{Kept, Url};
 use std::alloc::Global;
@@ -105,6 +105,9 @@ impl<'c> Matchers<'c> {
         let Some(pattern) = pattern_at(self.sections, place) else {
             return Ok(false);
         };
+        if !may_fit(pattern, url) {
+            return Ok(false);
+        }
         match number_at(self.places, place, pattern) {
             Some(number) => { try_url(alloc, pattern, &mut self.kept[number], url, tags, steps) }
             None => try_url(alloc, pattern, &mut None, url, tags, steps),

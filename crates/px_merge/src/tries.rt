@@ -1,5 +1,5 @@
 // Patterns that are tried.
-ghost use Rattle.std.specs.Prelude.{◌≡◌, ◌+◌, ◌≤◌, IfOk, IsTrue, Some, false, if◌then◌else◌, not};
+ghost use Rattle.std.specs.Prelude.{◌≡◌, ◌+◌, ◌≤◌, ℕ, List, IfOk, IsTrue, Some, false, if◌then◌else◌, not};
 ghost use Rattle.px_patterns.specs.Hosts.{host_part_matches};
 ghost use Rattle.px_patterns.specs.Patterns.{tag_matches, url_matches};
 ghost use Rattle.px_merge.specs.Candidates.{cost, part_is_candidate};
@@ -101,6 +101,21 @@ fn fits_host(pattern: &UrlPattern, host: &[u8]) -> bool
     ensures candidate { IsTrue result → IsTrue (part_is_candidate pattern.now.host host.now) }
 {
     pattern.host().matches(host)
+}
+
+/// Whether a pattern may match a URL or tags: not where the host part of a URL pattern doesn't match, so that its expression isn't
+/// looked up.
+#[tactic(auto, using(crate::proofs::CandidateLemmas::no_host))]
+pub fn may_fit(pattern: &Pattern, url: &Url) -> bool
+    ensures { result ≡ false → (tags : List (List ℕ)) → is_for_url url.now tags pattern.now ≡ false }
+{
+    match pattern {
+        Pattern::Url(pattern) => fits_host(pattern, url.host.as_bytes()),
+        Pattern::ClientTag(_) => true,
+        Pattern::Tag(_) => false,
+        Pattern::NoRequestTag(_) => false,
+        Pattern::NoResponseTag(_) => false,
+    }
 }
 
 /// Whether a URL pattern matches a URL. A step is taken only where the pattern is a candidate.
