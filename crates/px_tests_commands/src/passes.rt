@@ -41,7 +41,7 @@ pub struct Outside<'a> {
 }
 
 /// Objects that are cut so, and of which no call fails.
-pub fn cut_so<'a>(input_cuts: &'a [usize], out_cuts: &'a [usize]) -> Outside<'a> {
+pub(crate) fn cut_so<'a>(input_cuts: &'a [usize], out_cuts: &'a [usize]) -> Outside<'a> {
     Outside {
         input_cuts,
         out_cuts,
@@ -53,7 +53,7 @@ pub fn cut_so<'a>(input_cuts: &'a [usize], out_cuts: &'a [usize]) -> Outside<'a>
 }
 
 /// Runs the tool over files in memory, where each file is a name and its content.
-pub fn run_over<R: Threads + Sync>(
+pub(crate) fn run_over<R: Threads + Sync>(
     alloc: Global,
     way: &Way<'_, R>,
     words: &[&str],
@@ -107,7 +107,7 @@ pub fn run_over<R: Threads + Sync>(
 }
 
 /// Whether SENT was put with just that text.
-pub fn put(run: &Run, text: &str) -> bool {
+pub(crate) fn put(run: &Run, text: &str) -> bool {
     match &run.sent {
         Some(sent) => sent.as_bytes() == text.as_bytes(),
         None => false,

@@ -3,12 +3,12 @@ use std::fmt::Debug;
 use std::process::Abort;
 
 /// Asserts that two values are equal.
-pub fn same<T: Copy + PartialEq + Debug>(rt: &impl Abort, seen: T, expected: T) {
+pub(crate) fn same<T: Copy + PartialEq + Debug>(rt: &impl Abort, seen: T, expected: T) {
     assert_eq!(rt; seen, expected);
 }
 
 /// Asserts that two values are equal, in the row of a table that begins so.
-pub fn same_at<L: Copy + Debug, T: Copy + PartialEq + Debug>(
+pub(crate) fn same_at<L: Copy + Debug, T: Copy + PartialEq + Debug>(
     rt: &impl Abort,
     row: L,
     seen: T,

@@ -1,10 +1,11 @@
 // Filter files whose filters and refusals are known from outside.
 use crate::common::same;
 use px_base::{List, Text};
-use px_filter_files::{FilterCounts, FilterFault, FilterFile, FilterKind, Filters};
+use px_filter_files::{FilterCounts, FilterFault, FilterFile, FilterKind, Filters, WarmFilters};
 use px_subst::Vars;
 use px_text::Line;
 use std::alloc::{AllocError, Global};
+use std::process::Abort;
 use std::test::Fail;
 
 /// Lines with the numbers from 1 on.
@@ -138,6 +139,26 @@ const FIRST: [&str; 10] = [
     "s/a/server tag/",
 ];
 
+/// Asserts that the filter `f` of a kind, run at its place, makes that text of `a`.
+fn same_at_place(
+    rt: &impl Abort,
+    alloc: Global,
+    warm: &mut WarmFilters<'_>,
+    kind: FilterKind,
+    text: &str,
+) -> Result<(), Fail> {
+    match warm.place(kind, b"f") {
+        Some(at) => {
+            let outcome = warm
+                .try_run_at(alloc, at, b"a", &no_vars(alloc))?
+                .ok_or("no hit")?;
+            same(rt, outcome.text.as_bytes(), text.as_bytes());
+        }
+        None => assert!(rt; false),
+    }
+    Ok(())
+}
+
 #[test]
 fn finds_the_first_filter_of_a_kind_and_name(rt: HostRuntime) -> Result<(), Fail> {
     let alloc = rt.alloc();
@@ -176,10 +197,16 @@ fn finds_the_first_filter_of_a_kind_and_name(rt: HostRuntime) -> Result<(), Fail
             .try_run(alloc, kind, b"f", b"a", &vars)?
             .ok_or("no hit")?;
         same(&rt, outcome.text.as_bytes(), text.as_bytes());
+        same_at_place(&rt, alloc, &mut warm, kind, text)?;
     }
     same(
         &rt,
         filters.find(FilterKind::ClientTagger, b"g").is_none(),
+        true,
+    );
+    same(
+        &rt,
+        warm.place(FilterKind::ClientTagger, b"g").is_none(),
         true,
     );
     assert!(rt;

@@ -5,12 +5,12 @@ use std::fmt::Debug;
 use std::process::Abort;
 
 /// Asserts that two values are equal.
-pub fn same<T: Copy + PartialEq + Debug>(rt: &impl Abort, seen: T, expected: T) {
+pub(crate) fn same<T: Copy + PartialEq + Debug>(rt: &impl Abort, seen: T, expected: T) {
     assert_eq!(rt; seen, expected);
 }
 
 /// Asserts that two values are equal, in the row of a table that begins so.
-pub fn same_at<L: Copy + Debug, T: Copy + PartialEq + Debug>(
+pub(crate) fn same_at<L: Copy + Debug, T: Copy + PartialEq + Debug>(
     rt: &impl Abort,
     row: L,
     seen: T,
@@ -20,11 +20,11 @@ pub fn same_at<L: Copy + Debug, T: Copy + PartialEq + Debug>(
 }
 
 /// Asserts that something holds, and names it where it doesn't.
-pub fn holds(rt: &impl Abort, fact: bool, name: &str) {
+pub(crate) fn holds(rt: &impl Abort, fact: bool, name: &str) {
     assert!(rt; fact, "{name}");
 }
 
 /// A text of those bytes.
-pub fn text(rt: &impl Abort, alloc: Global, bytes: &[u8]) -> Text {
+pub(crate) fn text(rt: &impl Abort, alloc: Global, bytes: &[u8]) -> Text {
     Text::from_bytes(alloc, bytes).expect(rt, "memory")
 }

@@ -5,21 +5,21 @@ use std::fmt::Debug;
 use std::process::Abort;
 
 /// Asserts that two values are equal.
-pub fn same<T: Copy + PartialEq + Debug>(rt: &impl Abort, seen: T, expected: T) {
+pub(crate) fn same<T: Copy + PartialEq + Debug>(rt: &impl Abort, seen: T, expected: T) {
     assert_eq!(rt; seen, expected);
 }
 
 /// Asserts that a text is those bytes.
-pub fn same_text(rt: &impl Abort, seen: &Text, expected: &str) {
+pub(crate) fn same_text(rt: &impl Abort, seen: &Text, expected: &str) {
     assert_eq!(rt; seen.as_bytes(), expected.as_bytes());
 }
 
 /// Asserts that something holds, and names it where it doesn't.
-pub fn holds(rt: &impl Abort, fact: bool, name: &str) {
+pub(crate) fn holds(rt: &impl Abort, fact: bool, name: &str) {
     assert!(rt; fact, "{name}");
 }
 
 /// A text of those bytes.
-pub fn text(rt: &impl Abort, alloc: Global, bytes: &str) -> Text {
+pub(crate) fn text(rt: &impl Abort, alloc: Global, bytes: &str) -> Text {
     Text::from_bytes(alloc, bytes.as_bytes()).expect(rt, "memory")
 }

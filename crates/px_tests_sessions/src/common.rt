@@ -6,12 +6,12 @@ use std::fmt::Debug;
 use std::process::Abort;
 
 /// Asserts that two values are equal.
-pub fn same<T: Copy + PartialEq + Debug>(rt: &impl Abort, seen: T, expected: T) {
+pub(crate) fn same<T: Copy + PartialEq + Debug>(rt: &impl Abort, seen: T, expected: T) {
     assert_eq!(rt; seen, expected);
 }
 
 /// Asserts that two values are equal, in the row of a table that begins so.
-pub fn same_at<L: Copy + Debug, T: Copy + PartialEq + Debug>(
+pub(crate) fn same_at<L: Copy + Debug, T: Copy + PartialEq + Debug>(
     rt: &impl Abort,
     row: L,
     seen: T,
@@ -21,17 +21,17 @@ pub fn same_at<L: Copy + Debug, T: Copy + PartialEq + Debug>(
 }
 
 /// Asserts that a text ends so.
-pub fn ends(rt: &impl Abort, text: &Text, end: &[u8]) {
+pub(crate) fn ends(rt: &impl Abort, text: &Text, end: &[u8]) {
     assert!(rt; text.as_bytes().ends_with(end));
 }
 
 /// A text of those bytes.
-pub fn text(rt: &impl Abort, alloc: Global, bytes: &[u8]) -> Text {
+pub(crate) fn text(rt: &impl Abort, alloc: Global, bytes: &[u8]) -> Text {
     Text::from_bytes(alloc, bytes).expect(rt, "memory")
 }
 
 /// The client of the tests.
-pub fn peer(rt: &impl Abort, alloc: Global) -> Peer {
+pub(crate) fn peer(rt: &impl Abort, alloc: Global) -> Peer {
     Peer {
         address: text(rt, alloc, b"127.0.0.1"),
     }
@@ -74,7 +74,7 @@ fn loaded(rt: &impl Abort, alloc: Global, state: List<(Text, Text)>) -> Config {
 }
 
 /// The configuration of files. The blank image is there.
-pub fn config_of(rt: &impl Abort, alloc: Global, files: &Files) -> Config {
+pub(crate) fn config_of(rt: &impl Abort, alloc: Global, files: &Files) -> Config {
     let mut main = text(rt, alloc, files.main);
     main.push_all(b"actionsfile u.action\nfilterfile f.filter\n")
         .expect(rt, "memory");
