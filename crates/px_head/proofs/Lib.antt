@@ -1,4 +1,5 @@
 mod Cutting
+mod NameLemmas
 pub mod LineLemmas
 mod PrintLemmas
 pub mod BlockLemmas

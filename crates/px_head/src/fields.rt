@@ -1,5 +1,5 @@
 // Fields of a head.
-ghost use Rattle.std.specs.Prelude.{◌≡◌, ◌==◌, length, map, count_by, vec_len, All, IfOk};
+ghost use Rattle.std.specs.Prelude.{◌≡◌, ◌≤◌, ◌==◌, length, map, count_by, vec_len, All, IfOk};
 ghost use Rattle.httparse.specs.Spans.{IsHeaderWithin};
 ghost use Rattle.px_head.specs.Fields.{field_at};
 ghost use Rattle.px_head.specs.Prints.{field_line};
@@ -50,14 +50,30 @@ pub fn room_for(alloc: Global, block: &[u8]) -> Result<Vec<HeaderSpan>, AllocErr
     vec![in alloc; EMPTY_HEADER_SPAN; line_feeds(block)]
 }
 
+/// So many bytes are counted at once: a multiple of what LLVM compares in one step, and no more than a `u8` counts.
+const PIECE: usize = 224;
+
 fn line_feeds(block: &[u8]) -> usize
     ensures { result ≡ count_by (λ b. b == 10) block.now }
 {
     let mut count = 0;
-    for byte in block {
-        if *byte == b'\n' {
-            count += 1;
-        }
+    let mut rest = block;
+    'pieces: while !rest.is_empty() {
+        let (piece, more) = rest.split_at(PIECE.min(rest.len()));
+        count += few_line_feeds(piece) as usize;
+        rest = more;
+    }
+    count
+}
+
+/// The line feeds of a piece. They are counted in a `u8`, so that LLVM compares many bytes in one step.
+fn few_line_feeds(piece: &[u8]) -> u8
+    requires { length piece.now ≤ 255 }
+    ensures { result ≡ count_by (λ b. b == 10) piece.now }
+{
+    let mut count = 0;
+    for byte in piece {
+        count += (*byte == b'\n') as u8;
     }
     count
 }

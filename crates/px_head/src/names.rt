@@ -1,17 +1,16 @@
 // Fields by their names, the words of Connection fields, and the fields that a proxy doesn't pass on.
 ghost use Rattle.std.specs.Prelude.{◌≡◌, option_copied};
-ghost use Rattle.std.specs.List.{list_any};
-ghost use Rattle.std.specs.Str.{str_eq_ignore_ascii_case};
-ghost use Rattle.px_head.specs.Names.{has_name as has_name_spec, has_field as has_field_spec, first_field as first_field_spec, lists_word as lists_word_spec, is_connection_word as is_connection_word_spec, is_among as is_among_spec, connection_names, request_names, is_held_back_of_request as is_held_back_of_request_spec, is_held_back_of_response as is_held_back_of_response_spec};
+ghost use Rattle.px_head.specs.Names.{has_name as has_name_spec, has_field as has_field_spec, first_field as first_field_spec, lists_word as lists_word_spec, is_connection_word as is_connection_word_spec, is_among, connection_names, request_names, is_held_back_of_request as is_held_back_of_request_spec, is_held_back_of_response as is_held_back_of_response_spec};
 
 use crate::fields::Field;
 use px_base::{cut, same_without_case, trim};
 
-/// Whether the field has that name, without case (RFC 9110, section 5.1).
+/// Whether the field has that name, without case (RFC 9110, section 5.1). The lengths come first, so that most fields cost no
+/// call.
 pub fn has_name(field: &Field, name: &[u8]) -> bool
     ensures { result ≡ has_name_spec name.now field.now }
 {
-    same_without_case(field.name.as_bytes(), name)
+    field.name.len() == name.len() && same_without_case(field.name.as_bytes(), name)
 }
 
 /// Whether a field of that name stands.
@@ -52,21 +51,6 @@ pub fn is_connection_word(word: &[u8], fields: &[Field]) -> bool
         && lists_word(word, field.value.as_bytes()))
 }
 
-/// The names of fields that speak of one connection alone (RFC 9110, section 7.6.1), and Content-Length.
-const CONNECTION_NAMES: [&str; 8] = [
-    "Connection",
-    "Proxy-Connection",
-    "Keep-Alive",
-    "TE",
-    "Trailer",
-    "Transfer-Encoding",
-    "Upgrade",
-    "Content-Length",
-];
-
-/// The further names that a proxy answers for in a request.
-const REQUEST_NAMES: [&str; 3] = ["Host", "Expect", "Proxy-Authorization"];
-
 /// Whether a field of that name isn't passed on of a request: the eight of a response, Host, Expect and
 /// Proxy-Authorization.
 #[tactic(auto, unfolding(crate::specs::Names::is_held_back_of_request))]
@@ -85,22 +69,30 @@ pub fn is_held_back_of_response(name: &[u8]) -> bool
     is_connection_name(name)
 }
 
+/// Whether fields of that name speak of one connection alone (RFC 9110, section 7.6.1), or it is Content-Length. A name is
+/// compared only with those of its length.
 fn is_connection_name(name: &[u8]) -> bool
-    ensures { result ≡ is_among_spec connection_names name.now }
+    ensures { result ≡ is_among connection_names name.now }
 {
-    is_among(&CONNECTION_NAMES, name)
+    match name.len() {
+        2 => same_without_case(b"TE", name),
+        7 => same_without_case(b"Trailer", name) || same_without_case(b"Upgrade", name),
+        10 => same_without_case(b"Connection", name) || same_without_case(b"Keep-Alive", name),
+        14 => same_without_case(b"Content-Length", name),
+        16 => same_without_case(b"Proxy-Connection", name),
+        17 => same_without_case(b"Transfer-Encoding", name),
+        _ => false,
+    }
 }
 
+/// Whether it is a further name that a proxy answers for in a request.
 fn is_request_name(name: &[u8]) -> bool
-    ensures { result ≡ is_among_spec request_names name.now }
+    ensures { result ≡ is_among request_names name.now }
 {
-    is_among(&REQUEST_NAMES, name)
-}
-
-fn is_among(names: &[&str], name: &[u8]) -> bool
-    ensures { result ≡ list_any (λ one. str_eq_ignore_ascii_case one.now name.now) names.now }
-{
-    names
-        .iter()
-        .any(|one| same_without_case(one.as_bytes(), name))
+    match name.len() {
+        4 => same_without_case(b"Host", name),
+        6 => same_without_case(b"Expect", name),
+        19 => same_without_case(b"Proxy-Authorization", name),
+        _ => false,
+    }
 }

@@ -1,6 +1,9 @@
-use Rattle.std.proofs.Common.{◌≡◌, ◌==◌, take}
+use Rattle.std.proofs.Common.{◌≡◌, ◌+◌, ◌==◌, length}
 use Rattle.std.specs.Prelude.{count_by}
 use Rattle.px_head.proofs.fields.line_feeds.Given as goal
 
-abbrev pub invariant-loop-byte : goal.invariant-loop-byte
-invariant-loop-byte l = l.count ≡ count_by (λ b. b == 10) (take l.byte-index l.block)
+abbrev pub invariant-pieces : goal.invariant-pieces
+invariant-pieces l = l.count + count_by (λ b. b == 10) l.rest ≡ count_by (λ b. b == 10) l.block
+
+abbrev pub decreases-pieces : goal.decreases-pieces
+decreases-pieces l = length l.rest
