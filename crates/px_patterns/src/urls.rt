@@ -9,6 +9,12 @@ use itoa::Buffer;
 use px_base::{Mem, Text};
 use std::alloc::Global;
 
+/// What a URL begins with.
+const SCHEME: &[u8] = b"http://";
+
+/// The most bytes that stand around a host: brackets, a colon and a port of five digits.
+const AROUND_HOST: usize = 8;
+
 /// A URL that begins with `http://`, without user information.
 #[derive(Drop)]
 pub struct Url {
@@ -33,7 +39,7 @@ impl Url {
         if has_bad_byte(text) {
             return Err(UrlFault::BadByte);
         }
-        if !begins_with(text, b"http://") {
+        if !begins_with(text, SCHEME) {
             return Err(UrlFault::NotHttp);
         }
         let rest = &text[7..];
@@ -66,7 +72,9 @@ impl Url {
         ensures text { IfOk result (λ text. text ≡ shown_url self.now) }
         ensures reads { IfOk result (λ text. IsUrl self.now → url_of text ≡ Ok self.now) }
     {
-        let mut text = Text::from_bytes(alloc, b"http://")?;
+        let around = self.path.len().saturating_add(SCHEME.len() + AROUND_HOST);
+        let mut text = Text::with_capacity(alloc, self.host.len().saturating_add(around))?;
+        text.push_all(SCHEME)?;
         push_host(&mut text, self.host.as_bytes())?;
         push_port(&mut text, self.port)?;
         text.push_all(self.path.as_bytes())?;
@@ -78,7 +86,7 @@ impl Url {
     pub fn host_port(&self, alloc: Global) -> Result<Text, Mem>
         ensures { IfOk result (λ text. text ≡ shown_host_port self.now) }
     {
-        let mut text = Text::new(alloc);
+        let mut text = Text::with_capacity(alloc, self.host.len().saturating_add(AROUND_HOST))?;
         push_host(&mut text, self.host.as_bytes())?;
         push_port(&mut text, self.port)?;
         Ok(text)

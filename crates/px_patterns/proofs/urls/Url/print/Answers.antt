@@ -6,5 +6,5 @@ use Rattle.px_patterns.proofs.urls.Url.print.Goals as goal
 pub returns-clause-reads : goal.returns-clause-reads
 unfolding shown_url
 returns-clause-reads c = λ is.
-    let shown : c.push_all.new.self ≡ shown_url c.args.self.now = search rules in
+    let shown : c.push_all-2.new.self ≡ shown_url c.args.self.now = search rules in
     ap url_of shown ∙ read_back c.args.self.now is
