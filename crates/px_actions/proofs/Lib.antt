@@ -1,5 +1,5 @@
-pub mod ArrayLemmas
 pub mod BraceLemmas
+pub mod EntryLemmas
 pub mod RuleLemmas
 pub mod SetLemmas
 pub mod Table

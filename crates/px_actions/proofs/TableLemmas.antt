@@ -1,12 +1,10 @@
 -- Flags that lie over what is set of the other kinds.
-use Rattle.std.proofs.Common.{◌≡◌, ◌≢◌, ℕ, ◌<◌, ◌≤◌, Bool, true, false, List, [], ◌∷◌, length, Option, None, Some, refl, sym, ap, subst, ◌∙◌, arith, get_or, zero, suc}
-use Rattle.std.specs.Prelude.{Box, slice_set}
-use Rattle.std.proofs.lemmas.List.{get_or_default}
+use Rattle.std.proofs.Common.{◌≡◌, ◌≢◌, ℕ, ◌<◌, ◌≤◌, Bool, true, false, List, [], ◌∷◌, length, None, Some, refl, sym, ap, subst, ◌∙◌, arith, get_or, zero, suc}
+use Rattle.std.specs.Prelude.{slice_set}
 use Rattle.px_actions.specs.Kinds.{entry_of}
 use Rattle.px_actions.specs.Shapes.{TakesMemory}
-use Rattle.px_actions.specs.Sets.{IsSound, changed, empty_set, empty_setting, fits_setting, multi_values, setting_lines, setting_of, single_value, updated}
-use Rattle.px_actions.specs.Tables.{laid, laid_over, values_of}
-use Rattle.px_actions.proofs.SetLemmas.{setting_of-empty}
+use Rattle.px_actions.specs.Sets.{IsSound, changed, empty_setting, fits_setting, multi_values, setting_lines, setting_of, single_value, updated}
+use Rattle.px_actions.specs.Tables.{laid, laid_over}
 use Rattle.px_actions.proofs.Table.{place_within}
 use Rattle.px_actions.specs.declared.kinds.Kind.{Kind}
 use Rattle.px_actions.specs.declared.kinds.Rule.{Rule}
@@ -43,12 +41,6 @@ laid-set_flag (on ∷ flags) [] zero new d = refl
 laid-set_flag (on ∷ flags) [] (suc i) new d = refl
 laid-set_flag (on ∷ flags) (s ∷ settings) zero new d = refl
 laid-set_flag (on ∷ flags) (s ∷ settings) (suc i) new d = ap (λ rest. laid on s ∷ rest) (laid-set_flag flags settings i new d)
-
--- what stands there is put there again
-set_same : (settings : List Setting) (i : ℕ) (d : Setting) → slice_set settings i (get_or settings i d) ≡ settings
-set_same [] i d = refl
-set_same (s ∷ settings) zero d = refl
-set_same (s ∷ settings) (suc i) d = ap (λ rest. s ∷ rest) (set_same settings i d)
 
 -- ---- what is set of a kind
 
@@ -105,17 +97,17 @@ multi_of : (flags : List Bool) (settings : List Setting) (k : Kind) → IsSound 
     → multi_values (setting_of (laid_over flags settings) k) ≡ multi_values (setting_of settings k)
 multi_of flags settings k h = ap multi_values (setting_of-laid flags settings k h) ∙ multi-laid (get_or flags (entry_of k).place false) (setting_of settings k)
 
-single-empty : (sort : Shape) → single_value (empty_setting sort) ≡ None
+pub single-empty : (sort : Shape) → single_value (empty_setting sort) ≡ None
 single-empty shape.Flag = refl
 single-empty shape.Single = refl
 single-empty shape.Multi = refl
 
-multi-empty : (sort : Shape) → multi_values (empty_setting sort) ≡ []
+pub multi-empty : (sort : Shape) → multi_values (empty_setting sort) ≡ []
 multi-empty shape.Flag = refl
 multi-empty shape.Single = refl
 multi-empty shape.Multi = refl
 
-lines-empty : (sort : Shape) (name : List ℕ) → setting_lines name (empty_setting sort) ≡ []
+pub lines-empty : (sort : Shape) (name : List ℕ) → setting_lines name (empty_setting sort) ≡ []
 lines-empty shape.Flag name = refl
 lines-empty shape.Single name = refl
 lines-empty shape.Multi name = refl
@@ -140,7 +132,7 @@ laid-changed shape.Flag rule on (setting.Flag b) change h ne = absurd (ne refl)
 laid-changed shape.Single rule on (setting.Flag b) change h ne = absurd (grind arith)
 laid-changed shape.Multi rule on (setting.Flag b) change h ne = absurd (grind arith)
 
-unchanged_empty : (sort : Shape) (change : Change) → sort ≢ shape.Flag → (TakesMemory change → ⊥) → changed (empty_setting sort) change ≡ empty_setting sort
+pub unchanged_empty : (sort : Shape) (change : Change) → sort ≢ shape.Flag → (TakesMemory change → ⊥) → changed (empty_setting sort) change ≡ empty_setting sort
 unchanged_empty shape.Flag change ne free = absurd (ne refl)
 unchanged_empty shape.Single change.On ne free = refl
 unchanged_empty shape.Single change.Off ne free = refl
@@ -169,17 +161,6 @@ value_updated flags settings k change h ne =
     ∙ ap (λ (s : Setting). changed s change) (sym is) in
     laid-set flags settings (entry_of k).place new ∙ ap (λ (s : Setting). slice_set (laid_over flags settings) (entry_of k).place s) same
 
--- before the first value, a change that takes no memory changes nothing
-value_still : (flags : List Bool) (k : Kind) (change : Change) → IsSound (laid_over flags empty_set) → (entry_of k).shape ≢ shape.Flag → (TakesMemory change → ⊥)
-    → laid_over flags empty_set ≡ updated (laid_over flags empty_set) k change
-unfolding updated
-value_still flags k change h ne free =
-    let at = (entry_of k).place in
-    let is = setting_of_value flags empty_set k h ne ∙ setting_of-empty k in
-    let same : changed (setting_of (laid_over flags empty_set) k) change ≡ setting_of (laid_over flags empty_set) k =
-    ap (λ (s : Setting). changed s change) is ∙ unchanged_empty (entry_of k).shape change ne free ∙ sym is in
-    sym (ap (λ (s : Setting). slice_set (laid_over flags empty_set) at s) same ∙ set_same (laid_over flags empty_set) at (setting.Flag false))
-
 -- another flag lies over what a flag lay over
 relaid : (new : Bool) (s : Setting) (on : Bool) → laid on s ≡ setting.Flag on → laid new s ≡ setting.Flag new
 relaid new (setting.Flag b) on e = refl
@@ -202,57 +183,33 @@ flag_updated flags settings k change new h e made =
 
 -- ---- what a table tells
 
-pub table_flag : {A : Type 0} (self : List Setting) (flags : List Bool) (values : Option (Box (List Setting) A)) (k : Kind) → laid_over flags (values_of values) ≡ self → IsSound self
+pub table_flag : (self : List Setting) (flags : List Bool) (values : List Setting) (k : Kind) → laid_over flags values ≡ self → IsSound self
     → (entry_of k).shape ≡ shape.Flag → setting_of self k ≡ setting.Flag (get_or flags (entry_of k).place false)
 table_flag self flags values k view h e =
-    ap (λ s. setting_of s k) (sym view) ∙ setting_of_flag flags (values_of values) k (subst IsSound (sym view) h) e
+    ap (λ s. setting_of s k) (sym view) ∙ setting_of_flag flags values k (subst IsSound (sym view) h) e
 
-pub table_value : {A : Type 0} (self : List Setting) (flags : List Bool) (values : Option (Box (List Setting) A)) (k : Kind) → laid_over flags (values_of values) ≡ self → IsSound self
-    → (entry_of k).shape ≢ shape.Flag → setting_of self k ≡ setting_of (values_of values) k
+pub table_value : (self : List Setting) (flags : List Bool) (values : List Setting) (k : Kind) → laid_over flags values ≡ self → IsSound self
+    → (entry_of k).shape ≢ shape.Flag → setting_of self k ≡ setting_of values k
 table_value self flags values k view h ne =
-    ap (λ s. setting_of s k) (sym view) ∙ setting_of_value flags (values_of values) k (subst IsSound (sym view) h) ne
+    ap (λ s. setting_of s k) (sym view) ∙ setting_of_value flags values k (subst IsSound (sym view) h) ne
 
-pub table_single : {A : Type 0} (self : List Setting) (flags : List Bool) (values : Option (Box (List Setting) A)) (k : Kind) → laid_over flags (values_of values) ≡ self → IsSound self
-    → single_value (setting_of self k) ≡ single_value (setting_of (values_of values) k)
+pub table_single : (self : List Setting) (flags : List Bool) (values : List Setting) (k : Kind) → laid_over flags values ≡ self → IsSound self
+    → single_value (setting_of self k) ≡ single_value (setting_of values k)
 table_single self flags values k view h =
-    ap (λ s. single_value (setting_of s k)) (sym view) ∙ single_of flags (values_of values) k (subst IsSound (sym view) h)
+    ap (λ s. single_value (setting_of s k)) (sym view) ∙ single_of flags values k (subst IsSound (sym view) h)
 
-pub table_multi : {A : Type 0} (self : List Setting) (flags : List Bool) (values : Option (Box (List Setting) A)) (k : Kind) → laid_over flags (values_of values) ≡ self → IsSound self
-    → multi_values (setting_of self k) ≡ multi_values (setting_of (values_of values) k)
+pub table_multi : (self : List Setting) (flags : List Bool) (values : List Setting) (k : Kind) → laid_over flags values ≡ self → IsSound self
+    → multi_values (setting_of self k) ≡ multi_values (setting_of values k)
 table_multi self flags values k view h =
-    ap (λ s. multi_values (setting_of s k)) (sym view) ∙ multi_of flags (values_of values) k (subst IsSound (sym view) h)
+    ap (λ s. multi_values (setting_of s k)) (sym view) ∙ multi_of flags values k (subst IsSound (sym view) h)
 
--- what is read of the values at a kind's place
-pub table_read : {A : Type 0} (self : List Setting) (flags : List Bool) (values : Option (Box (List Setting) A)) (box : Box (List Setting) A) (k : Kind) (items : List Setting) (at : ℕ) (d : Setting)
-    → laid_over flags (values_of values) ≡ self → IsSound self → values ≡ Some box → items ≡ box.value → at ≡ (entry_of k).place → get_or items at d ≡ setting_of (values_of values) k
-table_read self flags values box k items at d view h some is e =
-    let same : items ≡ values_of values = is ∙ sym (ap values_of some) in
-    let within : (entry_of k).place < length (values_of values) = omega (arith, laid-long flags (values_of values), ap (λ (xs : List Setting). length xs) view, h.len, place_within k) in
-    rw (e, same) (get_or_default (values_of values) (entry_of k).place d (setting.Flag false) within)
-
--- before the first value
-pub empty_single : (k : Kind) → single_value (setting_of empty_set k) ≡ None
-empty_single k = ap single_value (setting_of-empty k) ∙ single-empty (entry_of k).shape
-
-pub empty_multi : (k : Kind) → multi_values (setting_of empty_set k) ≡ []
-empty_multi k = ap multi_values (setting_of-empty k) ∙ multi-empty (entry_of k).shape
-
-pub empty_lines : (k : Kind) (name : List ℕ) → setting_lines name (setting_of empty_set k) ≡ []
-empty_lines k name = ap (setting_lines name) (setting_of-empty k) ∙ lines-empty (entry_of k).shape name
-
-pub table_changed : {A : Type 0} (self : List Setting) (flags : List Bool) (values : Option (Box (List Setting) A)) (k : Kind) (change : Change) (new : List Setting)
-    → laid_over flags (values_of values) ≡ self → IsSound self → (entry_of k).shape ≢ shape.Flag → new ≡ updated (values_of values) k change → laid_over flags new ≡ updated self k change
+pub table_changed : (self : List Setting) (flags : List Bool) (values : List Setting) (k : Kind) (change : Change) (new : List Setting)
+    → laid_over flags values ≡ self → IsSound self → (entry_of k).shape ≢ shape.Flag → new ≡ updated values k change → laid_over flags new ≡ updated self k change
 table_changed self flags values k change new view h ne is =
-    ap (laid_over flags) is ∙ value_updated flags (values_of values) k change (subst IsSound (sym view) h) ne ∙ ap (λ s. updated s k change) view
+    ap (laid_over flags) is ∙ value_updated flags values k change (subst IsSound (sym view) h) ne ∙ ap (λ s. updated s k change) view
 
-pub table_still : {A : Type 0} (self : List Setting) (flags : List Bool) (values : Option (Box (List Setting) A)) (k : Kind) (change : Change)
-    → laid_over flags (values_of values) ≡ self → values ≡ None → IsSound self → (entry_of k).shape ≢ shape.Flag → (TakesMemory change → ⊥) → laid_over flags (values_of values) ≡ updated self k change
-table_still self flags values k change view none h ne free =
-    let over : self ≡ laid_over flags empty_set = sym view ∙ ap (λ v. laid_over flags (values_of v)) none in
-    view ∙ over ∙ value_still flags k change (subst IsSound over h) ne free ∙ ap (λ s. updated s k change) (sym over)
-
-pub table_flagged : {A : Type 0} (self : List Setting) (flags : List Bool) (values : Option (Box (List Setting) A)) (k : Kind) (change : Change) (new : Bool)
-    → laid_over flags (values_of values) ≡ self → IsSound self → (entry_of k).shape ≡ shape.Flag → setting.Flag new ≡ changed (setting.Flag (get_or flags (entry_of k).place false)) change
-    → laid_over (slice_set flags (entry_of k).place new) (values_of values) ≡ updated self k change
+pub table_flagged : (self : List Setting) (flags : List Bool) (values : List Setting) (k : Kind) (change : Change) (new : Bool)
+    → laid_over flags values ≡ self → IsSound self → (entry_of k).shape ≡ shape.Flag → setting.Flag new ≡ changed (setting.Flag (get_or flags (entry_of k).place false)) change
+    → laid_over (slice_set flags (entry_of k).place new) values ≡ updated self k change
 table_flagged self flags values k change new view h e made =
-    flag_updated flags (values_of values) k change new (subst IsSound (sym view) h) e made ∙ ap (λ s. updated s k change) view
+    flag_updated flags values k change new (subst IsSound (sym view) h) e made ∙ ap (λ s. updated s k change) view

@@ -3,6 +3,7 @@
 
 mod braces;
 mod changes;
+mod entries;
 mod faults;
 mod hops;
 mod kinds;

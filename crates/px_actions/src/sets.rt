@@ -41,7 +41,7 @@ impl ActionSet {
     {
         ActionSet {
             alloc,
-            table: Table::empty(),
+            table: Table::empty(alloc),
         }
     }
 

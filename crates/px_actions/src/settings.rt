@@ -3,7 +3,7 @@ ghost use Rattle.std.specs.Prelude.{◌≡◌, ◌++◌, [], IfOk, IsErr, OnErr,
 ghost use Rattle.std.specs.List.{flat_map};
 ghost use Rattle.px_actions.specs.Shapes.{TakesMemory};
 ghost use Rattle.px_actions.specs.declared.settings.Setting.TheVariants as setting;
-ghost use Rattle.px_actions.specs.Sets.{is_among, with_value, without_value, changed, empty_setting, is_switched, single_value, multi_values, setting_lines, flag_line, value_line};
+ghost use Rattle.px_actions.specs.Sets.{is_among, with_value, without_value, changed, empty_setting, single_value, multi_values, setting_lines, flag_line, value_line};
 
 use crate::changes::Change;
 use crate::kinds::Shape;
@@ -47,16 +47,6 @@ impl Setting {
             }
             Setting::Single(value) => change_single(alloc, value, change),
             Setting::Multi(values) => change_multi(alloc, values, change),
-        }
-    }
-
-    pub(crate) fn is_switched(&self) -> bool
-        ensures { result ≡ is_switched self.now }
-    {
-        match self {
-            Setting::Flag(on) => *on,
-            Setting::Single(_) => false,
-            Setting::Multi(_) => false,
         }
     }
 

@@ -6,40 +6,41 @@ ghost use Rattle.px_actions.specs.Sets.{IsSound, empty_set, is_switched, multi_v
 ghost use Rattle.px_actions.specs.declared.kinds.Shape.TheVariants as shape;
 
 use crate::changes::Change;
-use crate::kinds::{KINDS, Kind, Shape};
-use crate::settings::{Setting, change_flag, print_flag};
+use crate::entries::Entries;
+use crate::kinds::{Kind, Shape};
+use crate::settings::{change_flag, print_flag};
 use px_base::{Mem, Text};
 use std::alloc::Global;
 use std::marker::Model;
 
-/// What is set of each kind, seen as the settings by the kinds' numbers. Flags stand in it; the other kinds have room of their own
-/// from the first value on, so a table without values is small and holds no memory.
+/// What is set of each kind, seen as the settings by the kinds' numbers. Flags stand in it; another kind has an entry from its
+/// first value on, so a table without values holds no memory.
 #[derive(Drop)]
 pub struct Table {
     /// Which flags are on, by the kind's number.
     flags: [bool; 41],
-    /// What is set of the kinds that aren't flags, by the kind's number.
-    values: Option<Box<[Setting; 41]>>,
+    /// What is set of the kinds that aren't flags.
+    entries: Entries,
 }
 
 impl Model for Table {
     ghost use Rattle.std.specs.Prelude.{List};
     ghost use Rattle.px_actions.specs.declared.settings.Setting.{Setting};
-    ghost use Rattle.px_actions.specs.Tables.{laid_over, values_of};
+    ghost use Rattle.px_actions.specs.Tables.{laid_over};
 
     ghost Value = { List Setting };
 
-    ghost view = { λ t. laid_over t.flags (values_of t.values) };
+    ghost view = { λ t. laid_over t.flags t.entries };
 }
 
 impl Table {
     /// The table in which nothing is set, which takes no memory.
-    pub fn empty() -> Table
+    pub fn empty(alloc: Global) -> Table
         ensures { result ≡ empty_set }
     {
         Table {
             flags: [false; 41],
-            values: None,
+            entries: Entries::empty(alloc),
         }
     }
 
@@ -55,28 +56,8 @@ impl Table {
                 change_flag(&mut self.flags[kind.place()], change);
                 Ok(())
             }
-            Shape::Single => self.change_value(alloc, kind, change),
-            Shape::Multi => self.change_value(alloc, kind, change),
-        }
-    }
-
-    /// Applies a change to a kind that isn't a flag.
-    fn change_value(&mut self, alloc: Global, kind: Kind, change: &Change) -> Result<(), Mem>
-        requires sound { IsSound self.old }
-        requires other { (entry_of kind).shape ≢ shape.Flag }
-        ensures ok { OnOk result (self.new ≡ updated self.old kind change.now) }
-        ensures err { OnErr result (self.new ≡ self.old) }
-        ensures memory { IsErr result → TakesMemory change.now }
-    {
-        match &mut self.values {
-            Some(values) => change_at(alloc, values, kind, change),
-            None => match change {
-                Change::Set(_) | Change::Add(_) => {
-                    self.values = Some(first_values(alloc, kind, change)?);
-                    Ok(())
-                }
-                Change::On | Change::Off | Change::Remove(_) | Change::Clear => Ok(()),
-            },
+            Shape::Single => self.entries.change(alloc, kind, change),
+            Shape::Multi => self.entries.change(alloc, kind, change),
         }
     }
 
@@ -97,8 +78,8 @@ impl Table {
         requires sound { IsSound self.now }
         ensures { option_copied result ≡ single_value (setting_of self.now kind) }
     {
-        match &self.values {
-            Some(values) => values[kind.place()].value(),
+        match self.entries.get(kind) {
+            Some(setting) => setting.value(),
             None => None,
         }
     }
@@ -108,8 +89,8 @@ impl Table {
         requires sound { IsSound self.now }
         ensures { result.now ≡ multi_values (setting_of self.now kind) }
     {
-        match &self.values {
-            Some(values) => values[kind.place()].values(),
+        match self.entries.get(kind) {
+            Some(setting) => setting.values(),
             None => &[],
         }
     }
@@ -118,13 +99,9 @@ impl Table {
     pub fn copy(&self, alloc: Global) -> Result<Table, Mem>
         ensures { IfOk result (λ t. t ≡ self.now) }
     {
-        let values = match &self.values {
-            Some(values) => Some(Box::new(alloc, copy_settings(alloc, values)?)?),
-            None => None,
-        };
         Ok(Table {
             flags: self.flags,
-            values,
+            entries: self.entries.copy(alloc)?,
         })
     }
 
@@ -153,50 +130,9 @@ impl Table {
         requires other { (entry_of kind).shape ≢ shape.Flag }
         ensures { OnOk result (out.new ≡ out.old ++ setting_lines name.now (setting_of self.now kind)) }
     {
-        match &self.values {
-            Some(values) => values[kind.place()].print(name, out),
+        match self.entries.get(kind) {
+            Some(setting) => setting.print(name, out),
             None => Ok(()),
         }
     }
-}
-
-/// Applies a change to what is set of a kind.
-#[tactic(auto, unfolding(crate::specs::Sets::updated))]
-fn change_at(
-    alloc: Global,
-    values: &mut [Setting; 41],
-    kind: Kind,
-    change: &Change,
-) -> Result<(), Mem>
-    ensures ok { OnOk result (values.new ≡ updated values.old kind change.now) }
-    ensures err { OnErr result (values.new ≡ values.old) }
-    ensures memory { IsErr result → TakesMemory change.now }
-{
-    let setting = &mut values[kind.place()];
-    setting.change(alloc, change)
-}
-
-/// What is set behind a first change.
-fn first_values(alloc: Global, kind: Kind, change: &Change) -> Result<Box<[Setting; 41]>, Mem>
-    ensures { IfOk result (λ values. values.value ≡ updated empty_set kind change.now) }
-{
-    let mut values = Box::new(alloc, empty_settings(alloc))?;
-    change_at(alloc, &mut values, kind, change)?;
-    Ok(values)
-}
-
-fn empty_settings(alloc: Global) -> [Setting; 41]
-    ensures { result ≡ empty_set }
-{
-    KINDS.map(|kind| Setting::empty(alloc, kind.shape()))
-}
-
-fn copy_settings(alloc: Global, settings: &[Setting; 41]) -> Result<[Setting; 41], Mem>
-    ensures { IfOk result (λ copies. copies ≡ settings.now) }
-{
-    let mut copies = empty_settings(alloc);
-    for i in 0..41 {
-        copies[i] = settings[i].copy(alloc)?;
-    }
-    Ok(copies)
 }

@@ -5,4 +5,4 @@ use Rattle.px_actions.proofs.tables.Table.empty.Goals as goal
 
 pub returns : goal.returns
 unfolding empty_set entry_of
-returns c = refl
+returns c = rw c.empty.ensures refl
