@@ -90,6 +90,11 @@ module _ (all : FiltersOfFiles) (key : Key) where
 pub jobs_there : (all : FiltersOfFiles) (at : ℕ) (d : NamedFilter) → at < length all.filters → (get_or all.filters at d).filter ≡ jobs_at all at
 jobs_there all at d inside = sym (ap (λ o. option_map_or (λ (f : NamedFilter). f.filter) o []) (slice_get-get_or all.filters at d inside))
 
+pub jobs_here : (named : List NamedFilter) (filters all : FiltersOfFiles) (at : ℕ) (d : NamedFilter) → named ≡ filters.filters → filters ≡ all → at < length all.filters →
+    (get_or named at d).filter ≡ jobs_at all at
+jobs_here named filters all at d lent is inside =
+    ap (λ fs. (get_or fs at d).filter) (lent ∙ ap (λ (f : FiltersOfFiles). f.filters) is) ∙ jobs_there all at d inside
+
 -- ---- the filters of files
 
 pub filters_of_first : (files : List FilterFile) (file : FilterFile) → 0 < length files → file ≡ get_or files 0 file →

@@ -1,5 +1,5 @@
 // The filters of all files, with what each keeps from run to run.
-ghost use Rattle.std.specs.Prelude.{◌≡◌, ◌<◌, length, unwrap_or, IfOk, IfSome};
+ghost use Rattle.std.specs.Prelude.{◌≡◌, ◌<◌, false, true, length, unwrap_or, IfOk, IfSome};
 ghost use Rattle.px_subst.specs.Jobs.{run_filter, unchanged};
 ghost use Rattle.px_filter_files.specs.FilterFiles.{has_key, jobs_of};
 ghost use Rattle.px_filter_files.specs.Places.{AreKeptOf, first_place, jobs_at, jobs_at_place};
@@ -67,6 +67,28 @@ fn run_kept<'f>(
     Ok(found)
 }
 
+/// Whether a filter hits something in a text. What it keeps is made if it isn't there.
+fn finds_kept<'f>(
+    alloc: Global,
+    filter: &'f Filter,
+    kept: &mut Option<KeptFilter<'f>>,
+    text: &[u8],
+    vars: &Vars,
+) -> Result<bool, Mem>
+    requires { IfSome kept.old (λ jobs. jobs ≡ filter.now) }
+    ensures miss { IfOk result (λ yes. yes ≡ false → run_filter filter.now vars.now text.now ≡ unchanged text.now) }
+    ensures hit { IfOk result (λ yes. yes ≡ true → 0 < (run_filter filter.now vars.now text.now).hits) }
+    ensures kept { IfSome kept.new (λ jobs. jobs ≡ filter.now) }
+{
+    if let Some(kept) = kept {
+        return kept.finds(alloc, text, vars);
+    }
+    let mut made = filter.keep(alloc)?;
+    let found = made.finds(alloc, text, vars)?;
+    *kept = Some(made);
+    Ok(found)
+}
+
 impl<'f> WarmFilters<'f> {
     pub(crate) fn new(alloc: Global, filters: &'f Filters) -> Result<WarmFilters<'f>, Mem>
         ensures { IfOk result (λ warm. warm ≡ filters.now) }
@@ -83,6 +105,25 @@ impl<'f> WarmFilters<'f> {
         ensures jobs { jobs_at_place self.now result ≡ jobs_of self.now (record { kind = kind; name = name.now }) }
     {
         self.filters.place(kind, name)
+    }
+
+    /// Whether the filter at a place of these filters hits something in a text, which costs less than `try_run_at` where it
+    /// doesn't. After want of memory it may be asked again.
+    pub fn finds_at(
+        &mut self,
+        alloc: Global,
+        at: usize,
+        text: &[u8],
+        vars: &Vars,
+    ) -> Result<bool, Mem>
+        requires { at < length self.old.filters }
+        ensures miss { IfOk result (λ yes. yes ≡ false → run_filter (jobs_at self.old at) vars.now text.now ≡ unchanged text.now) }
+        ensures hit { IfOk result (λ yes. yes ≡ true → 0 < (run_filter (jobs_at self.old at) vars.now text.now).hits) }
+        ensures same { self.new ≡ self.old }
+    {
+        let all = self.filters;
+        let filter = &all.as_slice()[at].filter;
+        finds_kept(alloc, filter, &mut self.kept[at], text, vars)
     }
 
     /// What the filter at a place of these filters makes of a text, or None where it hits nothing. After want of memory it

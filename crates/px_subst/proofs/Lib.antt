@@ -4,4 +4,5 @@ pub mod WordLemmas
 pub mod JobLemmas
 pub mod MatchLemmas
 pub mod Alike
+pub mod FindsLemmas
 pub mod Crossing

@@ -1,5 +1,5 @@
 // A filter: jobs in order.
-ghost use Rattle.std.specs.Prelude.{◌≡◌, ◌<◌, unwrap_or, IfOk, IfSome};
+ghost use Rattle.std.specs.Prelude.{◌≡◌, ◌<◌, false, true, unwrap_or, IfOk, IfSome};
 ghost use Rattle.px_subst.specs.Jobs.{run_next, run_filter, unchanged, with_hits};
 
 use crate::jobs::Job;
@@ -133,6 +133,21 @@ impl Filter {
 }
 
 impl<'r> KeptFilter<'r> {
+    /// Whether the jobs hit something in a text, which is cheap where they hit nothing and have run before. After want of
+    /// memory it may be asked again.
+    pub fn finds(&mut self, alloc: Global, text: &[u8], vars: &Vars) -> Result<bool, Mem>
+        ensures miss { IfOk result (λ yes. yes ≡ false → run_filter self.old vars.now text.now ≡ unchanged text.now) }
+        ensures hit { IfOk result (λ yes. yes ≡ true → 0 < (run_filter self.old vars.now text.now).hits) }
+        ensures same { self.new ≡ self.old }
+    {
+        'jobs: for index in 0..self.jobs.len() {
+            if self.jobs[index].finds(alloc, text, vars)? {
+                return Ok(true);
+            }
+        }
+        Ok(false)
+    }
+
     /// What the jobs make of a text, as `Filter::run`. After want of memory it may be run again.
     pub fn run(&mut self, alloc: Global, text: &[u8], vars: &Vars) -> Result<Outcome, Mem>
         ensures value { IfOk result (λ outcome. outcome ≡ run_filter self.old vars.now text.now) }

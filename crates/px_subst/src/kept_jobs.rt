@@ -1,5 +1,5 @@
 // Jobs that keep what searches for their expression.
-ghost use Rattle.std.specs.Prelude.{◌≡◌, ◌<◌, unwrap_or, IfOk, IfSome};
+ghost use Rattle.std.specs.Prelude.{◌≡◌, ◌<◌, false, true, unwrap_or, IfOk, IfSome};
 ghost use Rattle.px_subst.specs.Jobs.{run_job, unchanged};
 ghost use Rattle.px_subst.specs.Replacers.{replaces};
 ghost use Rattle.px_subst.specs.Parts.{fixed_job, worded_job};
@@ -55,6 +55,20 @@ impl<'r> Model for KeptJob<'r> {
 }
 
 impl<'r> KeptReplacer<'r> {
+    /// Whether the replacer matches somewhere in a text.
+    fn finds(&mut self, alloc: Global, text: &[u8]) -> Result<bool, Mem>
+        ensures miss { IfOk result (λ yes. yes ≡ false → replaces self.old text.now ≡ unchanged text.now) }
+        ensures hit { IfOk result (λ yes. yes ≡ true → 0 < (replaces self.old text.now).hits) }
+        ensures same { self.new ≡ self.old }
+    {
+        let replacer = self.replacer;
+        if let Some(search) = &mut self.search {
+            return Ok(replacer.finds(search, text));
+        }
+        let found = self.try_run(alloc, text)?;
+        Ok(found.is_some())
+    }
+
     /// What the replacer makes of a text, or None where nothing matches.
     fn try_run(&mut self, alloc: Global, text: &[u8]) -> Result<Option<Outcome>, Mem>
         ensures value { IfOk result (λ found. unwrap_or found (unchanged text.now) ≡ replaces self.old text.now) }
@@ -91,6 +105,18 @@ impl<'r> KeptJob<'r> {
     {
         KeptJob {
             form: KeptForm::Worded(KeptWorded::new(job)),
+        }
+    }
+
+    /// Whether the job hits something in a text.
+    pub(crate) fn finds(&mut self, alloc: Global, text: &[u8], vars: &Vars) -> Result<bool, Mem>
+        ensures miss { IfOk result (λ yes. yes ≡ false → run_job self.old vars.now text.now ≡ unchanged text.now) }
+        ensures hit { IfOk result (λ yes. yes ≡ true → 0 < (run_job self.old vars.now text.now).hits) }
+        ensures same { self.new ≡ self.old }
+    {
+        match &mut self.form {
+            KeptForm::Fixed(replacer) => replacer.finds(alloc, text),
+            KeptForm::Worded(job) => job.finds(alloc, text, vars),
         }
     }
 

@@ -1,5 +1,5 @@
 // An expression that is built, with the parts of its substitute.
-ghost use Rattle.std.specs.Prelude.{◌≡◌, ◌<◌, None, unwrap_or, IfOk, IfSome, MatchOption};
+ghost use Rattle.std.specs.Prelude.{◌≡◌, ◌<◌, false, true, None, unwrap_or, IfOk, IfSome, MatchOption};
 ghost use Rattle.px_subst.specs.Expressions.{expression};
 ghost use Rattle.px_subst.specs.Jobs.{unchanged};
 ghost use Rattle.px_subst.specs.Substitutes.{items_by};
@@ -68,6 +68,16 @@ impl Replacer {
         ensures { IfOk result (IsSearchOf self.now) }
     {
         Search::new(alloc, &self.expression)
+    }
+
+    /// Whether it matches somewhere in a text.
+    pub(crate) fn finds(&self, search: &mut Search<'_>, text: &[u8]) -> bool
+        requires { IsSearchOf self.now search.old }
+        ensures miss { result ≡ false → replaces self.now text.now ≡ unchanged text.now }
+        ensures hit { result ≡ true → 0 < (replaces self.now text.now).hits }
+        ensures same { IsSearchOf self.now search.new }
+    {
+        search.finds(text)
     }
 
     /// What it makes of a text, or None where nothing matches.

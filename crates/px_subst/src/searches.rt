@@ -1,5 +1,5 @@
 // The matches of an expression in a text, one by one, and the text with them replaced.
-ghost use Rattle.std.specs.Prelude.{◌≡◌, ◌++◌, ◌<◌, ◌≤◌, false, [], take, drop, flat_map, length, unwrap_or, None, Some, IfOk, OnOk, IfSome, IfNone};
+ghost use Rattle.std.specs.Prelude.{◌≡◌, ◌++◌, ◌<◌, ◌≤◌, false, [], take, drop, flat_map, length, unwrap_or, is_some, None, Some, IfOk, OnOk, IfSome, IfNone};
 ghost use Rattle.regex_hir.specs.Find.{find};
 ghost use Rattle.regex.specs.Search.{matches_after, LiesWithin};
 ghost use Rattle.regex.specs.Locations.{location_count};
@@ -89,6 +89,16 @@ impl<'r> Search<'r> {
             matcher: expression.matcher(alloc)?,
             places: expression.capture_locations(alloc)?,
         })
+    }
+
+    /// Whether there is a match.
+    pub(crate) fn finds(&mut self, text: &[u8]) -> bool
+        requires { location_count self.old.places ≡ length (matcher_names self.old.matcher) }
+        ensures value { result ≡ is_some (find (matcher_pattern self.old.matcher) text.now 0) }
+        ensures same { matcher_pattern self.new.matcher ≡ matcher_pattern self.old.matcher }
+        ensures room { location_count self.new.places ≡ length (matcher_names self.new.matcher) }
+    {
+        self.matcher.is_match(text)
     }
 
     /// The leftmost match from a place on. Its groups are written to `places`.

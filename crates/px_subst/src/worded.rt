@@ -1,5 +1,5 @@
 // Jobs with the flag `D`, which are built for the values of their words.
-ghost use Rattle.std.specs.Prelude.{◌≡◌, ◌<◌, unwrap_or, IfOk, IfSome};
+ghost use Rattle.std.specs.Prelude.{◌≡◌, ◌<◌, false, true, unwrap_or, IfOk, IfSome};
 ghost use Rattle.px_subst.specs.Jobs.{run_job, unchanged};
 ghost use Rattle.px_subst.specs.Parts.{IsMadeOf, worded_job};
 
@@ -84,6 +84,16 @@ impl<'r> KeptWorded<'r> {
         ensures { result ≡ job.now }
     {
         KeptWorded { job, made: None }
+    }
+
+    /// Whether the job hits something in a text.
+    pub(crate) fn finds(&mut self, alloc: Global, text: &[u8], vars: &Vars) -> Result<bool, Mem>
+        ensures miss { IfOk result (λ yes. yes ≡ false → run_job (worded_job self.old) vars.now text.now ≡ unchanged text.now) }
+        ensures hit { IfOk result (λ yes. yes ≡ true → 0 < (run_job (worded_job self.old) vars.now text.now).hits) }
+        ensures same { self.new ≡ self.old }
+    {
+        let found = self.try_run(alloc, text, vars)?;
+        Ok(found.is_some())
     }
 
     /// What the job makes of a text, or None where it hits nothing. It is built where what is kept isn't of these values.

@@ -1,16 +1,16 @@
 -- Taggers by their places do what those of their names do.
-use Rattle.std.proofs.Common.{◌≡◌, ℕ, List, [], ◌∷◌, map, Option, sym, ap, ◌∙◌, subst, inl, inr}
+use Rattle.std.proofs.Common.{◌≡◌, ℕ, List, [], ◌∷◌, map, None, Option, sym, ap, ◌∙◌, subst, inl, inr}
 use Rattle.std.specs.Prelude.{fold}
 use Rattle.std.proofs.lemmas.List.Folds.{fold-map}
 use Rattle.px_filter_files.specs.FilterFiles.{FiltersOfFiles}
 use Rattle.px_filter_files.specs.Places.{jobs_at_place}
 use Rattle.px_merge.specs.Merged.{Merged}
 use Rattle.px_merge.specs.declared.sides.Side.{Side}
-use Rattle.px_subst.specs.Jobs.{JobParts}
+use Rattle.px_subst.specs.Jobs.{JobParts, run_filter, unchanged}
 use Rattle.px_subst.specs.declared.words.Vars.{Vars}
 use Rattle.px_taggers.specs.Fronts.{IsFront, IsWithinLine, IsWithinTag, IsWithinTaggers}
 use Rattle.px_taggers.specs.Places.{AreInForce, ArePlacesOf, IsWithinPlace, after_place, jobs_named, tag_by}
-use Rattle.px_taggers.specs.Tagging.{Rules, Tagged, after_line, after_tag, after_tagger, in_force, rules, tag_of}
+use Rattle.px_taggers.specs.Tagging.{Rules, Tagged, after_line, after_tag, after_tagger, in_force, rules, tag_in, tag_of}
 use Rattle.px_taggers.proofs.FrontLemmas.{RunsOn, runs_more, runs_stop}
 
 module _ (rules : Rules) (line : List ℕ) where
@@ -47,6 +47,11 @@ module _ (rules : Rules) (line : List ℕ) where
   places_front s names places now are front =
       from_jobs (jobs_named rules.filters rules.side) s names now
       (subst (λ js. IsFront IsWithinJobs after_jobs s js now) are.jobs (to_jobs (jobs_at_place rules.filters) s places now front))
+
+-- what is left as it is makes no tag
+pub no_tag : (jobs : List JobParts) (vars : Vars) (line : List ℕ) → run_filter jobs vars line ≡ unchanged line → None ≡ tag_by jobs vars line
+unfolding tag_by
+no_tag jobs vars line miss = sym (ap tag_in miss)
 
 -- ---- a line's turn, place by place
 

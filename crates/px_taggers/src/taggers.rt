@@ -48,7 +48,7 @@ fn tag_in(found: Option<Outcome>, line: &[u8]) -> Option<Text>
 }
 
 /// The tag that the tagger at a place makes of a line. Where there is no place there is no tag.
-#[tactic(auto, unfolding(crate::specs::Places::tag_by))]
+#[tactic(auto, unfolding(crate::specs::Places::tag_by), using(crate::proofs::PlaceLemmas::no_tag))]
 fn make_tag(
     alloc: Global,
     filters: &mut WarmFilters<'_>,
@@ -62,6 +62,9 @@ fn make_tag(
     let Some(at) = place else {
         return Ok(None);
     };
+    if !filters.finds_at(alloc, at, turn.line, turn.vars)? {
+        return Ok(None);
+    }
     let found = filters.try_run_at(alloc, at, turn.line, turn.vars)?;
     Ok(tag_in(found, turn.line))
 }

@@ -139,7 +139,7 @@ const FIRST: [&str; 10] = [
     "s/a/server tag/",
 ];
 
-/// Asserts that the filter `f` of a kind, run at its place, makes that text of `a`.
+/// Asserts that the filter `f` of a kind, at its place, hits nothing in `-`, and makes that text of `a`.
 fn same_at_place(
     rt: &impl Abort,
     alloc: Global,
@@ -149,6 +149,8 @@ fn same_at_place(
 ) -> Result<(), Fail> {
     match warm.place(kind, b"f") {
         Some(at) => {
+            same(rt, warm.finds_at(alloc, at, b"-", &no_vars(alloc))?, false);
+            same(rt, warm.finds_at(alloc, at, b"a", &no_vars(alloc))?, true);
             let outcome = warm
                 .try_run_at(alloc, at, b"a", &no_vars(alloc))?
                 .ok_or("no hit")?;

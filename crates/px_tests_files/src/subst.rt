@@ -156,6 +156,25 @@ fn runs_jobs_in_order(rt: HostRuntime) -> Result<(), Fail> {
 }
 
 #[test]
+fn a_kept_filter_tells_whether_it_hits(rt: HostRuntime) -> Result<(), Fail> {
+    let alloc = rt.alloc();
+    let filter = filter(alloc, &["s/a/bb/", "s/$host/y/D", "s/c/d/"])?;
+    let mut kept = filter.keep(alloc)?;
+    let vars = vars(alloc, "x")?;
+    let rows = [
+        ("---", false),
+        ("-a-", true),
+        ("-x-", true),
+        ("-c-", true),
+        ("--b", false),
+    ];
+    for (text, hits) in rows {
+        same_at(&rt, text, kept.finds(alloc, text.as_bytes(), &vars)?, hits);
+    }
+    Ok(())
+}
+
+#[test]
 fn a_kept_filter_runs_again_and_again(rt: HostRuntime) -> Result<(), Fail> {
     let alloc = rt.alloc();
     let filter = filter(alloc, &["s/a/bb/g", "s@$host@$path@D", "s/b/c/g"])?;
