@@ -1,17 +1,20 @@
 // What hide-referrer does.
-ghost use Rattle.std.specs.Prelude.{◌≡◌, ◌≤◌, IfOk, length};
+ghost use Rattle.std.specs.Prelude.{◌≡◌, ◌+◌, ◌≤◌, codes, IfOk, IfSome, length};
 ghost use Rattle.std.specs.Char.{is_ascii_digit};
 ghost use Rattle.std.specs.List.{list_all};
+ghost use Rattle.memchr.specs.Find.{first_of, matches};
 ghost use Rattle.px_headers.specs.Referrers.{ends_host, has_foreign_referrer, host_behind, host_len, is_foreign, part_len, root_of, with_hidden_referrer, without_brackets};
 ghost use Rattle.px_headers.specs.Rows.{with_values, without_those};
 
-use crate::rows::{first_place, with_value, without};
+use crate::rows::{with_value, without};
 use px_base::{List, Mem, Text, same_without_case};
-use px_head::{Field, has_name};
+use px_head::{Field, has_field, has_name};
 use px_patterns::Url;
 use std::alloc::Global;
 
 const REFERRER: &[u8] = b"Referer";
+
+const SCHEME: &[u8] = b"http://";
 
 const SCHEME_END: &[u8] = b"://";
 
@@ -81,12 +84,26 @@ fn host_behind(rest: &[u8]) -> &[u8]
     without_brackets(&part[..host_len(part)])
 }
 
+/// The first place at which `://` stands. It mostly stands near the front, so that no search is prepared for it.
+#[tactic(auto, using(crate::proofs::SchemeLemmas::first_here, crate::proofs::SchemeLemmas::first_later, crate::proofs::SchemeLemmas::first_none))]
+fn scheme_end(text: &[u8]) -> Option<usize>
+    ensures value { result ≡ first_of (matches text.now (codes "://") 0) }
+    ensures within { IfSome result (λ at. at + 3 ≤ length text.now) }
+{
+    for at in 0..text.len() {
+        if text[at..].starts_with(SCHEME_END) {
+            return Some(at);
+        }
+    }
+    None
+}
+
 /// Whether a referrer's host differs from this one, or it has no `://`.
 #[tactic(auto, unfolding(crate::specs::Referrers::is_foreign))]
 fn is_foreign(host: &[u8], referrer: &[u8]) -> bool
     ensures { result ≡ is_foreign host.now referrer.now }
 {
-    match first_place(referrer, SCHEME_END) {
+    match scheme_end(referrer) {
         Some(at) => !same_without_case(host_behind(&referrer[at..][SCHEME_END.len()..]), host),
         None => true,
     }
@@ -103,8 +120,9 @@ fn has_foreign_referrer(host: &[u8], field: &Field) -> bool
 fn root_of(alloc: Global, url: &Url) -> Result<Text, Mem>
     ensures { IfOk result (λ root. root ≡ root_of url.now) }
 {
-    let mut root = Text::from_bytes(alloc, b"http://")?;
     let place = url.host_port(alloc)?;
+    let mut root = Text::with_capacity(alloc, place.len().saturating_add(SCHEME.len() + 1))?;
+    root.push_all(SCHEME)?;
     root.push_all(place.as_bytes())?;
     root.push(b'/')?;
     Ok(root)
@@ -141,7 +159,7 @@ fn with_foreign(
 
 /// What a value of hide-referrer makes of fields: `block`, `forge`, `conditional-block`, `conditional-forge`, or a text that
 /// is set.
-#[tactic(auto, unfolding(crate::specs::Referrers::with_hidden_referrer))]
+#[tactic(auto, using(crate::proofs::RowLemmas::hidden_none), unfolding(crate::specs::Referrers::with_hidden_referrer))]
 pub(crate) fn with_hidden_referrer(
     alloc: Global,
     fields: List<Field>,
@@ -150,6 +168,9 @@ pub(crate) fn with_hidden_referrer(
 ) -> Result<List<Field>, Mem>
     ensures { IfOk result (λ changed. changed ≡ with_hidden_referrer url.now value.now fields) }
 {
+    if !has_field(fields.as_slice(), REFERRER) {
+        return Ok(fields);
+    }
     if value == b"block".as_slice() {
         Ok(without(fields, REFERRER))
     } else if value == b"forge".as_slice() {

@@ -1,13 +1,11 @@
 // What header actions do to the fields of a head.
-ghost use Rattle.std.specs.Prelude.{◌≡◌, ◌+◌, ◌≤◌, ◌++◌, ◌∷◌, [], length, IfOk, IfSome, OnOk};
-ghost use Rattle.memchr.specs.Find.{first_of, matches};
+ghost use Rattle.std.specs.Prelude.{◌≡◌, ◌++◌, ◌∷◌, [], IfOk, OnOk};
 ghost use Rattle.px_head.specs.Prints.{field_line};
 ghost use Rattle.px_headers.specs.Rows.{holds, with_more, with_value, without, without_holding};
 
-use memchr::memmem;
 use memchr::memmem::Finder;
 use px_base::{List, Mem, Text};
-use px_head::{Field, has_name};
+use px_head::{Field, has_field, has_name};
 use std::alloc::Global;
 
 /// What stands between a field's name and its value.
@@ -23,8 +21,8 @@ pub(crate) fn without(fields: List<Field>, name: &[u8]) -> List<Field>
     List::from_vec(kept)
 }
 
-/// The fields of that name with this value; none is added.
-#[tactic(auto, unfolding(crate::specs::Rows::with_value))]
+/// The fields of that name with this value; none is added. Where there is none, nothing is moved.
+#[tactic(auto, using(crate::proofs::RowLemmas::with_values_none), unfolding(crate::specs::Rows::with_value))]
 pub(crate) fn with_value(
     alloc: Global,
     fields: List<Field>,
@@ -33,6 +31,9 @@ pub(crate) fn with_value(
 ) -> Result<List<Field>, Mem>
     ensures { IfOk result (λ changed. changed ≡ with_value name.now value.now fields) }
 {
+    if !has_field(fields.as_slice(), name) {
+        return Ok(fields);
+    }
     let mut changed = List::with_capacity(alloc, fields.len())?;
     let mut rest = fields.into_vec().into_iter();
     'fields: while let Some(mut field) = rest.next() {
@@ -52,14 +53,6 @@ pub(crate) fn write_line(line: &mut Text, field: &Field) -> Result<(), Mem>
     line.push_all(field.name.as_bytes())?;
     line.push_all(FIELD_SEPARATOR)?;
     line.push_all(field.value.as_bytes())
-}
-
-/// The first place at which the word stands in the text, with case.
-pub(crate) fn first_place(text: &[u8], word: &[u8]) -> Option<usize>
-    ensures value { result ≡ first_of (matches text.now word.now 0) }
-    ensures within { IfSome result (λ at. at + length word.now ≤ length text.now) }
-{
-    memmem::find(text, word)
 }
 
 /// Whether the word stands in the text, with case.
@@ -92,7 +85,7 @@ pub(crate) fn without_holding(
 }
 
 /// Puts more behind the value of the first field of that name, or adds such a field at the end.
-#[tactic(auto, unfolding(crate::specs::Rows::with_more))]
+#[tactic(auto, using(crate::proofs::RowLemmas::with_more_none), unfolding(crate::specs::Rows::with_more))]
 pub(crate) fn with_more(
     alloc: Global,
     fields: List<Field>,
@@ -102,6 +95,9 @@ pub(crate) fn with_more(
 ) -> Result<List<Field>, Mem>
     ensures { IfOk result (λ changed. changed ≡ with_more name.now separator.now more.now fields) }
 {
+    if !has_field(fields.as_slice(), name) {
+        return with_new(alloc, fields, name, more);
+    }
     let mut found = false;
     let mut changed = List::with_capacity(alloc, fields.len())?;
     let mut rest = fields.into_vec().into_iter();
@@ -113,10 +109,21 @@ pub(crate) fn with_more(
         }
         changed.add(field)?;
     }
-    if !found {
-        push_field(alloc, &mut changed, name, more)?;
-    }
     Ok(changed)
+}
+
+/// The fields with one of that name and value at the end.
+fn with_new(
+    alloc: Global,
+    fields: List<Field>,
+    name: &[u8],
+    value: &[u8],
+) -> Result<List<Field>, Mem>
+    ensures { IfOk result (λ more. more ≡ fields ++ record { name = name.now; value = value.now } ∷ []) }
+{
+    let mut more = fields;
+    push_field(alloc, &mut more, name, value)?;
+    Ok(more)
 }
 
 /// Adds a field of that name and value at the end.

@@ -12,7 +12,7 @@ use crate::kinds::is_text;
 use crate::rows::{with_value, without, without_holding};
 use px_actions::{ActionSet, Kind, lifetime_minutes};
 use px_base::{List, Mem};
-use px_head::{Field, has_name};
+use px_head::{Field, has_field, has_name};
 use std::alloc::Global;
 
 const COOKIE: &[u8] = b"Set-Cookie";
@@ -94,7 +94,7 @@ fn with_limited_cookies(
     }
 }
 
-#[tactic(auto, unfolding(crate::specs::ServerRows::limit_cookies))]
+#[tactic(auto, using(crate::proofs::RowLemmas::limit_none), unfolding(crate::specs::ServerRows::limit_cookies))]
 fn limit_cookies(
     alloc: Global,
     fields: List<Field>,
@@ -103,6 +103,9 @@ fn limit_cookies(
 ) -> Result<List<Field>, Mem>
     ensures { IfOk result (λ changed. changed ≡ limit_cookies set.now moment fields) }
 {
+    if !has_field(fields.as_slice(), COOKIE) {
+        return Ok(fields);
+    }
     if set.is_on(Kind::SessionCookiesOnly) {
         return with_session_cookies(alloc, fields);
     }
