@@ -20,7 +20,7 @@ unfolding field_lines
 lines_more name value fs = refl
 
 -- the whole head, line by line
-pub head_is : (n : Next) → ((((([] ++ (next_line n ++ crlf)) ++ line_of (codes "Host") n.host) ++ field_lines n.fields) ++ field_lines (framing_fields n.rule)) ++ line_of (codes "Connection") (codes "close")) ++ crlf ≡ next_head n
+pub head_is : (n : Next) → (((([] ++ (next_line n ++ crlf)) ++ line_of (codes "Host") n.host) ++ field_lines n.fields) ++ field_lines (framing_fields n.rule)) ++ (line_of (codes "Connection") (codes "close") ++ crlf) ≡ next_head n
 unfolding next_head printed_head
 head_is n =
     let close : List Field = plain_field (codes "Connection") (codes "close") ∷ [] in
@@ -31,5 +31,5 @@ head_is n =
     (lines_join (framing_fields n.rule) close ∙ ap (λ (zs : List ℕ). field_lines (framing_fields n.rule) ++ zs) (line_alone (codes "Connection") (codes "close")))) in
     by (next_line n) (line_of (codes "Host") n.host) (field_lines n.fields) (field_lines (framing_fields n.rule)) (line_of (codes "Connection") (codes "close")) (field_lines (next_fields n)) lines
   where
-    by : (a h f r c all : List ℕ) → all ≡ h ++ (f ++ (r ++ c)) → ((((([] ++ (a ++ crlf)) ++ h) ++ f) ++ r) ++ c) ++ crlf ≡ a ++ crlf ++ all ++ crlf
+    by : (a h f r c all : List ℕ) → all ≡ h ++ (f ++ (r ++ c)) → (((([] ++ (a ++ crlf)) ++ h) ++ f) ++ r) ++ (c ++ crlf) ≡ a ++ crlf ++ all ++ crlf
     by a h f r c all e = rw e (simp append_assoc)

@@ -2,7 +2,7 @@
 ghost use Rattle.std.specs.Prelude.{◌≡◌, ◌++◌, IfOk, OnOk, if◌then◌else◌};
 ghost use Rattle.std.specs.List.{list_any};
 ghost use Rattle.px_head.specs.Prints.{crlf, field_lines};
-ghost use Rattle.px_sending.specs.Heads.{asks_continue, expects_continue as expects_continue_spec, framing_fields, has_body as has_body_spec, line_of, next_head as next_head_spec, next_line, next_minor as next_minor_spec};
+ghost use Rattle.px_sending.specs.Heads.{asks_continue, expects_continue as expects_continue_spec, framing_fields, has_body as has_body_spec, next_head as next_head_spec, next_line, next_minor as next_minor_spec};
 
 use itoa::Buffer;
 use px_base::{Mem, Text, same_without_case};
@@ -79,14 +79,13 @@ fn has_body(rule: BodyRule) -> bool
 pub fn next_head(alloc: Global, next: &NextHead<'_>) -> Result<Text, Mem>
     ensures { IfOk result (λ head. head ≡ next_head_spec next.now) }
 {
-    let mut head = Text::with_capacity(alloc, room_of(next))?;
+    let mut head = Vec::with_capacity(alloc, room_of(next))?;
     push_next_line(&mut head, next)?;
-    push_plain(&mut head, b"Host", next.host)?;
+    push_line(&mut head, b"Host: ", next.host)?;
     push_fields(&mut head, next.fields)?;
     push_framing(&mut head, next.rule)?;
-    push_plain(&mut head, b"Connection", b"close")?;
-    head.push_all(LINE_END)?;
-    Ok(head)
+    head.extend_from_slice(b"Connection: close\r\n\r\n")?;
+    Ok(Text::from_vec(head))
 }
 
 /// Room for the whole head.
@@ -107,20 +106,19 @@ fn room_of(next: &NextHead<'_>) -> usize {
 
 /// Adds the request line with its end.
 #[tactic(auto, unfolding(px_head::specs::Prints::request_line))]
-fn push_next_line(head: &mut Text, next: &NextHead<'_>) -> Result<(), Mem>
-    ensures { OnOk result (head.new ≡ head.old ++ next_line next.now ++ crlf) }
+fn push_next_line(head: &mut Vec<u8>, next: &NextHead<'_>) -> Result<(), Mem>
+    ensures { OnOk result (head.new.items ≡ head.old.items ++ next_line next.now ++ crlf) }
 {
-    head.push_all(next.method)?;
-    head.push(b' ')?;
-    head.push_all(next.target)?;
-    head.push(b' ')?;
-    head.push_all(b"HTTP/1.")?;
-    head.push_all(
+    head.extend_from_slice(next.method)?;
+    head.extend_from_slice(b" ")?;
+    head.extend_from_slice(next.target)?;
+    push_line(
+        head,
+        b" HTTP/1.",
         Buffer::new()
             .format(next_minor(next.downgrade, next.rule))
             .as_bytes(),
-    )?;
-    head.push_all(LINE_END)
+    )
 }
 
 /// The minor version: chunks need HTTP/1.1.
@@ -141,42 +139,43 @@ fn lower(downgrade: bool) -> u8
     if downgrade { 0 } else { 1 }
 }
 
-/// Adds a field's line with its end.
-fn push_plain(head: &mut Text, name: &[u8], value: &[u8]) -> Result<(), Mem>
-    ensures { OnOk result (head.new ≡ head.old ++ line_of name.now value.now) }
+/// Adds a line's start and its rest, with the line's end.
+fn push_line(head: &mut Vec<u8>, start: &[u8], rest: &[u8]) -> Result<(), Mem>
+    ensures { OnOk result (head.new.items ≡ head.old.items ++ (start.now ++ rest.now ++ crlf)) }
 {
-    head.push_all(name)?;
-    head.push_all(FIELD_SEPARATOR)?;
-    head.push_all(value)?;
-    head.push_all(LINE_END)
+    head.extend_from_slice(start)?;
+    head.extend_from_slice(rest)?;
+    head.extend_from_slice(LINE_END)?;
+    Ok(())
 }
 
 /// Adds the lines of fields, each with its end.
 #[tactic(auto, unfolding(px_head::specs::Prints::field_lines))]
-fn push_fields(head: &mut Text, fields: &[Field]) -> Result<(), Mem>
-    ensures { OnOk result (head.new ≡ head.old ++ field_lines fields.now) }
+fn push_fields(head: &mut Vec<u8>, fields: &[Field]) -> Result<(), Mem>
+    ensures { OnOk result (head.new.items ≡ head.old.items ++ field_lines fields.now) }
 {
     for field in fields {
-        push_plain(head, field.name.as_bytes(), field.value.as_bytes())?;
+        head.extend_from_slice(field.name.as_bytes())?;
+        push_line(head, FIELD_SEPARATOR, field.value.as_bytes())?;
     }
     Ok(())
 }
 
 /// Adds the line that says how the body is framed.
 #[tactic(auto, unfolding(px_head::specs::Prints::field_lines))]
-fn push_framing(head: &mut Text, rule: BodyRule) -> Result<(), Mem>
-    ensures { OnOk result (head.new ≡ head.old ++ field_lines (framing_fields rule)) }
+fn push_framing(head: &mut Vec<u8>, rule: BodyRule) -> Result<(), Mem>
+    ensures { OnOk result (head.new.items ≡ head.old.items ++ field_lines (framing_fields rule)) }
 {
     match rule {
         BodyRule::Absent => Ok(()),
         BodyRule::Length(count) => {
-            push_plain(
+            push_line(
                 head,
-                b"Content-Length",
+                b"Content-Length: ",
                 Buffer::new().format(count).as_bytes(),
             )
         }
-        BodyRule::Chunked => push_plain(head, b"Transfer-Encoding", b"chunked"),
+        BodyRule::Chunked => push_line(head, b"Transfer-Encoding: ", b"chunked"),
         BodyRule::ToClose => Ok(()),
     }
 }
