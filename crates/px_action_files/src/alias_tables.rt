@@ -34,7 +34,7 @@ impl Model for AliasTable {
 fn in_small_letters(alloc: Global, name: &[u8]) -> Result<Vec<u8>, Mem>
     ensures { IfOk result (λ key. key.items ≡ str_to_ascii_lowercase name.now) }
 {
-    let mut key = Text::from_bytes(alloc, name)?.into_vec();
+    let mut key = name.to_vec(alloc)?;
     key.as_mut_slice().make_ascii_lowercase();
     Ok(key)
 }

@@ -1,5 +1,5 @@
 // The bytes of a body, taken from its pieces.
-ghost use Rattle.std.specs.Prelude.{◌≡◌, ◌++◌, ◌+◌, length, OnOk, List, ℕ};
+ghost use Rattle.std.specs.Prelude.{◌≡◌, ◌++◌, ◌+◌, length, IfOk, OnOk, List, ℕ};
 ghost use Rattle.px_framing.specs.Passing.{bytes_left};
 ghost use Rattle.px_framing.specs.Reading.{IsSettled, stage_state};
 ghost use Rattle.px_framing.specs.declared.places.State.TheVariants as state;
@@ -50,20 +50,20 @@ pub fn push_formed(
     }
 }
 
-/// The data of a whole body, in the memory of its raw bytes.
-pub fn data_of(rule: BodyRule, raw: Text) -> Text
+/// The data of a whole body, in the memory of its raw bytes where they have some.
+pub fn data_of(rule: BodyRule, raw: Text) -> Result<Text, Mem>
     requires own { AreOwn rule raw }
     requires whole { AreWholeChunks rule raw }
-    ensures { result ≡ (body_of rule raw).plain }
+    ensures { IfOk result (λ plain. plain ≡ (body_of rule raw).plain) }
 {
     match rule {
-        BodyRule::Absent => raw,
-        BodyRule::Length(_) => raw,
+        BodyRule::Absent => Ok(raw),
+        BodyRule::Length(_) => Ok(raw),
         BodyRule::Chunked => {
             body_is_read();
             data_of_whole(raw)
         }
-        BodyRule::ToClose => raw,
+        BodyRule::ToClose => Ok(raw),
     }
 }
 

@@ -39,7 +39,7 @@ fn conclude(
     ensures same { warm.new ≡ warm.old }
 {
     if is_open(framed, raw.len()) && is_whole(state) {
-        let plain = data_of(framed.rule, raw);
+        let plain = data_of(framed.rule, raw)?;
         push_filtered(alloc, warm, vars, framed, plain, out)?;
         Ok(Outcome {
             returned: Returned::Filtered,

@@ -18,6 +18,7 @@ mod mem_files;
 mod numbers;
 mod peers;
 mod ports;
+mod short_texts;
 mod sinks;
 mod sources;
 mod steps;

@@ -1,22 +1,61 @@
 // A list of bytes.
-ghost use Rattle.std.specs.Prelude.{◌≡◌, ◌++◌, ◌∷◌, [], ◌==◌, ◌≤◌, IfOk, OnOk, OnErr, length, take};
+ghost use Rattle.std.specs.Prelude.{◌≡◌, ◌++◌, ◌∷◌, [], ◌==◌, ◌≤◌, IfOk, IfErr, OnOk, OnErr, length, take};
 
 use crate::Mem;
+use crate::short_texts::{ROOM, ShortText};
 use std::alloc::Global;
 use std::marker::Model;
 
-/// A list of bytes, seen as that list. It needn't be UTF-8.
+/// Where the bytes of a text are: in the text itself, or in memory of their own.
 #[derive(Drop)]
+enum Form {
+    Short(ShortText),
+    Long(Vec<u8>),
+}
+
+// A text moves as four words.
+const _: () = prove!(size_of::<Text>() == 32);
+
+/// A list of bytes, seen as that list. It needn't be UTF-8. A short one takes no memory.
 pub struct Text {
-    bytes: Vec<u8>,
+    form: Form,
+    alloc: Global,
+}
+
+// Written out: a derived drop would show both forms wherever a value that holds texts is taken apart.
+impl Drop for Text {
+    fn drop(self) {
+        let Text { form, alloc: _ } = self;
+        drop(form);
+    }
 }
 
 impl Model for Text {
     ghost use Rattle.std.specs.Prelude.{List, ℕ};
+    ghost use Rattle.px_base.specs.Texts.{form_bytes};
 
     ghost Value = { List ℕ };
 
-    ghost view = { λ t. t.bytes.items };
+    ghost view = { λ t. form_bytes t.form };
+}
+
+/// A vector of those bytes, with room for so many more.
+fn grown(alloc: Global, bytes: &[u8], more: usize) -> Result<Vec<u8>, Mem>
+    ensures { IfOk result (λ longer. longer.items ≡ bytes.now) }
+{
+    let room = bytes.len().saturating_add(more).max(2 * ROOM);
+    let mut longer = Vec::with_capacity(alloc, room)?;
+    longer.extend_from_slice(bytes)?;
+    Ok(longer)
+}
+
+/// A vector of the bytes of both.
+fn joined(alloc: Global, front: &[u8], back: &[u8]) -> Result<Vec<u8>, Mem>
+    ensures { IfOk result (λ bytes. bytes.items ≡ front.now ++ back.now) }
+{
+    let mut bytes = grown(alloc, front, back.len())?;
+    bytes.extend_from_slice(back)?;
+    Ok(bytes)
 }
 
 impl Text {
@@ -25,7 +64,8 @@ impl Text {
         ensures { result ≡ [] }
     {
         Text {
-            bytes: Vec::new(alloc),
+            form: Form::Short(ShortText::new()),
+            alloc,
         }
     }
 
@@ -33,8 +73,12 @@ impl Text {
     pub fn with_capacity(alloc: Global, room: usize) -> Result<Text, Mem>
         ensures { IfOk result (λ text. text ≡ []) }
     {
+        if room <= ROOM {
+            return Ok(Text::new(alloc));
+        }
         Ok(Text {
-            bytes: Vec::with_capacity(alloc, room)?,
+            form: Form::Long(Vec::with_capacity(alloc, room)?),
+            alloc,
         })
     }
 
@@ -42,22 +86,46 @@ impl Text {
     pub fn from_vec(bytes: Vec<u8>) -> Text
         ensures { result ≡ bytes.items }
     {
-        Text { bytes }
+        let alloc = *bytes.allocator();
+        Text {
+            form: Form::Long(bytes),
+            alloc,
+        }
     }
 
-    /// The bytes as a vector, which takes no memory.
-    pub fn into_vec(self) -> Vec<u8>
-        ensures { result.items ≡ self }
+    /// The bytes as a vector, which takes memory where the text is short. A refusal is want of memory: it hands the text back.
+    pub fn into_vec(self) -> Result<Vec<u8>, Text>
+        ensures ok { IfOk result (λ bytes. bytes.items ≡ self) }
+        ensures refused { IfErr result (λ back. back ≡ self) }
     {
-        self.bytes
+        let Text { form, alloc } = self;
+        match form {
+            Form::Long(bytes) => Ok(bytes),
+            Form::Short(short) => match short.as_bytes().to_vec(alloc) {
+                Ok(bytes) => Ok(bytes),
+                Err(_) => Err(Text {
+                    form: Form::Short(short),
+                    alloc,
+                }),
+            },
+        }
     }
 
     /// A copy of the bytes.
     pub fn from_bytes(alloc: Global, bytes: &[u8]) -> Result<Text, Mem>
         ensures { IfOk result (λ text. text ≡ bytes.now) }
     {
+        if bytes.len() <= ROOM {
+            let mut short = ShortText::new();
+            short.push_all(bytes);
+            return Ok(Text {
+                form: Form::Short(short),
+                alloc,
+            });
+        }
         Ok(Text {
-            bytes: bytes.to_vec(alloc)?,
+            form: Form::Long(bytes.to_vec(alloc)?),
+            alloc,
         })
     }
 
@@ -65,7 +133,19 @@ impl Text {
     pub fn reserve(&mut self, more: usize) -> Result<(), Mem>
         ensures { self.new ≡ self.old }
     {
-        self.bytes.reserve(more)?;
+        let longer = match &mut self.form {
+            Form::Short(short) => {
+                if more <= ROOM - short.len() {
+                    return Ok(());
+                }
+                grown(self.alloc, short.as_bytes(), more)?
+            }
+            Form::Long(long) => {
+                long.reserve(more)?;
+                return Ok(());
+            }
+        };
+        self.form = Form::Long(longer);
         Ok(())
     }
 
@@ -74,7 +154,20 @@ impl Text {
         ensures ok { OnOk result (self.new ≡ self.old ++ byte ∷ []) }
         ensures err { OnErr result (self.new ≡ self.old) }
     {
-        self.bytes.push(byte)?;
+        let longer = match &mut self.form {
+            Form::Short(short) => {
+                if short.len() < ROOM {
+                    short.push(byte);
+                    return Ok(());
+                }
+                joined(self.alloc, short.as_bytes(), &[byte])?
+            }
+            Form::Long(long) => {
+                long.push(byte)?;
+                return Ok(());
+            }
+        };
+        self.form = Form::Long(longer);
         Ok(())
     }
 
@@ -83,7 +176,20 @@ impl Text {
         ensures ok { OnOk result (self.new ≡ self.old ++ bytes.now) }
         ensures err { OnErr result (self.new ≡ self.old) }
     {
-        self.bytes.extend_from_slice(bytes)?;
+        let longer = match &mut self.form {
+            Form::Short(short) => {
+                if bytes.len() <= ROOM - short.len() {
+                    short.push_all(bytes);
+                    return Ok(());
+                }
+                joined(self.alloc, short.as_bytes(), bytes)?
+            }
+            Form::Long(long) => {
+                long.extend_from_slice(bytes)?;
+                return Ok(());
+            }
+        };
+        self.form = Form::Long(longer);
         Ok(())
     }
 
@@ -91,31 +197,43 @@ impl Text {
     pub fn truncate(&mut self, len: usize)
         ensures { self.new ≡ take len self.old }
     {
-        self.bytes.truncate(len);
+        match &mut self.form {
+            Form::Short(short) => short.truncate(len),
+            Form::Long(long) => long.truncate(len),
+        }
     }
 
     /// Takes all bytes out. The memory is kept for later bytes.
     pub fn clear(&mut self)
         ensures { self.new ≡ [] }
     {
-        self.bytes.clear();
+        match &mut self.form {
+            Form::Short(short) => short.truncate(0),
+            Form::Long(long) => long.clear(),
+        }
     }
 
     pub fn as_bytes(&self) -> &[u8]
         ensures { result.now ≡ self.now }
     {
-        self.bytes.as_slice()
+        match &self.form {
+            Form::Short(short) => short.as_bytes(),
+            Form::Long(long) => long.as_slice(),
+        }
     }
 
     pub fn len(&self) -> usize
         ensures { result ≡ length self.now }
     {
-        self.bytes.len()
+        match &self.form {
+            Form::Short(short) => short.len(),
+            Form::Long(long) => long.len(),
+        }
     }
 
     pub fn is_empty(&self) -> bool
         ensures { result ≡ (length self.now == 0) }
     {
-        self.bytes.is_empty()
+        self.len() == 0
     }
 }

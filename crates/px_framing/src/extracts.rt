@@ -1,5 +1,5 @@
 // The data of whole elements.
-ghost use Rattle.std.specs.Prelude.{◌≡◌, ◌+◌, ◌++◌, ◌<◌, ◌≤◌, length, take, drop, vec_len, IfSome, Some, None, IsTrue, true, List, ℕ};
+ghost use Rattle.std.specs.Prelude.{◌≡◌, ◌+◌, ◌++◌, ◌<◌, ◌≤◌, length, take, drop, vec_len, IfOk, IfSome, Some, None, IsTrue, true, List, ℕ};
 ghost use Rattle.px_framing.specs.Body.{Body, Part};
 ghost use Rattle.px_framing.specs.Elements.{AreWhole};
 ghost use Rattle.px_framing.specs.Extracts.{Divides};
@@ -9,7 +9,7 @@ ghost use Rattle.px_framing.specs.Reading.{is_line};
 use crate::lines::{Line, next_place};
 use crate::places::{Place, State};
 use crate::rules::BodyRule;
-use px_base::{Text, place};
+use px_base::{Mem, Text, place};
 
 /// A line, or some bytes of data, at the front of whole elements.
 #[derive(Clone, Copy)]
@@ -125,12 +125,16 @@ pub fn keep_whole(start: Place, out: &mut Vec<u8>, from: usize)
     out.truncate(len);
 }
 
-/// The data of a whole chunked body, in the memory of its bytes. It takes no memory.
-pub fn data_of_whole(raw: Text) -> Text
+/// The data of a whole chunked body, in the memory of its bytes. Only a short body, which has no memory of its own, takes some.
+pub fn data_of_whole(raw: Text) -> Result<Text, Mem>
     requires { (p : Part) × Body BodyRule.Chunked raw p × (p.state ≡ State.Whole) × (p.used ≡ length raw) }
-    ensures { (p : Part) → Body BodyRule.Chunked raw p → result ≡ p.plain }
+    ensures { IfOk result (λ plain. (p : Part) → Body BodyRule.Chunked raw p → plain ≡ p.plain) }
 {
-    let mut bytes = raw.into_vec();
-    keep_whole(Place::Size, &mut bytes, 0);
-    Text::from_vec(bytes)
+    match raw.into_vec() {
+        Ok(mut bytes) => {
+            keep_whole(Place::Size, &mut bytes, 0);
+            Ok(Text::from_vec(bytes))
+        }
+        Err(_) => Err(Mem),
+    }
 }

@@ -11,6 +11,7 @@
 #![tactic(auto)]
 
 mod advances;
+mod buffers;
 mod codings;
 mod extracts;
 mod laws;

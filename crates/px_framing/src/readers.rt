@@ -5,13 +5,13 @@ ghost use Rattle.px_framing.specs.Reading.{IsSettledAt, Uses, end_state as end_s
 ghost use Rattle.px_framing.specs.Passing.{IsDataOf, Passes, settled};
 
 use crate::advances::{Far, add_settled, append, keep_data, line_room, pass_on};
+use crate::buffers::{take_both, take_bytes};
 use crate::places::State;
 use crate::rules::BodyRule;
 use crate::stages::{Stage, end_state, first_stage, state_of};
 use px_base::{Mem, Text};
 use std::alloc::Global;
 use std::marker::Model;
-use std::mem::replace;
 
 /// What a call of `feed` did.
 #[derive(Clone, Copy, Debug, PartialEq, Eq)]
@@ -130,17 +130,16 @@ impl BodyReader {
         ensures err { OnErr result ((self.new ≡ self.old) × (raw.new ≡ raw.old) × (plain.new ≡ plain.old)) }
     {
         let alloc = *self.kept.allocator();
-        let mut raw_bytes = replace(raw, Text::new(alloc)).into_vec();
-        let mut plain_bytes = replace(plain, Text::new(alloc)).into_vec();
+        let mut taken = take_both(alloc, raw, plain)?;
         let advanced = advance(
             self.stage,
             &mut self.kept,
             piece,
-            &mut raw_bytes,
-            &mut plain_bytes,
+            &mut taken.raw,
+            &mut taken.plain,
         );
-        *raw = Text::from_vec(raw_bytes);
-        *plain = Text::from_vec(plain_bytes);
+        *raw = Text::from_vec(taken.raw);
+        *plain = Text::from_vec(taken.plain);
         match advanced {
             Ok(far) => {
                 self.stage = far.stage;
@@ -171,7 +170,7 @@ impl BodyReader {
         ensures err { OnErr result ((self.new ≡ self.old) × (plain.new ≡ plain.old)) }
     {
         let alloc = *self.kept.allocator();
-        let mut plain_bytes = replace(plain, Text::new(alloc)).into_vec();
+        let mut plain_bytes = take_bytes(alloc, plain)?;
         let advanced = extract(self.stage, &mut self.kept, piece, &mut plain_bytes);
         *plain = Text::from_vec(plain_bytes);
         match advanced {

@@ -1,4 +1,4 @@
-//! Tests of the crates of the outside: objects in memory, the adapters over the system, tunnels, publishing, sockets, generated jobs.
+//! Tests of the crates of the outside: texts, objects in memory, the adapters over the system, tunnels, publishing, sockets, generated jobs.
 #![tactic(auto)]
 
 #[cfg(test)]
@@ -11,6 +11,8 @@ mod generated;
 mod publish;
 #[cfg(test)]
 mod sockets;
+#[cfg(test)]
+mod texts;
 #[cfg(test)]
 mod waiting;
 #[cfg(test)]

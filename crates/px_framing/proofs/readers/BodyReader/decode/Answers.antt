@@ -31,7 +31,7 @@ plain-is : (c : goal.After-state_of) → c.from_vec.result ≡ c.args.plain.now 
 unfolding before after put
 plain-is c =
     let is = c.in-Ok.ensures.plain (data_in (before c) c.args.piece.now) (data-put (before c) (after c) c.args.piece.now (put c) c.in-Ok.far.used c.in-Ok.ensures.passes.passes (settled-before c) (settled-after c)) in
-    rw (c.from_vec.ensures, ← c.replace.ensures.value, ← c.into_vec-plain_bytes.ensures) is
+    rw (c.from_vec.ensures, ← c.in_ok-plain_bytes.ensures.ok) is
 
 pub returns-in-Ok-clause-plain : goal.returns-in-Ok-clause-plain
 returns-in-Ok-clause-plain c = plain-is c ∙ ap (λ (w : List ℕ). c.args.plain.now ++ w) (sym (added-is c.args.plain.now c.from_vec.result _ (plain-is c)))

@@ -25,13 +25,13 @@ put c = settled c.self.inside.kept.items c.args.piece.now c.in-Ok.far.whole
 
 raw-is : (c : goal.After-state_of) → c.from_vec.result ≡ c.args.raw.now ++ put c
 unfolding put
-raw-is c = rw (c.from_vec.ensures, ← c.replace.ensures.value, ← c.into_vec-raw_bytes.ensures) c.in-Ok.ensures.raw
+raw-is c = rw (c.from_vec.ensures, ← c.in_ok-taken.ensures.raw) c.in-Ok.ensures.raw
 
 plain-is : (c : goal.After-state_of) → c.from_vec-2.result ≡ c.args.plain.now ++ data_in (before c) c.args.piece.now
 unfolding before after put
 plain-is c =
     let is = c.in-Ok.ensures.plain (data_in (before c) c.args.piece.now) (data-put (before c) (after c) c.args.piece.now (put c) c.in-Ok.far.used c.in-Ok.ensures.passes.passes (settled-before c) (settled-after c)) in
-    rw (c.from_vec-2.ensures, ← c.replace-2.ensures.value, ← c.into_vec-plain_bytes.ensures) is
+    rw (c.from_vec-2.ensures, ← c.in_ok-taken.ensures.plain) is
 
 pub returns-in-Ok-clause-plain : goal.returns-in-Ok-clause-plain
 returns-in-Ok-clause-plain c = plain-is c ∙ ap (λ (w : List ℕ). c.args.plain.now ++ w) (sym (added-is c.args.plain.now c.from_vec-2.result _ (plain-is c)))
