@@ -1,5 +1,5 @@
 // Fields by their names, the words of Connection fields, and the fields that a proxy doesn't pass on.
-ghost use Rattle.std.specs.Prelude.{◌≡◌, option_copied};
+ghost use Rattle.std.specs.Prelude.{◌≡◌, false, option_copied};
 ghost use Rattle.px_head.specs.Names.{has_name as has_name_spec, has_field as has_field_spec, first_field as first_field_spec, lists_word as lists_word_spec, is_connection_word as is_connection_word_spec, is_among, connection_names, request_names, is_held_back_of_request as is_held_back_of_request_spec, is_held_back_of_response as is_held_back_of_response_spec};
 
 use crate::fields::Field;
@@ -57,7 +57,7 @@ pub fn is_connection_word(word: &[u8], fields: &[Field]) -> bool
 pub fn is_held_back_of_request(name: &[u8]) -> bool
     ensures { result ≡ is_held_back_of_request_spec name.now }
 {
-    is_connection_name(name) || is_request_name(name)
+    has_held_back_length(name) && (is_connection_name(name) || is_request_name(name))
 }
 
 /// Whether a field of that name isn't passed on of a response: Connection, Proxy-Connection, Keep-Alive, TE, Trailer,
@@ -66,7 +66,26 @@ pub fn is_held_back_of_request(name: &[u8]) -> bool
 pub fn is_held_back_of_response(name: &[u8]) -> bool
     ensures { result ≡ is_held_back_of_response_spec name.now }
 {
-    is_connection_name(name)
+    has_held_back_length(name) && is_connection_name(name)
+}
+
+/// Whether a name that is held back has the length of this one: most fields have another, and cost no more than that.
+fn has_held_back_length(name: &[u8]) -> bool
+    ensures of_connection { result ≡ false → is_among connection_names name.now ≡ false }
+    ensures of_request { result ≡ false → is_among request_names name.now ≡ false }
+{
+    match name.len() {
+        2 => true,
+        4 => true,
+        6 => true,
+        7 => true,
+        10 => true,
+        14 => true,
+        16 => true,
+        17 => true,
+        19 => true,
+        _ => false,
+    }
 }
 
 /// Whether fields of that name speak of one connection alone (RFC 9110, section 7.6.1), or it is Content-Length. A name is

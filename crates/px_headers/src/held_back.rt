@@ -1,5 +1,6 @@
 // The fields that a proxy doesn't pass on.
 ghost use Rattle.std.specs.Prelude.{◌≡◌, ◌++◌, IfOk, OnOk};
+ghost use Rattle.std.specs.Str.{str_eq_ignore_ascii_case};
 ghost use Rattle.px_head.specs.Names.{is_among};
 ghost use Rattle.px_headers.specs.HeldBack.{is_fixed, is_held, passed_on, words_in, IsHeldBackOf};
 
@@ -66,13 +67,18 @@ impl HeldBack {
     }
 }
 
+/// Whether the word is that name, without case. The lengths come first, so that most names cost no call.
+fn is_name(word: &Text, name: &[u8]) -> bool
+    ensures { result ≡ str_eq_ignore_ascii_case word.now name.now }
+{
+    word.len() == name.len() && same_without_case(word.as_bytes(), name)
+}
+
 /// Whether the name is one of the words, without case.
 fn is_among(words: &[Text], name: &[u8]) -> bool
     ensures { result ≡ is_among words.now name.now }
 {
-    words
-        .iter()
-        .any(|word| same_without_case(word.as_bytes(), name))
+    words.iter().any(|word| is_name(word, name))
 }
 
 /// The fields that may be passed on of a message that has these and holds back so.
