@@ -23,6 +23,8 @@ use Rattle.px_pumps.specs.declared.notes.Ending.TheVariants as ending
 use Rattle.px_pumps.specs.declared.dues.Due.{Due}
 use Rattle.px_pumps.specs.declared.flows.Flow.{Flow}
 use Rattle.px_pumps.specs.declared.flows.Flow.TheVariants as flow
+use Rattle.px_pumps.specs.declared.pumps.Front.{Front}
+use Rattle.px_pumps.specs.declared.pumps.Front.TheVariants as fronts
 use Rattle.px_pumps.specs.declared.pumps.Heading.{Heading}
 use Rattle.px_pumps.specs.declared.pumps.Stage.{Stage}
 use Rattle.px_pumps.specs.declared.pumps.Stage.TheVariants as stage
@@ -41,6 +43,11 @@ AnswerShows ask bytes seen = ShowsOnly most_heads ask.method bytes seen
 pub record Pumping : Type 0 where
   pub config : Config
   pub stage : Stage
+
+-- the bytes at whose front heads are read
+abbrev pub front_bytes : Front → List ℕ
+front_bytes (fronts.Piece piece) = piece.now
+front_bytes (fronts.Held held) = held
 
 -- a machine behind a head: what it says of the bytes that it was fed and has put out
 pub record PassageAfter (w : Work) (f : Framed) (rest put : List ℕ) (p : Passaging) : Type 0 where

@@ -24,6 +24,9 @@ use std::alloc::Global;
 /// room has to be cleared for them.
 const FIRST_PIECE: usize = 2_048;
 
+/// Room for what such an answer becomes: what is added to its head is shorter.
+const FIRST_ROOM: usize = FIRST_PIECE + 128;
+
 /// Feeds a piece, and writes what comes out.
 fn feed_on<O: Sink>(
     pump: &mut Pump<'_>,
@@ -172,6 +175,16 @@ fn pass_rest<I: Source, O: Sink>(
     }
 }
 
+/// No bytes yet, with room for a short answer where there is memory for it; else the room is taken as bytes come.
+fn first_room(alloc: Global) -> Text
+    ensures { result ≡ [] }
+{
+    match Text::with_capacity(alloc, FIRST_ROOM) {
+        Ok(room) => room,
+        Err(Mem) => Text::new(alloc),
+    }
+}
+
 /// Reads an answer to its end, and returns it to the client, each piece before the next is read.
 fn pass_on<I: Source, O: Sink>(
     alloc: Global,
@@ -185,7 +198,7 @@ fn pass_on<I: Source, O: Sink>(
     ensures heard { HeardOut pump.old (I.state link_in.old) (I.state link_in.new) (O.state client_out.old) (O.state client_out.new) warm.old warm.new result }
 {
     let mut buf = [0u8; FIRST_PIECE];
-    let mut out = Text::new(alloc);
+    let mut out = first_room(alloc);
     match pass_piece(pump, warm, &mut buf, &mut out, link_in, client_out) {
         Some(talked) => talked,
         None => pass_rest(pump, warm, &mut out, link_in, client_out),

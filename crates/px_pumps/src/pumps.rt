@@ -9,7 +9,7 @@ ghost use Rattle.px_pumps.specs.declared.dues.Due as due;
 ghost use Rattle.px_pumps.specs.Answering.{Ask, most_heads};
 ghost use Rattle.px_pumps.specs.Asking.{ask_of};
 ghost use Rattle.px_pumps.specs.Heads.{Leads, heads_room};
-ghost use Rattle.px_pumps.specs.Pumps.{added, EndsAnswer, flow_at, flow_by, held_at, IsOfAnswer, IsSettled, keeps_at, keeps_by, PassageAfter, pieces_left, PumpAfter, Pumped, SoFar, StageAfter, StaysAtEnd};
+ghost use Rattle.px_pumps.specs.Pumps.{added, EndsAnswer, flow_at, flow_by, front_bytes, held_at, IsOfAnswer, IsSettled, keeps_at, keeps_by, PassageAfter, pieces_left, PumpAfter, Pumped, SoFar, StageAfter, StaysAtEnd};
 
 use crate::flows::Flow;
 use crate::framings::{Settled, settle};
@@ -93,6 +93,47 @@ impl Stage {
     }
 }
 
+/// The bytes at whose front heads are read: those of the first piece as they came, or those that are held.
+#[derive(Drop)]
+pub enum Front<'p> {
+    Piece(&'p [u8]),
+    Held(Text),
+}
+
+impl<'p> Front<'p> {
+    /// The bytes that are held with a piece behind them. Where none are held the piece is not copied.
+    fn joined(held: Text, piece: &'p [u8]) -> Result<Front<'p>, Mem>
+        ensures { IfOk result (λ front. front_bytes front ≡ held ++ piece.now) }
+    {
+        if held.is_empty() {
+            return Ok(Front::Piece(piece));
+        }
+        let mut held = held;
+        held.push_all(piece)?;
+        Ok(Front::Held(held))
+    }
+
+    fn as_bytes(&self) -> &[u8]
+        ensures { result.now ≡ front_bytes self.now }
+    {
+        match self {
+            Front::Piece(piece) => piece,
+            Front::Held(held) => held.as_bytes(),
+        }
+    }
+
+    /// The bytes from there on, to be held. Those of a piece are copied, held ones only where there are others before them.
+    fn hold_from(self, alloc: Global, from: usize) -> Result<Text, Mem>
+        requires { from ≤ length (front_bytes self) }
+        ensures { IfOk result (λ rest. rest ≡ drop from (front_bytes self.entry)) }
+    {
+        match self {
+            Front::Piece(piece) => Text::from_bytes(alloc, &piece[from..]),
+            Front::Held(held) => bytes_from(alloc, held, from),
+        }
+    }
+}
+
 /// The bytes from there on.
 fn bytes_from(alloc: Global, held: Text, from: usize) -> Result<Text, Mem>
     requires { from ≤ length held }
@@ -125,41 +166,38 @@ fn begin_behind(
     Ok(passage)
 }
 
-/// Goes on from bytes that are held, the last of them new.
+/// Goes on from the bytes at whose front heads are read, the last of them new; with the first head at most `left` are read.
 fn pass_heads(
     alloc: Global,
     config: &Config,
     warm: &mut Warm<'_>,
-    heading: Heading,
+    asked: Asked,
+    left: u8,
+    front: Front<'_>,
+    search: HeadSearch,
     out: &mut Text,
 ) -> Result<Stage, Mem>
-    requires begins { BeginsSearched HEAD_LIMIT heading.held heading.search }
+    requires begins { BeginsSearched HEAD_LIMIT (front_bytes front) search }
     requires sections { warm.old.sections ≡ config.now.sections }
     requires filters { warm.old.filters ≡ config.now.filters }
-    ensures after { IfOk result (λ next. (ask : Ask) (fed : List ℕ) → ask ≡ ask_of config.now heading.asked ask.page_due → Leads most_heads ask.method fed heading.left heading.held
+    ensures after { IfOk result (λ next. (ask : Ask) (fed : List ℕ) → ask ≡ ask_of config.now asked ask.page_due → Leads most_heads ask.method fed left (front_bytes front.entry)
         → StageAfter ask fed (added out.old out.new) config.now next) }
     ensures grows { IfOk result (λ _. out.new ≡ out.old ++ added out.old out.new) }
     ensures settled { IfOk result (IsSettled config.now) }
-    ensures pieces { IfOk result (λ next. (count : ℕ) → count < length heading.held → count < HEAD_LIMIT → flow_at next ≡ Flow.More
-        → pieces_left next < 2 ^ 64 + heads_room heading.left count) }
+    ensures pieces { IfOk result (λ next. (count : ℕ) → count < length (front_bytes front.entry) → count < HEAD_LIMIT → flow_at next ≡ Flow.More
+        → pieces_left next < 2 ^ 64 + heads_room left count) }
     ensures same_sections { warm.new.sections ≡ warm.old.sections }
     ensures same_filters { warm.new.filters ≡ warm.old.filters }
 {
-    let Heading {
-        asked,
-        left,
-        held,
-        search,
-    } = heading;
     match read_heads(
         alloc,
         asked.method.as_bytes(),
         left,
-        held.as_bytes(),
+        front.as_bytes(),
         search,
     )? {
         HeadsRead::Waiting { left, from, search } => {
-            let held = bytes_from(alloc, held, from)?;
+            let held = front.hold_from(alloc, from)?;
             Ok(Stage::Heading(Heading {
                 asked,
                 left,
@@ -174,7 +212,7 @@ fn pass_heads(
                 alloc,
                 &mut warm.filters,
                 settled,
-                &held.as_bytes()[from..],
+                &front.as_bytes()[from..],
                 out,
             )?;
             Ok(Stage::Behind(passage))
@@ -211,15 +249,8 @@ fn advance(
                 held,
                 search,
             } = heading;
-            let mut held = held;
-            held.push_all(piece)?;
-            let heading = Heading {
-                asked,
-                left,
-                held,
-                search,
-            };
-            let next = pass_heads(alloc, config, warm, heading, out)?;
+            let front = Front::joined(held, piece)?;
+            let next = pass_heads(alloc, config, warm, asked, left, front, search, out)?;
             Ok(next)
         }
         Stage::Behind(passage) => {

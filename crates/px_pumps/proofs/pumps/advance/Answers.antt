@@ -1,10 +1,11 @@
 use Rattle.px_pumps.proofs.PumpLemmas.{behind_more, fed_more, heads_more}
+use Rattle.px_pumps.specs.Pumps.{front_bytes}
 use Rattle.px_pumps.proofs.pumps.advance.Goals as goal
 
 pub returns-in_ok-next-in-Heading-clause-after : goal.returns-in_ok-next-in-Heading-clause-after
 returns-in_ok-next-in-Heading-clause-after c ask fed put h =
-    heads_more ask fed put c.args.piece.now _ c.push_all.new.self c.args.config.now c.in-Heading.heading c.in_ok-next-in-Heading.next (rw c.in-Heading.is at h)
-    c.in_ok-push_all-in-Heading.ensures.ok c.in_ok-next-in-Heading.ensures.after
+    heads_more ask fed put c.args.piece.now _ (front_bytes c.in_ok-front-in-Heading.front) c.args.config.now c.in-Heading.heading c.in_ok-next-in-Heading.next (rw c.in-Heading.is at h)
+    c.in_ok-front-in-Heading.ensures c.in_ok-next-in-Heading.ensures.after
 
 pub returns-in_ok-feed-in-Behind-clause-after : goal.returns-in_ok-feed-in-Behind-clause-after
 returns-in_ok-feed-in-Behind-clause-after c ask fed put h =
