@@ -6,11 +6,23 @@ use itoa::Buffer;
 use px_base::{LinkNote, Mem, Text};
 use std::alloc::Global;
 
+/// Room for what those links print, so that it is taken once: a port, a number of bytes and what stands between them are shorter than 32.
+fn room_of(links: &[LinkNote]) -> usize {
+    let mut room = 0usize;
+    for link in links {
+        room = room
+            .saturating_add(link.host.len())
+            .saturating_add(link.sent.len())
+            .saturating_add(32);
+    }
+    room
+}
+
 /// For each link in order: the host as dialled, a colon, the port, a space, the number of bytes sent, LF, and those bytes.
 fn print_sent(alloc: Global, links: &[LinkNote]) -> Result<Text, Mem>
     ensures { IfOk result (λ text. text ≡ sent_text links.now) }
 {
-    let mut text = Text::new(alloc);
+    let mut text = Text::with_capacity(alloc, room_of(links))?;
     'links: for link in links {
         print_entry(link, &mut text)?;
     }
