@@ -71,7 +71,8 @@ impl ShortText {
     }
 
     pub(crate) fn as_bytes(&self) -> &[u8]
-        ensures { result.now ≡ self.now }
+        ensures is { result.now ≡ self.now }
+        ensures within { length result.now ≤ ROOM }
     {
         &self.bytes[..self.len as usize]
     }

@@ -93,10 +93,12 @@ impl Text {
         }
     }
 
-    /// The bytes as a vector, which takes memory where the text is short. A refusal is want of memory: it hands the text back.
+    /// The bytes as a vector, which takes memory where the text is short. A refusal is want of memory: it hands the text back,
+    /// and comes only for a text of at most 30 bytes.
     pub fn into_vec(self) -> Result<Vec<u8>, Text>
         ensures ok { IfOk result (λ bytes. bytes.items ≡ self) }
         ensures refused { IfErr result (λ back. back ≡ self) }
+        ensures short { IfErr result (λ back. length back ≤ 30) }
     {
         let Text { form, alloc } = self;
         match form {
