@@ -9,7 +9,7 @@ use Rattle.px_head.specs.Blocks.{is_empty_line, NoFeed, IsLine, IsEmptyLine, IsF
 use Rattle.px_head.proofs.LineLemmas.{feed-join}
 
 -- a byte that passes the test isn't one that doesn't
-differs : (test : ℕ → Bool) (a b : ℕ) → test a ≡ false → test b ≡ true → (b == a) ≡ false
+pub differs : (test : ℕ → Bool) (a b : ℕ) → test a ≡ false → test b ≡ true → (b == a) ≡ false
 differs test a b miss hit = at (b == a) refl
   where
     at : (c : Bool) → (b == a) ≡ c → (b == a) ≡ false

@@ -7,3 +7,4 @@ pub mod SearchLemmas
 pub mod GrammarBlocks
 pub mod Fits
 pub mod HeadLemmas
+pub mod ReadBackLemmas

@@ -5,4 +5,5 @@ pub mod Fields
 pub mod Heads
 pub mod Names
 pub mod Prints
+pub mod ReadBack
 pub mod Searches

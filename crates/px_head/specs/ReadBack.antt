@@ -1,0 +1,9 @@
+-- Fields whose lines read back as they are (RFC 9112, section 5).
+use Rattle.std.specs.Prelude.{◌≡◌, Some}
+use Rattle.px_head.specs.FieldLines.{read_field}
+use Rattle.px_head.specs.Prints.{field_line}
+use Rattle.px_head.specs.declared.fields.Field.{Field}
+
+-- the line that the field prints reads as the field itself
+abbrev pub ReadsBack : Field → Type 0
+ReadsBack f = read_field (field_line f) ≡ Some f
