@@ -1,6 +1,7 @@
 -- The fields that a proxy doesn't pass on (RFC 9110, section 7.6.1).
-use Rattle.std.specs.Prelude.{◌≡◌, ℕ, Bool, ◌==◌, ◌||◌, List, filter, map, codes}
+use Rattle.std.specs.Prelude.{◌≡◌, ℕ, Bool, ◌==◌, ◌||◌, not, List, filter, map, codes}
 use Rattle.std.specs.List.{flat_map, slice_split}
+use Rattle.std.specs.Str.{str_eq_ignore_ascii_case}
 use Rattle.px_base.specs.Blanks.{trimmed}
 use Rattle.px_head.specs.declared.fields.Field.{Field}
 use Rattle.px_head.specs.Names.{has_name, is_among, is_connection_word, is_held_back_of_request, is_held_back_of_response}
@@ -22,15 +23,19 @@ is_held_back message fields name = is_fixed message name || is_connection_word n
 unfoldable pub passed_on : Message → List Field → List Field
 passed_on message fields = without_those (λ f. is_held_back message fields f.name) fields
 
--- the words of a list between commas, without the white space around them (44 is the comma)
-abbrev pub words_in : List ℕ → List (List ℕ)
-words_in value = map (λ part. trimmed part) (slice_split (λ b. b == 44) value)
+-- the word may name a field that isn't held back without it: Keep-Alive is held back of every message
+abbrev pub names_more : List ℕ → Bool
+names_more word = not (str_eq_ignore_ascii_case word (codes "Keep-Alive"))
 
--- the words of the Connection fields
+-- those words of a list between commas, without the white space around them (44 is the comma)
+abbrev pub words_in : List ℕ → List (List ℕ)
+words_in value = filter names_more (map (λ part. trimmed part) (slice_split (λ b. b == 44) value))
+
+-- those words of the Connection fields
 abbrev pub connection_words : List Field → List (List ℕ)
 connection_words fields = flat_map (λ (f : Field). words_in f.value) (filter (has_name (codes "Connection")) fields)
 
--- a name is a fixed one, or one of these words
+-- a name is a fixed one, or one of those words
 abbrev pub is_held : HeldBack → List ℕ → Bool
 is_held held name = is_fixed held.message name || is_among held.words name
 

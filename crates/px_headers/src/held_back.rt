@@ -2,11 +2,14 @@
 ghost use Rattle.std.specs.Prelude.{◌≡◌, ◌++◌, IfOk, OnOk};
 ghost use Rattle.std.specs.Str.{str_eq_ignore_ascii_case};
 ghost use Rattle.px_head.specs.Names.{is_among};
-ghost use Rattle.px_headers.specs.HeldBack.{is_fixed, is_held, passed_on, words_in, IsHeldBackOf};
+ghost use Rattle.px_headers.specs.HeldBack.{is_fixed, is_held, names_more, passed_on, words_in, IsHeldBackOf};
 
 use px_base::{List, Mem, Text, cut, same_without_case, trim};
 use px_head::{Field, has_name, is_held_back_of_request, is_held_back_of_response};
 use std::alloc::Global;
+
+/// A field that is held back of every message, and that the Connection fields of most requests name.
+const KEEP_ALIVE: &[u8] = b"Keep-Alive";
 
 /// What a head belongs to.
 #[derive(Clone, Copy, Debug, PartialEq, Eq)]
@@ -19,7 +22,7 @@ pub(crate) enum Message {
 #[derive(Drop)]
 pub(crate) struct HeldBack {
     pub(crate) message: Message,
-    /// The words of its Connection fields.
+    /// The words of its Connection fields but Keep-Alive, which is a fixed name.
     words: List<Text>,
 }
 
@@ -32,14 +35,24 @@ fn is_fixed(message: Message, name: &[u8]) -> bool
     }
 }
 
-/// Adds the words of a list between commas, without the white space around them.
+/// Whether a word may name a field that isn't held back without it: Keep-Alive, the word that clients send, is held back anyway.
+fn names_more(word: &[u8]) -> bool
+    ensures { result ≡ names_more word.now }
+{
+    !same_without_case(word, KEEP_ALIVE)
+}
+
+/// Adds the words of a list between commas that may name more fields, without the white space around them.
 fn add_words(alloc: Global, value: &[u8], words: &mut List<Text>) -> Result<(), Mem>
     ensures { OnOk result (words.new ≡ words.old ++ words_in value.now) }
 {
     let mut rest = Some(value);
     'words: while let Some(bytes) = rest {
         let (first, more) = cut(bytes, b',');
-        words.add(Text::from_bytes(alloc, trim(first))?)?;
+        let word = trim(first);
+        if names_more(word) {
+            words.add(Text::from_bytes(alloc, word)?)?;
+        }
         rest = more;
     }
     Ok(())
@@ -81,11 +94,19 @@ fn is_among(words: &[Text], name: &[u8]) -> bool
     words.iter().any(|word| is_name(word, name))
 }
 
-/// The fields that may be passed on of a message that has these and holds back so.
+/// The fields that may be passed on of a message that has these and holds back so. The fields behind one that goes move up at
+/// once: mostly two go, and a head has no more than 128.
 pub(crate) fn pass_on(fields: List<Field>, held: &HeldBack) -> List<Field>
     ensures { (message : _) → IsHeldBackOf message fields held.now → result ≡ passed_on message fields }
 {
     let mut kept = fields.into_vec();
-    kept.retain(|field| !held.holds(field.name.as_bytes()));
+    let mut at = 0;
+    'fields: while at < kept.len() {
+        if held.holds(kept[at].name.as_bytes()) {
+            drop(kept.remove(at));
+        } else {
+            at += 1;
+        }
+    }
     List::from_vec(kept)
 }
