@@ -1,5 +1,6 @@
 // What the answer's own head settles, by a configuration and by what was asked.
-ghost use Rattle.std.specs.Prelude.{◌≡◌, ◌++◌, codes, drop, IfOk, OnOk};
+ghost use Rattle.std.specs.Prelude.{◌≡◌, ◌++◌, ◌==◌, ◌&&◌, codes, drop, length, not, IfOk, OnOk};
+ghost use Rattle.px_headers.specs.Kinds.{is_text};
 ghost use Rattle.px_merge.specs.declared.sides.Side.TheVariants as side;
 ghost use Rattle.px_taggers.specs.Tagging.{TagsLike};
 ghost use Rattle.px_pumps.specs.Asking.{as_version_1_1, framed_by, framed_of, received_lines, response_set, returned_lines, terms_of};
@@ -9,7 +10,7 @@ use px_answers::{Asked, BodyPlan, Framed, HeaderLines, Terms};
 use px_base::{List, Mem, Text};
 use px_config::{Config, Warm};
 use px_framing::BodyRule;
-use px_head::ResponseHead;
+use px_head::{Field, ResponseHead};
 use px_headers::{ServerOut, is_text, server_headers};
 use px_merge::Side;
 use px_subst::Vars;
@@ -129,6 +130,13 @@ fn returned_lines(alloc: Global, out: ServerOut) -> Result<HeaderLines, Mem>
     })
 }
 
+/// Whether an answer with these fields is a text to which a filter is applied. Without a filter its content type isn't looked at.
+fn is_filtered_text(filters: &[Text], fields: &[Field], set: &ActionSet) -> bool
+    ensures { result ≡ (not (length filters.now == 0) && is_text set.now fields.now) }
+{
+    !filters.is_empty() && is_text(fields, set)
+}
+
 /// What a head settles. The store lent is that of the configuration.
 #[tactic(auto, unfolding(crate::specs::Asking::framed_of))]
 pub fn settle(
@@ -156,11 +164,12 @@ pub fn settle(
         moment,
     } = asked;
     let set = response_set(alloc, config, warm, set, tags, &head, &vars)?;
+    let filters = copy_texts(alloc, set.values(Kind::Filter))?;
     let terms = Terms {
         minor,
         keep,
-        text: is_text(head.fields.as_slice(), &set),
-        filters: copy_texts(alloc, set.values(Kind::Filter))?,
+        text: is_filtered_text(filters.as_slice(), head.fields.as_slice(), &set),
+        filters,
         limit: config.settings.buffer_limit,
     };
     let plan = BodyPlan::new(alloc, &config.filters, &head, rule, terms)?;
