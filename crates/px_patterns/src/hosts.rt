@@ -306,15 +306,18 @@ fn without_last_text<'a>(text: &[u8], bytes: &'a [u8]) -> Option<Rest<'a>>
     Some(Rest::Labels(&bytes[..start - 1]))
 }
 
-/// Whether bytes are a text, without case, and a label: no dot stands in them.
+/// Whether bytes are a text, without case, and a label: no dot stands in them. A walk from their end takes less time.
 fn is_label(text: &[u8], bytes: &[u8]) -> bool
     requires { length text.now ≡ length bytes.now }
     ensures { result ≡ is_label text.now bytes.now }
 {
-    for (at, byte) in bytes.iter().enumerate() {
-        if !is_in_label(text[at], *byte) {
+    let mut end = bytes.len();
+    'bytes: while end > 0 {
+        let at = end - 1;
+        if !is_in_label(text[at], bytes[at]) {
             return false;
         }
+        end = at;
     }
     true
 }
