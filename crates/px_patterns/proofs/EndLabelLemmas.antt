@@ -5,7 +5,7 @@ use Rattle.std.specs.Char.{eq_ignore_ascii_case, to_ascii_lowercase}
 use Rattle.std.specs.List.{list_any, onto_first}
 use Rattle.std.specs.Str.{str_eq_ignore_ascii_case}
 use Rattle.std.proofs.Math.Seq.{drop-append-add, get_or-append_seam, take-append_seam}
-use Rattle.std.proofs.lemmas.Bool.{and_parts, cases_Bool, eqb-true, not-true, or_from, or_parts}
+use Rattle.std.proofs.lemmas.Bool.{and_parts, both_ways, cases_Bool, eqb-true, not-true, or_from, or_parts}
 use Rattle.std.proofs.lemmas.List.{drop_all, drop_more, length-map, take-append-drop, take_all, take_rest}
 use Rattle.std.proofs.lemmas.Slice.Eq.{bytes_eq-Decides}
 use Rattle.px_patterns.specs.declared.TheConstants.{DOT}
@@ -27,6 +27,21 @@ label_at text bytes at in_text within =
 pub label_past : (text bytes : List ℕ) (at : ℕ) → length text ≤ at → length bytes ≤ at → is_label (drop at text) (drop at bytes) ≡ true
 unfolding is_label
 label_past text bytes at past_text past = ap (λ l. is_label l (drop at bytes)) (drop_all at text past_text) ∙ ap (is_label []) (drop_all at bytes past)
+
+-- what doesn't hold of the ends doesn't hold of the whole
+label_tail : (text bytes : List ℕ) (at : ℕ) → is_label text bytes ≡ true → is_label (drop at text) (drop at bytes) ≡ true
+unfolding is_label
+label_tail text bytes zero is = is
+label_tail [] [] (suc at) is = refl
+label_tail [] (b ∷ bytes) (suc at) is = absurd (cc is)
+label_tail (a ∷ text) [] (suc at) is = absurd (cc is)
+label_tail (a ∷ text) (b ∷ bytes) (suc at) is = label_tail text bytes at (and_parts (is_in_label a b) (is_label text bytes) is).1
+
+pub label_fails : (text bytes : List ℕ) (at : ℕ) → is_label (drop at text) (drop at bytes) ≡ false → is_label text bytes ≡ false
+label_fails text bytes at fails = elim (cases_Bool (is_label text bytes)) [
+  | inl does ↦ absurd (both_ways (is_label (drop at text) (drop at bytes)) fails (label_tail text bytes at does))
+  | inr not_so ↦ not_so
+]
 
 -- ---- labels hold no dot
 

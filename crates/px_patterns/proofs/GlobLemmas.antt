@@ -69,6 +69,12 @@ pub glob-run : (items : List Item) (label : List ℕ) → glob_matches (AnyRun �
 unfolding glob_matches
 glob-run items label = refl
 
+-- a `*` with no item behind it matches each label
+pub run-last : (items : List Item) (label : List ℕ) → length items ≡ 0 → glob_matches (AnyRun ∷ items) label ≡ true
+unfolding glob_matches
+run-last [] label none = subst (λ (l : List ℕ). some_tail (glob_matches []) l ≡ true) (append-nil label) (some_tail-at (glob_matches []) label [] refl)
+run-last (item ∷ items) label none = absurd (omega (arith, none))
+
 -- a cut of a label that the glob matches
 pub cut-from-glob : (items : List Item) (label : List ℕ) → glob_matches items label ≡ true → CanBeCut items label
 unfolding glob_matches

@@ -3,7 +3,7 @@ use Rattle.std.proofs.Common.{◌≡◌, ℕ, ◌+◌, ◌<◌, ◌≤◌, ◌�
 use Rattle.std.specs.Prelude.{◌==◌, slice_get, slice_index_or}
 use Rattle.std.specs.List.{list_any, onto_first}
 use Rattle.std.specs.Str.{str_eq_ignore_ascii_case}
-use Rattle.std.proofs.lemmas.Bool.{and_from, both_ways, and_parts, cases_Bool, false≢true}
+use Rattle.std.proofs.lemmas.Bool.{and_from, both_ways, and_parts, cases_Bool, eqb-false, eqb-true, false≢true, ne_eqb}
 use Rattle.std.proofs.lemmas.List.{drop_all, drop_more, length-drop}
 use Rattle.std.proofs.lemmas.List.Splits.{length-slice_split, slice_split_none}
 use Rattle.px_base.specs.Cuts.{parts_of}
@@ -127,12 +127,12 @@ past_end open_end (label ∷ labels) some = refl
 
 -- ---- from the front
 
-pub match-cons : (open_end : Bool) (pattern : LabelPattern) (patterns : List LabelPattern) (label : List ℕ) (labels : List (List ℕ)) →
+match-cons : (open_end : Bool) (pattern : LabelPattern) (patterns : List LabelPattern) (label : List ℕ) (labels : List (List ℕ)) →
     labels_match open_end (pattern ∷ patterns) (label ∷ labels) ≡ (label_matches pattern label && labels_match open_end patterns labels)
 unfolding labels_match
 match-cons open_end pattern patterns label labels = refl
 
-pub match-short : (open_end : Bool) (patterns : List LabelPattern) → 0 < length patterns → labels_match open_end patterns [] ≡ false
+match-short : (open_end : Bool) (patterns : List LabelPattern) → 0 < length patterns → labels_match open_end patterns [] ≡ false
 unfolding labels_match
 match-short open_end [] some = absurd (omega arith)
 match-short open_end (pattern ∷ patterns) some = refl
@@ -146,37 +146,55 @@ front_step open_end patterns at pattern bytes label behind within is cut =
     ∙ ap (labels_match open_end (pattern ∷ drop (at + 1) patterns)) cut
     ∙ match-cons open_end pattern (drop (at + 1) patterns) label (parts_of DOT behind)
 
-pub front_short : (open_end : Bool) (patterns : List LabelPattern) (at : ℕ) → at < length patterns → labels_match open_end (drop at patterns) [] ≡ false
+front_short : (open_end : Bool) (patterns : List LabelPattern) (at : ℕ) → at < length patterns → labels_match open_end (drop at patterns) [] ≡ false
 front_short open_end patterns at within = match-short open_end (drop at patterns) (omega (arith, length-drop at patterns))
 
 pub front_open : (open_end : Bool) (patterns : List LabelPattern) (at : ℕ) (bytes : List ℕ) → length patterns ≤ at → labels_match open_end (drop at patterns) (parts_of DOT (Some bytes)) ≡ open_end
 front_open open_end patterns at bytes past =
     ap (λ l. labels_match open_end l (labels_in bytes)) (drop_all at patterns past) ∙ past_end open_end (labels_in bytes) (omega (arith, length-slice_split (λ b. b == DOT) bytes))
 
-pub front_done : (open_end : Bool) (patterns : List LabelPattern) (at : ℕ) → length patterns ≤ at → labels_match open_end (drop at patterns) [] ≡ true
+front_done : (open_end : Bool) (patterns : List LabelPattern) (at : ℕ) → length patterns ≤ at → labels_match open_end (drop at patterns) [] ≡ true
 unfolding labels_match
 front_done open_end patterns at past = ap (λ l. labels_match open_end l []) (drop_all at patterns past)
 
--- ---- between
+-- no label is left
+pub front_whole : (open_end : Bool) (patterns : List LabelPattern) (at : ℕ) → at ≤ length patterns → labels_match open_end (drop at patterns) [] ≡ (at == length patterns)
+front_whole open_end patterns at within = elim (cases_Bool (at == length patterns)) [
+  | inl whole ↦ front_done open_end patterns at (omega (arith, eqb-true at (length patterns) whole)) ∙ sym whole
+  | inr short ↦ front_short open_end patterns at (omega (arith, within, eqb-false at (length patterns) short)) ∙ sym short
+]
+
+-- ---- from each label
 
 -- one place of the search
-pub place_here : (patterns : List LabelPattern) (bytes label : List ℕ) (behind : Option (List ℕ)) → labels_in bytes ≡ label ∷ parts_of DOT behind → labels_match true patterns (label ∷ parts_of DOT behind) ≡ true →
-    some_tail (labels_match true patterns) (labels_in bytes) ≡ true
-place_here patterns bytes label behind cut fits = some_tail-at (labels_match true patterns) [] (labels_in bytes) (ap (labels_match true patterns) cut ∙ fits)
+pub fits_here : (pattern : HostLabels) (labels : List (List ℕ)) → labels_match pattern.open_end pattern.labels labels ≡ true → fitting_labels pattern labels ≡ true
+fits_here pattern labels fits =
+    elim (cases_Bool pattern.open_front) [
+      | inl does ↦ rw does (some_tail-at (labels_match pattern.open_end pattern.labels) [] labels fits)
+      | inr fails ↦ rw fails fits
+    ]
 
-pub place_later : (patterns : List LabelPattern) (bytes label : List ℕ) (behind : Option (List ℕ)) → labels_in bytes ≡ label ∷ parts_of DOT behind → labels_match true patterns (label ∷ parts_of DOT behind) ≡ false →
-    some_tail (labels_match true patterns) (labels_in bytes) ≡ some_tail (labels_match true patterns) (parts_of DOT behind)
-place_later patterns bytes label behind cut fails =
-    ap (some_tail (labels_match true patterns)) cut ∙ ap (λ t. t || some_tail (labels_match true patterns) (parts_of DOT behind)) fails
+pub fits_front : (pattern : HostLabels) (labels : List (List ℕ)) → pattern.open_front ≡ false → labels_match pattern.open_end pattern.labels labels ≡ false → fitting_labels pattern labels ≡ false
+fits_front pattern labels closed fails = rw closed fails
 
-pub place_none : (pattern : LabelPattern) (patterns : List LabelPattern) (bytes label : List ℕ) → labels_in bytes ≡ label ∷ [] → labels_match true (pattern ∷ patterns) (label ∷ []) ≡ false →
-    some_tail (labels_match true (pattern ∷ patterns)) (labels_in bytes) ≡ false
+pub fits_later : (pattern : HostLabels) (bytes label : List ℕ) (behind : Option (List ℕ)) → labels_in bytes ≡ label ∷ parts_of DOT behind → pattern.open_front ≡ true →
+    labels_match pattern.open_end pattern.labels (labels_in bytes) ≡ false → fitting_labels pattern (labels_in bytes) ≡ fitting_labels pattern (parts_of DOT behind)
+fits_later pattern bytes label behind cut front fails =
+    let T = labels_match pattern.open_end pattern.labels in
+    rw front (ap (some_tail T) cut ∙ ap (λ t. t || some_tail T (parts_of DOT behind)) (ap T (sym cut) ∙ fails))
+
+-- no label is left where some would have to be, or any would do
+match_none : (patterns : List LabelPattern) (label : List ℕ) → labels_match true patterns (label ∷ []) ≡ false → labels_match true patterns [] ≡ false
 unfolding labels_match
-place_none pattern patterns bytes label cut fails = place_later (pattern ∷ patterns) bytes label None cut fails
+match_none [] label fails = absurd (false≢true (sym fails))
+match_none (pattern ∷ patterns) label fails = refl
 
-pub every_place : (patterns : List LabelPattern) (bytes : List ℕ) → length patterns ≡ 0 → true ≡ some_tail (labels_match true patterns) (labels_in bytes)
-every_place patterns bytes none =
-    sym (some_tail-at (labels_match true patterns) [] (labels_in bytes) (front_open true patterns 0 bytes (omega (arith, none))))
+pub fits_none : (pattern : HostLabels) (bytes label : List ℕ) → labels_in bytes ≡ label ∷ [] → pattern.open_front ≡ true → pattern.open_end ≡ true →
+    labels_match pattern.open_end pattern.labels (labels_in bytes) ≡ false → fitting_labels pattern (labels_in bytes) ≡ false
+fits_none pattern bytes label cut front end fails =
+    let open_fails : labels_match true pattern.labels (label ∷ []) ≡ false = ap (labels_match true pattern.labels) (sym cut) ∙ (ap (λ e. labels_match e pattern.labels (labels_in bytes)) (sym end) ∙ fails) in
+    fits_later pattern bytes label None cut front fails
+    ∙ rw front (ap (λ e. labels_match e pattern.labels []) end ∙ match_none pattern.labels label open_fails)
 
 -- ---- from the end
 
@@ -186,8 +204,11 @@ pub end_step : (patterns before : List LabelPattern) (last : LabelPattern) (byte
 end_step patterns before last bytes label front is cut =
     ap (λ (l : List LabelPattern). ends l (labels_in bytes)) is ∙ ap (ends (before ++ last ∷ [])) cut ∙ ends-push before last (parts_of DOT front) label
 
-pub end_short : (patterns before : List LabelPattern) (last : LabelPattern) → patterns ≡ before ++ last ∷ [] → ends patterns [] ≡ false
-end_short patterns before last is = ap (λ (l : List LabelPattern). ends l []) is ∙ none_fit before last
+-- no label is left
+pub end_whole : (patterns : List LabelPattern) → ends patterns [] ≡ (length patterns == 0)
+unfolding labels_match
+end_whole [] = refl
+end_whole (pattern ∷ patterns) = sym (ne_eqb (length (pattern ∷ patterns)) 0 (λ e. omega (arith, e)))
 
 pub end_done : (patterns : List LabelPattern) (labels : List (List ℕ)) → length patterns ≡ 0 → ends patterns labels ≡ true
 end_done [] labels none = ends-none labels

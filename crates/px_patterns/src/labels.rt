@@ -48,19 +48,21 @@ impl Item {
     }
 
     /// Whether the item stands for one byte, and for this one.
+    #[inline]
     pub(crate) fn takes(&self, byte: u8) -> bool
         ensures { result ≡ takes self.now byte }
     {
         match self {
             Item::AnyRun => false,
             Item::AnyByte => true,
-            Item::Byte(own) => own.eq_ignore_ascii_case(&byte),
+            Item::Byte(own) => *own == byte || own.eq_ignore_ascii_case(&byte),
             Item::Class(ranges) => in_class(ranges.as_slice(), byte),
         }
     }
 }
 
 /// Whether a byte lies in a class in either case.
+#[inline(never)]
 fn in_class(ranges: &[ClassRange], byte: u8) -> bool
     ensures { result ≡ in_class ranges.now byte }
 {
@@ -104,7 +106,7 @@ impl LabelPattern {
 }
 
 /// Whether a label can be cut into pieces, one for each item.
-fn glob_matches(items: &[Item], label: &[u8]) -> bool
+pub(crate) fn glob_matches(items: &[Item], label: &[u8]) -> bool
     ensures { result ≡ glob_matches items.now label.now }
 {
     for (at, item) in items.iter().enumerate() {

@@ -1,20 +1,33 @@
-use Rattle.std.proofs.Common.{◌≡◌, ◌+◌, ◌&&◌, ◌∙◌, sym, ap, arith, true, false, drop, slice_index}
+use Rattle.std.proofs.Common.{◌≡◌, ◌+◌, ◌-◌, ◌&&◌, ◌∙◌, sym, ap, subst, arith, true, false, drop, length, slice_index}
 use Rattle.px_patterns.specs.Hosts.{is_in_label, is_label}
-use Rattle.px_patterns.proofs.EndLabelLemmas.{label_at, label_past}
+use Rattle.px_patterns.proofs.EndLabelLemmas.{label_at, label_fails, label_past}
 use Rattle.px_patterns.proofs.hosts.is_label.Goals as goal
+
+pub bytes-init : goal.bytes-init
+bytes-init c = record { within = omega arith; same = label_past c.args.text.now c.args.bytes.now (length c.args.bytes.now) (omega (arith, c.requires)) (omega arith) }
 
 pub returns-then-not-is_in_label : goal.returns-then-not-is_in_label
 returns-then-not-is_in_label c =
-    let fails : is_in_label (slice_index c.args.text.now c.loop-at.at) (slice_index c.args.bytes.now c.loop-at.at) ≡ false = sym c.is_in_label.ensures ∙ c.if-not-is_in_label.true in
+    let at = c.bytes.end - 1 in
+    let fails : is_in_label (slice_index c.args.text.now at) (slice_index c.args.bytes.now at) ≡ false = sym c.is_in_label.ensures ∙ c.if-not-is_in_label.true in
     sym
-    (c.loop-at.invariant ∙ label_at c.args.text.now c.args.bytes.now c.loop-at.at (omega (arith, c.requires, c.loop-at-test.true)) c.loop-at-test.true
-    ∙ ap (λ t. t && is_label (drop (c.loop-at.at + 1) c.args.text.now) (drop (c.loop-at.at + 1) c.args.bytes.now)) fails)
+    (label_fails c.args.text.now c.args.bytes.now at
+    (label_at c.args.text.now c.args.bytes.now at (omega (arith, c.requires, c.bytes-test.true, c.bytes.invariant.within)) (omega (arith, c.bytes-test.true, c.bytes.invariant.within))
+    ∙ ap (λ t. t && is_label (drop (at + 1) c.args.text.now) (drop (at + 1) c.args.bytes.now)) fails))
 
-pub loop-at-preserved : goal.loop-at-preserved
-loop-at-preserved c =
-    let holds : is_in_label (slice_index c.args.text.now c.loop-at.at) (slice_index c.args.bytes.now c.loop-at.at) ≡ true = sym c.is_in_label.ensures ∙ c.if-not-is_in_label.false in
-    c.loop-at.invariant ∙ label_at c.args.text.now c.args.bytes.now c.loop-at.at (omega (arith, c.requires, c.loop-at-test.true)) c.loop-at-test.true
-    ∙ ap (λ t. t && is_label (drop (c.loop-at.at + 1) c.args.text.now) (drop (c.loop-at.at + 1) c.args.bytes.now)) holds
+pub bytes-preserved : goal.bytes-preserved
+bytes-preserved c =
+    let at = c.bytes.end - 1 in
+    let holds : is_in_label (slice_index c.args.text.now at) (slice_index c.args.bytes.now at) ≡ true = sym c.is_in_label.ensures ∙ c.if-not-is_in_label.false in
+    let next : c.bytes.end ≡ at + 1 = omega (arith, c.bytes-test.true) in
+    record {
+      within = omega (arith, c.bytes.invariant.within);
+      same = label_at c.args.text.now c.args.bytes.now at (omega (arith, c.requires, c.bytes-test.true, c.bytes.invariant.within)) (omega (arith, c.bytes-test.true, c.bytes.invariant.within))
+          ∙ ap (λ t. t && is_label (drop (at + 1) c.args.text.now) (drop (at + 1) c.args.bytes.now)) holds
+          ∙ subst (λ n. is_label (drop n c.args.text.now) (drop n c.args.bytes.now) ≡ true) next c.bytes.invariant.same;
+    }
 
 pub returns : goal.returns
-returns c = sym (c.loop-at.invariant ∙ label_past c.args.text.now c.args.bytes.now c.loop-at.at (omega (arith, c.requires, c.loop-at-test.false)) c.loop-at-test.false)
+returns c =
+    let front : c.bytes.end ≡ 0 = omega (arith, c.bytes-test.false) in
+    sym (subst (λ n. is_label (drop n c.args.text.now) (drop n c.args.bytes.now) ≡ true) front c.bytes.invariant.same)

@@ -1,10 +1,6 @@
 use Rattle.std.proofs.Common.{◌≡◌, drop}
-use Rattle.px_patterns.specs.Hosts.{rest_bytes}
-use Rattle.px_base.specs.Cuts.{parts_of}
-use Rattle.px_patterns.specs.declared.TheConstants.{DOT}
-use Rattle.px_patterns.specs.Hosts.{labels_match}
+use Rattle.px_patterns.specs.Hosts.{labels_in, labels_match}
 use Rattle.px_patterns.proofs.hosts.matches_from_front.Given as goal
 
-abbrev pub invariant-loop-pattern : goal.invariant-loop-pattern
-invariant-loop-pattern l =
-    labels_match l.open_end l.patterns (parts_of DOT (rest_bytes l.initial.rest)) ≡ labels_match l.open_end (drop l.pattern-index l.patterns) (parts_of DOT (rest_bytes l.rest))
+abbrev pub invariant-loop-at : goal.invariant-loop-at
+invariant-loop-at l = labels_match l.open_end l.patterns (labels_in l.host) ≡ labels_match l.open_end (drop l.at l.patterns) (labels_in l.rest)
