@@ -1,6 +1,7 @@
 -- What a head settles by a configuration and by what was asked.
 use Rattle.std.proofs.Common.{◌≡◌, ◌∙◌, ℕ, Bool, true, false, List, [], ◌∷◌, length, ap, sym, refl}
 use Rattle.std.specs.Prelude.{◌==◌, ◌&&◌, not}
+use Rattle.std.proofs.Math.Dec.{eqb-suc-zero}
 use Rattle.px_head.specs.declared.responses.ResponseHead.{ResponseHead}
 use Rattle.px_filter_files.specs.FilterFiles.{FiltersOfFiles}
 use Rattle.px_framing.specs.declared.rules.BodyRule.{BodyRule}
@@ -41,7 +42,8 @@ where_named files head r minor keep limit text [] = ap plan (and-false _ ∙ sym
   where
     plan : Bool → BodyPlan
     plan allowed = record (answers.plan_of files head r (record { minor = minor; keep = keep; text = text; filters = []; limit = limit })) { filters = answers.filters_if allowed [] }
-where_named files head r minor keep limit text (name ∷ names) = refl
+where_named files head r minor keep limit text (name ∷ names) =
+    ap (λ (empty : Bool). answers.plan_of files head r (record { minor = minor; keep = keep; text = not empty && text; filters = name ∷ names; limit = limit })) (eqb-suc-zero (length names))
 
 -- a plan by the head as received, behind the lines that the header actions made
 pub settled_as : (config : Config) (asked : Asked) (head : ResponseHead) (r : BodyRule) (set : List Setting) (text : Bool) (filters : List (List ℕ)) (plan : BodyPlan) (out : ServerOut) (lines : HeaderLines) (framed : Framed)
