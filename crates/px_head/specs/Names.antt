@@ -1,6 +1,7 @@
 -- Fields by their names, which are compared without case (RFC 9110, section 5.1), the words of Connection fields, and the
 -- fields that a proxy doesn't pass on.
-use Rattle.std.specs.Prelude.{ℕ, Bool, ◌==◌, ◌&&◌, ◌||◌, List, [], ◌∷◌, codes, Option}
+use Rattle.std.specs.Prelude.{ℕ, Bool, ◌==◌, ◌&&◌, ◌||◌, List, [], ◌∷◌, codes, slice_index, Option}
+use Rattle.std.specs.Char.{to_ascii_lowercase}
 use Rattle.std.specs.List.{find, list_any, slice_split}
 use Rattle.std.specs.Str.{str_eq_ignore_ascii_case}
 use Rattle.px_base.specs.Blanks.{trimmed}
@@ -48,3 +49,7 @@ is_held_back_of_response name = is_among connection_names name
 -- a field of that name isn't passed on of a request
 unfoldable pub is_held_back_of_request : List ℕ → Bool
 is_held_back_of_request name = is_among connection_names name || is_among request_names name
+
+-- the first byte is that small letter, without case
+abbrev pub begins_with : List ℕ → ℕ → Bool
+begins_with name letter = to_ascii_lowercase (slice_index name 0) == letter

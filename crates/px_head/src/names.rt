@@ -1,6 +1,6 @@
 // Fields by their names, the words of Connection fields, and the fields that a proxy doesn't pass on.
-ghost use Rattle.std.specs.Prelude.{◌≡◌, false, option_copied};
-ghost use Rattle.px_head.specs.Names.{has_name as has_name_spec, has_field as has_field_spec, first_field as first_field_spec, lists_word as lists_word_spec, is_connection_word as is_connection_word_spec, is_among, connection_names, request_names, is_held_back_of_request as is_held_back_of_request_spec, is_held_back_of_response as is_held_back_of_response_spec};
+ghost use Rattle.std.specs.Prelude.{◌≡◌, ◌<◌, false, length, option_copied};
+ghost use Rattle.px_head.specs.Names.{has_name as has_name_spec, has_field as has_field_spec, first_field as first_field_spec, lists_word as lists_word_spec, is_connection_word as is_connection_word_spec, begins_with, is_among, connection_names, request_names, is_held_back_of_request as is_held_back_of_request_spec, is_held_back_of_response as is_held_back_of_response_spec};
 
 use crate::fields::Field;
 use px_base::{cut, same_without_case, trim};
@@ -53,39 +53,51 @@ pub fn is_connection_word(word: &[u8], fields: &[Field]) -> bool
 
 /// Whether a field of that name isn't passed on of a request: the eight of a response, Host, Expect and
 /// Proxy-Authorization.
+#[inline(always)]
 #[tactic(auto, unfolding(crate::specs::Names::is_held_back_of_request))]
 pub fn is_held_back_of_request(name: &[u8]) -> bool
     ensures { result ≡ is_held_back_of_request_spec name.now }
 {
-    has_held_back_length(name) && (is_connection_name(name) || is_request_name(name))
+    may_be_held_back(name) && (is_connection_name(name) || is_request_name(name))
 }
 
 /// Whether a field of that name isn't passed on of a response: Connection, Proxy-Connection, Keep-Alive, TE, Trailer,
 /// Transfer-Encoding, Upgrade and Content-Length.
+#[inline(always)]
 #[tactic(auto, unfolding(crate::specs::Names::is_held_back_of_response))]
 pub fn is_held_back_of_response(name: &[u8]) -> bool
     ensures { result ≡ is_held_back_of_response_spec name.now }
 {
-    has_held_back_length(name) && is_connection_name(name)
+    may_be_held_back(name) && is_connection_name(name)
 }
 
-/// Whether a name that is held back has the length of this one: most fields have another, and cost no more than that.
-fn has_held_back_length(name: &[u8]) -> bool
-    ensures of_connection { result ≡ false → is_among connection_names name.now ≡ false }
-    ensures of_request { result ≡ false → is_among request_names name.now ≡ false }
+/// Whether a name that is held back has the length and the first letter of this one: most fields have others, and cost no more
+/// than that.
+#[inline(always)]
+fn may_be_held_back(name: &[u8]) -> bool
+    ensures { result ≡ false → is_held_back_of_request_spec name.now ≡ false }
 {
     match name.len() {
-        2 => true,
-        4 => true,
-        6 => true,
-        7 => true,
-        10 => true,
-        14 => true,
-        16 => true,
-        17 => true,
-        19 => true,
+        2 => begins_with(name, b't'),
+        4 => begins_with(name, b'h'),
+        6 => begins_with(name, b'e'),
+        7 => begins_with(name, b't') || begins_with(name, b'u'),
+        10 => begins_with(name, b'c') || begins_with(name, b'k'),
+        14 => begins_with(name, b'c'),
+        16 => begins_with(name, b'p'),
+        17 => begins_with(name, b't'),
+        19 => begins_with(name, b'p'),
         _ => false,
     }
+}
+
+/// Whether the first byte is that small letter, without case.
+#[inline(always)]
+fn begins_with(name: &[u8], letter: u8) -> bool
+    requires { 0 < length name.now }
+    ensures { result ≡ begins_with name.now letter }
+{
+    name[0].to_ascii_lowercase() == letter
 }
 
 /// Whether fields of that name speak of one connection alone (RFC 9110, section 7.6.1), or it is Content-Length. A name is
