@@ -1,5 +1,5 @@
 // Doors over TCP.
-ghost use Rattle.std.specs.Prelude.{◌≡◌, IfOk, None};
+ghost use Rattle.std.specs.Prelude.{◌≡◌, IfOk, None, option_map};
 ghost use Rattle.px_sockets.specs.Untold.{AreNew};
 ghost use Rattle.px_doors.specs.Conns.{parted_as};
 ghost use Rattle.px_doors.specs.Doors.{DoorsGoesOn, Parts, untold_doors};
@@ -52,9 +52,11 @@ impl<'r> SocketDoors<'r> {
     }
 
     /// The port at which the doors listen, if they do: for port 0 the one that was free.
-    pub fn port(&self) -> Option<u16> {
+    pub fn port(&self) -> Option<u16>
+        ensures { result ≡ option_map (λ l. l.port) self.now.listener }
+    {
         match &self.listener {
-            Some(listener) => listener.port().ok(),
+            Some(listener) => Some(listener.port),
             None => None,
         }
     }

@@ -41,13 +41,13 @@ pub fn publish_pair<C: Drop, R: Wait>(
     )?;
     let (mut writer, told) = show(rt, writer, Shared::of(&newest));
     if !told {
-        Publisher::over(writer, head, newest).end(rt);
+        drop(Publisher::over(writer, head, newest).end(rt));
         return Err(Mem);
     }
     match readers(alloc, &mut writer, &newest, count) {
         Ok(readers) => Ok((Publisher::over(writer, head, newest), readers)),
         Err(Mem) => {
-            Publisher::over(writer, head, newest).end(rt);
+            drop(Publisher::over(writer, head, newest).end(rt));
             Err(Mem)
         }
     }

@@ -127,13 +127,18 @@ impl<C: Drop> Publisher<C> {
         !self.newest.front.is_behind(reader.front())
     }
 
-    /// Gives the publisher up. It may wait for readers to leave, takes no memory and can't be refused.
-    pub fn end<R: Wait>(self, rt: &R) {
+    /// Gives the publisher up, and hands out the receipt of its newest entry. It may wait for readers to leave, takes no memory
+    /// and can't be refused.
+    pub fn end<R: Wait>(self, rt: &R) -> Receipt<C>
+        ensures list { told result ≡ published self }
+        ensures pair { receipt_pair result ≡ pair_of self }
+    {
         let Publisher {
             writer,
             head: _head,
-            newest: _newest,
+            newest,
         } = self;
         drop(writer.take(rt));
+        Receipt::over(newest)
     }
 }

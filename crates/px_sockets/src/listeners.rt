@@ -29,6 +29,19 @@ pub enum CallerFault {
 #[derive(Drop)]
 pub struct SocketListener {
     listener: TcpListener,
+    /// The port at which it listens: for port 0 the one that was free.
+    pub port: u16,
+}
+
+/// The listener with its port, which the system tells.
+fn with_port(listener: TcpListener) -> Result<SocketListener, Failed> {
+    match listener.local_addr() {
+        Ok(address) => Ok(SocketListener {
+            listener,
+            port: address.port(),
+        }),
+        Err(_) => Err(Failed),
+    }
 }
 
 impl SocketListener {
@@ -50,19 +63,11 @@ impl SocketListener {
         for address in addresses {
             if address.ip().is_loopback() {
                 if let Ok(listener) = net.bind(address) {
-                    return Ok(SocketListener { listener });
+                    return with_port(listener);
                 }
             }
         }
         Err(Failed)
-    }
-
-    /// The port at which it listens.
-    pub fn port(&self) -> Result<u16, Failed> {
-        match self.listener.local_addr() {
-            Ok(address) => Ok(address.port()),
-            Err(_) => Err(Failed),
-        }
     }
 
     /// Waits for a connection, and gives its ends that mark. One that its client gave up before it was accepted is passed

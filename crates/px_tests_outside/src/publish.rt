@@ -97,7 +97,8 @@ fn a_reader_that_looks_after_each_publish_sees_it(rt: HostRuntime) {
     same(&rt, entry(&reader), (2, 90));
     reader.look();
     same(&rt, entry(&reader), (2, 90));
-    publisher.end(&rt);
+    let last = publisher.end(&rt);
+    same(&rt, receipt_entry(&last), (2, 90));
     reader.look();
     same(&rt, entry(&reader), (2, 90));
 }

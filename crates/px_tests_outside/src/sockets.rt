@@ -21,10 +21,7 @@ fn open_pair<R: Net<Listener = TcpListener, Stream = TcpStream> + Sync>(
     let Ok(listener) = SocketListener::listen(net, b"127.0.0.1", 0) else {
         return None;
     };
-    let Ok(port) = listener.port() else {
-        return None;
-    };
-    let Ok((link_in, link_out)) = SocketDialer::new(net, 7).dial(b"127.0.0.1", port) else {
+    let Ok((link_in, link_out)) = SocketDialer::new(net, 7).dial(b"127.0.0.1", listener.port) else {
         return None;
     };
     let Ok(caller) = listener.accept(alloc, 7) else {
@@ -110,9 +107,7 @@ fn dials_that_reach_nothing_say_why(rt: HostRuntime) {
     let Ok(listener) = SocketListener::listen(&rt, b"127.0.0.1", 0) else {
         panic!(rt; "no listener");
     };
-    let Ok(port) = listener.port() else {
-        panic!(rt; "no port");
-    };
+    let port = listener.port;
     drop(listener);
     let mut dialer = SocketDialer::new(&rt, 0);
     let not_reached = dialer.dial(b"127.0.0.1", port).err();
