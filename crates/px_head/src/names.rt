@@ -1,5 +1,6 @@
 // Fields by their names, the words of Connection fields, and the fields that a proxy doesn't pass on.
-ghost use Rattle.std.specs.Prelude.{◌≡◌, ◌<◌, false, length, option_copied};
+ghost use Rattle.std.specs.Prelude.{◌≡◌, ◌<◌, ◌≤◌, false, length, option_copied};
+ghost use Rattle.std.specs.Str.{str_eq_ignore_ascii_case};
 ghost use Rattle.px_head.specs.Names.{has_name as has_name_spec, has_field as has_field_spec, first_field as first_field_spec, lists_word as lists_word_spec, is_connection_word as is_connection_word_spec, begins_with, is_among, connection_names, request_names, is_held_back_of_request as is_held_back_of_request_spec, is_held_back_of_response as is_held_back_of_response_spec};
 
 use crate::fields::Field;
@@ -91,13 +92,22 @@ fn may_be_held_back(name: &[u8]) -> bool
     }
 }
 
-/// Whether the first byte is that small letter, without case.
+/// Whether the first byte is that small letter or its capital.
 #[inline(always)]
 fn begins_with(name: &[u8], letter: u8) -> bool
-    requires { 0 < length name.now }
-    ensures { result ≡ begins_with name.now letter }
+    requires some { 0 < length name.now }
+    requires letter { 32 ≤ letter }
+    ensures { result ≡ false → begins_with name.now letter ≡ false }
 {
-    name[0].to_ascii_lowercase() == letter
+    name[0] == letter || name[0] == letter - 32
+}
+
+/// Whether a name is this one, without case. Most are written as the standards write them, so that is asked first.
+#[inline(always)]
+fn is_name(own: &[u8], name: &[u8]) -> bool
+    ensures { result ≡ str_eq_ignore_ascii_case own.now name.now }
+{
+    own == name || same_without_case(own, name)
 }
 
 /// Whether fields of that name speak of one connection alone (RFC 9110, section 7.6.1), or it is Content-Length. A name is
@@ -106,12 +116,12 @@ fn is_connection_name(name: &[u8]) -> bool
     ensures { result ≡ is_among connection_names name.now }
 {
     match name.len() {
-        2 => same_without_case(b"TE", name),
-        7 => same_without_case(b"Trailer", name) || same_without_case(b"Upgrade", name),
-        10 => same_without_case(b"Connection", name) || same_without_case(b"Keep-Alive", name),
-        14 => same_without_case(b"Content-Length", name),
-        16 => same_without_case(b"Proxy-Connection", name),
-        17 => same_without_case(b"Transfer-Encoding", name),
+        2 => is_name(b"TE", name),
+        7 => is_name(b"Trailer", name) || is_name(b"Upgrade", name),
+        10 => is_name(b"Connection", name) || is_name(b"Keep-Alive", name),
+        14 => is_name(b"Content-Length", name),
+        16 => is_name(b"Proxy-Connection", name),
+        17 => is_name(b"Transfer-Encoding", name),
         _ => false,
     }
 }
@@ -121,9 +131,9 @@ fn is_request_name(name: &[u8]) -> bool
     ensures { result ≡ is_among request_names name.now }
 {
     match name.len() {
-        4 => same_without_case(b"Host", name),
-        6 => same_without_case(b"Expect", name),
-        19 => same_without_case(b"Proxy-Authorization", name),
+        4 => is_name(b"Host", name),
+        6 => is_name(b"Expect", name),
+        19 => is_name(b"Proxy-Authorization", name),
         _ => false,
     }
 }
