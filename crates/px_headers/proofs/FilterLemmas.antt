@@ -1,9 +1,7 @@
 -- Header filters by what is kept of a message.
-use Rattle.std.proofs.Common.{◌≡◌, ℕ, Bool, true, false, List, [], ◌∷◌, Option, Some, None, Result, Ok, Err, IfOk, refl, ap, sym, ◌∙◌}
-use Rattle.std.specs.Prelude.{if◌then◌else◌}
-use Rattle.std.specs.List.{cons_option}
+use Rattle.std.proofs.Common.{◌≡◌, ℕ, Bool, true, false, List, Result, Ok, Err, IfOk, ap, sym, ◌∙◌}
+use Rattle.std.specs.Prelude.{if◌then◌else◌, not}
 use Rattle.px_head.specs.declared.fields.Field.{Field}
-use Rattle.px_head.specs.Prints.{field_line}
 use Rattle.px_actions.specs.declared.settings.Setting.{Setting}
 use Rattle.px_subst.specs.declared.words.Vars.{Vars}
 use Rattle.px_filter_files.specs.FilterFiles.{FiltersOfFiles}
@@ -11,19 +9,12 @@ use Rattle.px_filter_files.specs.declared.kinds.FilterKind.{FilterKind}
 use Rattle.px_headers.specs.declared.held_back.Message.{Message}
 use Rattle.px_headers.specs.declared.held_back.HeldBack.{HeldBack}
 use Rattle.px_headers.specs.HeldBack.{is_held, is_held_back, IsHeldBackOf}
-use Rattle.px_headers.specs.Filtering.{filter_kind, filter_lines, filter_names, filtered_field, filtered_fields, read_again, run_all, some_found, unless_held}
-use Rattle.px_headers.proofs.HeldLemmas.{held-is}
-
-unless-same : (h k : List ℕ → Bool) (field : Option Field) → ((name : List ℕ) → h name ≡ k name) → unless_held h field ≡ unless_held k field
-unless-same h k None same = refl
-unless-same h k (Some f) same = ap (λ b. if b then None else Some f) (same f.name)
+use Rattle.px_headers.specs.Filtering.{filter_kind, filter_lines, filter_names, filtered_fields, made_fields, run_all, some_found}
+use Rattle.px_headers.proofs.HeldLemmas.{held-is, same-filtered}
 
 fields-same : (h k : List ℕ → Bool) (run : List ℕ → List ℕ) (fields : List Field) → ((name : List ℕ) → h name ≡ k name) →
     filtered_fields h run fields ≡ filtered_fields k run fields
-fields-same h k run [] same = refl
-fields-same h k run (f ∷ fields) same =
-    ap (λ kept. cons_option kept (filtered_fields h run fields)) (unless-same h k (read_again f (run (field_line f))) same)
-    ∙ ap (λ more. cons_option (filtered_field k run f) more) (fields-same h k run fields same)
+fields-same h k run fields same = same-filtered (λ (f : Field). not (h f.name)) (λ (f : Field). not (k f.name)) (made_fields run fields) (λ f. ap not (same f.name))
 
 -- by the message that is kept
 abbrev by_held : HeldBack → List Setting → FiltersOfFiles → Vars → List Field → Message → List Field

@@ -116,7 +116,7 @@ held-is message fields held name is =
     ap (λ m. is_fixed m name || is_among held.words name) is.message_is
     ∙ (ap (λ words. is_fixed message name || is_among words name) is.words_are ∙ known message name fields (str_eq_ignore_ascii_case name (codes "Keep-Alive")) refl)
 
-same-filtered : {X : Type 0} (p q : X → Bool) (xs : List X) → ((x : X) → p x ≡ q x) → filter p xs ≡ filter q xs
+pub same-filtered : {X : Type 0} (p q : X → Bool) (xs : List X) → ((x : X) → p x ≡ q x) → filter p xs ≡ filter q xs
 same-filtered p q [] same = refl
 same-filtered p q (x ∷ xs) same = ap (λ b. cond b (x ∷ filter p xs) (filter p xs)) (same x) ∙ ap (λ ys. cond (q x) (x ∷ ys) ys) (same-filtered p q xs same)
 

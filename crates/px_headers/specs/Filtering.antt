@@ -16,6 +16,7 @@ use Rattle.px_filter_files.specs.declared.kinds.FilterKind.TheVariants.{ClientHe
 use Rattle.px_headers.specs.declared.held_back.Message.{Message}
 use Rattle.px_headers.specs.declared.held_back.Message.TheVariants.{Request, Response}
 use Rattle.px_headers.specs.HeldBack.{is_held_back}
+use Rattle.px_headers.specs.Rows.{without_those}
 
 -- the kind of a message's header filters
 abbrev pub filter_kind : Message → FilterKind
@@ -43,17 +44,17 @@ some_found all kind names = list_any (λ name. is_some (found all (record { kind
 abbrev pub read_again : Field → List ℕ → Option Field
 read_again f text = if bytes_eq text (field_line f) then Some f else read_field text
 
--- a field whose name is held back isn't passed on
-abbrev pub unless_held : (List ℕ → Bool) → Option Field → Option Field
-unless_held held None = None
-unless_held held (Some f) = if held f.name then None else Some f
+-- what filters make of a field by their run over its line
+abbrev pub made_field : (List ℕ → List ℕ) → Field → Option Field
+made_field run f = read_again f (run (field_line f))
 
-abbrev pub filtered_field : (List ℕ → Bool) → (List ℕ → List ℕ) → Field → Option Field
-filtered_field held run f = unless_held held (read_again f (run (field_line f)))
+-- what they make of fields, one by one
+abbrev pub made_fields : (List ℕ → List ℕ) → List Field → List Field
+made_fields run fields = filter_map (made_field run) fields
 
--- the fields' lines through the filters, one by one, where there is one of them
+-- the fields' lines through the filters, where there is one of them; a field whose name is held back isn't passed on
 abbrev pub filtered_fields : (List ℕ → Bool) → (List ℕ → List ℕ) → List Field → List Field
-filtered_fields held run fields = filter_map (filtered_field held run) fields
+filtered_fields held run fields = without_those (λ f. held f.name) (made_fields run fields)
 
 unfoldable pub filter_lines : Message → List Field → List Setting → FiltersOfFiles → Vars → List Field → List Field
 filter_lines message received set all vars fields =

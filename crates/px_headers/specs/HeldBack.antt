@@ -39,6 +39,10 @@ connection_words fields = flat_map (λ (f : Field). words_in f.value) (filter (h
 abbrev pub is_held : HeldBack → List ℕ → Bool
 is_held held name = is_fixed held.message name || is_among held.words name
 
+-- the fields of other names
+abbrev pub without_held : HeldBack → List Field → List Field
+without_held held fields = without_those (λ f. is_held held f.name) fields
+
 -- what is kept of a message with these fields
 pub record IsHeldBackOf (message : Message) (fields : List Field) (held : HeldBack) : Type 0 where
   pub message_is : held.message ≡ message

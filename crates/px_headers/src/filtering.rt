@@ -5,9 +5,9 @@ ghost use Rattle.px_head.specs.FieldLines.{read_field};
 ghost use Rattle.px_head.specs.Prints.{field_line};
 ghost use Rattle.px_filter_files.specs.FilterFiles.{found};
 ghost use Rattle.px_headers.specs.HeldBack.{is_held, IsHeldBackOf};
-ghost use Rattle.px_headers.specs.Filtering.{filter_kind, filter_lines, filter_names, filtered_field, filtered_fields, read_again, run_all, run_named, some_found, unless_held};
+ghost use Rattle.px_headers.specs.Filtering.{filter_kind, filter_lines, filter_names, filtered_fields, made_field, made_fields, read_again, run_all, run_named, some_found};
 
-use crate::held_back::{HeldBack, Message};
+use crate::held_back::{HeldBack, Message, pass_on};
 use crate::rows::write_line;
 use px_actions::{ActionSet, Kind};
 use px_base::{List, Mem, Text};
@@ -129,25 +129,9 @@ fn read_again(
     }
 }
 
-fn unless_held(held: &HeldBack, field: Option<Field>) -> Option<Field>
-    ensures { result ≡ unless_held (is_held held.now) field }
-{
-    match field {
-        Some(field) => {
-            if held.holds(field.name.as_bytes()) {
-                None
-            } else {
-                Some(field)
-            }
-        }
-        None => None,
-    }
-}
-
 /// What filters make of a field. `line` is room for its line.
-fn filtered_field(
+fn made_field(
     alloc: Global,
-    held: &HeldBack,
     warm: &mut WarmFilters<'_>,
     kind: FilterKind,
     names: &[Text],
@@ -155,16 +139,38 @@ fn filtered_field(
     line: &mut Text,
     field: Field,
 ) -> Result<Option<Field>, Mem>
-    ensures value { IfOk result (λ kept. kept ≡ filtered_field (is_held held.now) (run_all warm.old kind vars.now names.now) field) }
+    ensures value { IfOk result (λ made. made ≡ made_field (run_all warm.old kind vars.now names.now) field) }
     ensures same { warm.new ≡ warm.old }
 {
     write_line(line, &field)?;
     let done = run_all(alloc, warm, kind, names, line.as_bytes(), vars)?;
-    let read = read_again(alloc, field, line.as_bytes(), done)?;
-    Ok(unless_held(held, read))
+    read_again(alloc, field, line.as_bytes(), done)
 }
 
 /// What filters make of fields, one by one.
+fn made_fields(
+    alloc: Global,
+    fields: List<Field>,
+    warm: &mut WarmFilters<'_>,
+    kind: FilterKind,
+    names: &[Text],
+    vars: &Vars,
+) -> Result<List<Field>, Mem>
+    ensures value { IfOk result (λ made. made ≡ made_fields (run_all warm.old kind vars.now names.now) fields) }
+    ensures same { warm.new ≡ warm.old }
+{
+    let mut line = Text::new(alloc);
+    let mut made = List::with_capacity(alloc, fields.len())?;
+    let mut rest = fields.into_vec().into_iter();
+    'fields: while let Some(field) = rest.next() {
+        if let Some(field) = made_field(alloc, warm, kind, names, vars, &mut line, field)? {
+            made.add(field)?;
+        }
+    }
+    Ok(made)
+}
+
+/// What filters make of fields, without those whose names are held back.
 fn filtered_fields(
     alloc: Global,
     fields: List<Field>,
@@ -177,17 +183,8 @@ fn filtered_fields(
     ensures value { IfOk result (λ kept. kept ≡ filtered_fields (is_held held.now) (run_all warm.old kind vars.now names.now) fields) }
     ensures same { warm.new ≡ warm.old }
 {
-    let mut line = Text::new(alloc);
-    let mut kept = List::with_capacity(alloc, fields.len())?;
-    let mut rest = fields.into_vec().into_iter();
-    'fields: while let Some(field) = rest.next() {
-        if let Some(field) = filtered_field(
-            alloc, held, warm, kind, names, vars, &mut line, field,
-        )? {
-            kept.add(field)?;
-        }
-    }
-    Ok(kept)
+    let made = made_fields(alloc, fields, warm, kind, names, vars)?;
+    Ok(pass_on(made, held))
 }
 
 /// The fields behind the header filters that are in force, where there is one of them. `held` are the names that are held

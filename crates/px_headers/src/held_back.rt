@@ -2,7 +2,7 @@
 ghost use Rattle.std.specs.Prelude.{◌≡◌, ◌++◌, IfOk, OnOk};
 ghost use Rattle.std.specs.Str.{str_eq_ignore_ascii_case};
 ghost use Rattle.px_head.specs.Names.{is_among};
-ghost use Rattle.px_headers.specs.HeldBack.{is_fixed, is_held, names_more, passed_on, words_in, IsHeldBackOf};
+ghost use Rattle.px_headers.specs.HeldBack.{is_fixed, is_held, names_more, passed_on, without_held, words_in, IsHeldBackOf};
 
 use px_base::{List, Mem, Text, cut, same_without_case, trim};
 use px_head::{Field, has_name, is_held_back_of_request, is_held_back_of_response};
@@ -94,10 +94,11 @@ fn is_among(words: &[Text], name: &[u8]) -> bool
     words.iter().any(|word| is_name(word, name))
 }
 
-/// The fields that may be passed on of a message that has these and holds back so. The fields behind one that goes move up at
-/// once: mostly two go, and a head has no more than 128.
+/// The fields of a message whose names it doesn't hold back. The fields behind one that goes move up at once: mostly two go, and
+/// a head has no more than 128.
 pub(crate) fn pass_on(fields: List<Field>, held: &HeldBack) -> List<Field>
-    ensures { (message : _) → IsHeldBackOf message fields held.now → result ≡ passed_on message fields }
+    ensures is { result ≡ without_held held.now fields }
+    ensures passed { (message : _) → IsHeldBackOf message fields held.now → result ≡ passed_on message fields }
 {
     let mut kept = fields.into_vec();
     let mut at = 0;

@@ -1,4 +1,4 @@
-use Rattle.std.proofs.Common.{rules, arith, ◌≡◌, ◌+◌, ◌-◌, ◌≤◌, ◌∙◌, List, ℕ, ap, sym, length}
+use Rattle.std.proofs.Common.{rules, arith, ◌+◌, ◌-◌, ◌≤◌, ◌∙◌, List, ℕ, ap, sym, length}
 use Rattle.std.specs.List.{starts_with}
 use Rattle.std.specs.Prelude.{codes, nat_eq}
 use Rattle.px_headers.proofs.SchemeLemmas.{first_here, first_later, from-place}
