@@ -71,13 +71,6 @@ impl HeldBack {
         }
         Ok(HeldBack { message, words })
     }
-
-    /// Whether a name is held back, without case.
-    pub(crate) fn holds(&self, name: &[u8]) -> bool
-        ensures { result ≡ is_held self.now name.now }
-    {
-        is_fixed(self.message, name) || is_among(self.words.as_slice(), name)
-    }
 }
 
 /// Whether the word is that name, without case. The lengths come first, so that most names cost no call.
@@ -94,16 +87,26 @@ fn is_among(words: &[Text], name: &[u8]) -> bool
     words.iter().any(|word| is_name(word, name))
 }
 
+/// Whether a name is a fixed one of a message or one of the words, without case.
+#[inline(always)]
+fn is_held(message: Message, words: &[Text], name: &[u8]) -> bool
+    ensures { result ≡ is_held (record { message = message; words = words.now }) name.now }
+{
+    is_fixed(message, name) || is_among(words, name)
+}
+
 /// The fields of a message whose names it doesn't hold back. The fields behind one that goes move up at once: mostly two go, and
 /// a head has no more than 128.
 pub(crate) fn pass_on(fields: List<Field>, held: &HeldBack) -> List<Field>
     ensures is { result ≡ without_held held.now fields }
     ensures passed { (message : _) → IsHeldBackOf message fields held.now → result ≡ passed_on message fields }
 {
+    let message = held.message;
+    let words = held.words.as_slice();
     let mut kept = fields.into_vec();
     let mut at = 0;
     'fields: while at < kept.len() {
-        if held.holds(kept[at].name.as_bytes()) {
+        if is_held(message, words, kept[at].name.as_bytes()) {
             drop(kept.remove(at));
         } else {
             at += 1;
