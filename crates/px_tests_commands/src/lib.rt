@@ -9,3 +9,4 @@ mod loads;
 mod passes;
 #[cfg(test)]
 mod proxies;
+mod rows;

@@ -17,6 +17,7 @@ mod filter_files;
 mod merge;
 #[cfg(test)]
 mod patterns;
+mod rows;
 #[cfg(test)]
 mod show;
 #[cfg(test)]

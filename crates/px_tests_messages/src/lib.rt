@@ -11,6 +11,7 @@ mod framing;
 mod head;
 #[cfg(test)]
 mod headers;
+mod rows;
 #[cfg(test)]
 mod sending;
 #[cfg(test)]

@@ -9,6 +9,7 @@ mod common;
 mod generated;
 #[cfg(test)]
 mod publish;
+mod rows;
 #[cfg(test)]
 mod sockets;
 #[cfg(test)]

@@ -15,5 +15,6 @@ mod judging;
 mod proxy;
 #[cfg(test)]
 mod pumps;
+mod rows;
 #[cfg(test)]
 mod serve;
