@@ -1,5 +1,6 @@
 mod ViewLemmas
 mod FrontLemmas
 mod Adding
+pub mod Crossing
 mod Keeps
 mod ScheduleLemmas
