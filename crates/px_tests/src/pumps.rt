@@ -26,7 +26,9 @@ fn config(rt: &impl Abort, alloc: Global) -> Config {
     let mut states = List::new(alloc);
     states.add(state).expect(rt, "memory");
     let mut files = MemFiles::new(alloc, states, &[]).expect(rt, "memory");
-    load(alloc, &mut files, "c").ok().expect(rt, "files that load")
+    load(alloc, &mut files, "c")
+        .ok()
+        .expect(rt, "files that load")
 }
 
 /// What a GET asks, with an action or with none.
@@ -258,7 +260,11 @@ impl<'c> Source for Leading<'c> {
 
 /// An answer of a megabyte.
 fn long_answer(rt: &impl Abort, alloc: Global) -> Text {
-    let mut answer = text(rt, alloc, "HTTP/1.1 200 OK\r\nContent-Length: 1048576\r\n\r\n");
+    let mut answer = text(
+        rt,
+        alloc,
+        "HTTP/1.1 200 OK\r\nContent-Length: 1048576\r\n\r\n",
+    );
     for _ in 0..16 {
         answer.push_all(&LETTERS).expect(rt, "memory");
     }

@@ -1,35 +1,6 @@
 //! Words of actions, their parameters, and next hops (Privoxy's manual, "Actions Files").
-#![tactic(auto, unfolding(
-    core::specs::Str::chars,
-    core::specs::Str::is_utf8,
-    httparse::specs::Grammar::is_token_byte,
-    px_actions::specs::Braces::balances,
-    px_actions::specs::Braces::is_closed,
-    px_actions::specs::Braces::words,
-    px_actions::specs::Hops::is_address_byte,
-    px_actions::specs::Hops::is_host_byte,
-    px_actions::specs::Hops::next_hop,
-    px_actions::specs::Kinds::entry_of,
-    px_actions::specs::Kinds::kind_named,
-    px_actions::specs::Rules::is_plain,
-    px_actions::specs::Rules::keeps,
-    px_actions::specs::Rules::meets,
-    px_actions::specs::Rules::override_hop,
-    px_actions::specs::Sets::empty_set,
-    px_actions::specs::Sets::set_lines,
-    px_actions::specs::Sets::updated,
-    px_actions::specs::Sets::value,
-    px_actions::specs::Sets::values,
-    px_actions::specs::Updates::has_parameter,
-    px_actions::specs::Updates::word_update,
-    px_base::specs::Blanks::trimmed,
-    px_base::specs::Numbers::decimal,
-    px_base::specs::Ports::item,
-    px_base::specs::Ports::port,
-    px_base::specs::Ports::port_list,
-    px_head::specs::FieldLines::read_field,
-    px_head::specs::Names::is_held_back_of_request,
-))]
+#![tactic(auto, unfolding(core::specs::Str::chars, core::specs::Str::is_utf8, httparse::specs::Grammar::is_token_byte, px_actions::specs::Braces::balances, px_actions::specs::Braces::is_closed, px_actions::specs::Braces::words, px_actions::specs::Hops::is_address_byte, px_actions::specs::Hops::is_host_byte, px_actions::specs::Hops::next_hop, px_actions::specs::Kinds::entry_of, px_actions::specs::Kinds::kind_named, px_actions::specs::Rules::is_plain, px_actions::specs::Rules::keeps, px_actions::specs::Rules::meets, px_actions::specs::Rules::override_hop, px_actions::specs::Sets::empty_set, px_actions::specs::Sets::set_lines, px_actions::specs::Sets::updated, px_actions::specs::Sets::value, px_actions::specs::Sets::values, px_actions::specs::Updates::has_parameter, px_actions::specs::Updates::word_update, px_base::specs::Blanks::trimmed, px_base::specs::Numbers::decimal, px_base::specs::Ports::item, px_base::specs::Ports::port, px_base::specs::Ports::port_list, px_head::specs::FieldLines::read_field, px_head::specs::Names::is_held_back_of_request))]
+
 ghost use Rattle.std.specs.Prelude.{◌≡◌, ◌∷◌, [], Some, None, Ok, Err, true, false, codes};
 ghost use Rattle.px_actions.specs.Braces.{balances, is_closed, words};
 ghost use Rattle.px_actions.specs.Faults.{refusal};

@@ -1,14 +1,6 @@
 //! How answers are returned, and requests sent on (RFC 9112, sections 3.2, 6 and 9.6; RFC 9110, sections 10.1.1 and 15.2).
-#![tactic(auto, unfolding(
-    core::specs::Fmt::digits,
-    px_answers::specs::Framings::is_length,
-    px_base::specs::Blanks::trimmed,
-    px_base::specs::Numbers::decimal,
-    px_head::specs::Prints::field_lines,
-    px_head::specs::Prints::printed_head,
-    px_head::specs::Prints::request_line,
-    px_sending::specs::Heads::next_head,
-))]
+#![tactic(auto, unfolding(core::specs::Fmt::digits, px_answers::specs::Framings::is_length, px_base::specs::Blanks::trimmed, px_base::specs::Numbers::decimal, px_head::specs::Prints::field_lines, px_head::specs::Prints::printed_head, px_head::specs::Prints::request_line, px_sending::specs::Heads::next_head))]
+
 ghost use Rattle.std.specs.Prelude.{◌≡◌, ◌∷◌, [], Some, None, true, false, codes};
 ghost use Rattle.px_answers.specs.Forms.{ends_by, stands};
 ghost use Rattle.px_answers.specs.Framings.{form_by, framing_of, has_body, is_identity, is_plainly_coded, stated_length};
@@ -32,19 +24,13 @@ fn interim_heads()
 /// What frames an answer, and in which form its body is returned.
 fn framings_of_answers()
     ensures length { framing_of form.Raw (rule.Length 2) [] ≡ field (codes "Content-Length") (codes "2") ∷ [] }
-    ensures codings {
-        framing_of form.Raw rule.Chunked (field (codes "transfer-encoding") (codes "gzip,chunked") ∷ [])
-        ≡ field (codes "Transfer-Encoding") (codes "gzip, chunked") ∷ []
-    }
+    ensures codings { framing_of form.Raw rule.Chunked (field (codes "transfer-encoding") (codes "gzip,chunked") ∷ [])
+        ≡ field (codes "Transfer-Encoding") (codes "gzip, chunked") ∷ [] }
     ensures close { framing_of form.Raw rule.ToClose [] ≡ [] }
-    ensures no_body {
-        framing_of form.Raw rule.Absent (field (codes "Content-Length") (codes "007") ∷ [])
-        ≡ field (codes "Content-Length") (codes "7") ∷ []
-    }
-    ensures two_lengths {
-        stated_length (field (codes "Content-Length") (codes "1") ∷ field (codes "Content-Length") (codes "1") ∷ [])
-        ≡ None
-    }
+    ensures no_body { framing_of form.Raw rule.Absent (field (codes "Content-Length") (codes "007") ∷ [])
+        ≡ field (codes "Content-Length") (codes "7") ∷ [] }
+    ensures two_lengths { stated_length (field (codes "Content-Length") (codes "1") ∷ field (codes "Content-Length") (codes "1") ∷ [])
+        ≡ None }
     ensures old { form_by true rule.Chunked (field (codes "Transfer-Encoding") (codes "chunked") ∷ []) ≡ form.Plain }
     ensures old_coded { form_by true rule.Chunked (field (codes "Transfer-Encoding") (codes "gzip, chunked") ∷ []) ≡ form.Raw }
     ensures new { form_by false rule.Chunked (field (codes "Transfer-Encoding") (codes "chunked") ∷ []) ≡ form.Raw }
@@ -74,18 +60,12 @@ fn ends_of_answers()
 
 /// The head that goes to the next server.
 fn heads_sent_on()
-    ensures get {
-        next_head (record { method = codes "GET"; target = codes "/x"; host = codes "a.test"; downgrade = false; fields = []; rule = rule.Absent })
-        ≡ codes "GET /x HTTP/1.1\r\nHost: a.test\r\nConnection: close\r\n\r\n"
-    }
-    ensures post {
-        next_head (record { method = codes "POST"; target = codes "/x"; host = codes "a.test"; downgrade = false; fields = field (codes "A") (codes "1") ∷ []; rule = rule.Length 2 })
-        ≡ codes "POST /x HTTP/1.1\r\nHost: a.test\r\nA: 1\r\nContent-Length: 2\r\nConnection: close\r\n\r\n"
-    }
-    ensures parent {
-        next_head (record { method = codes "GET"; target = codes "http://b.test/"; host = codes "b.test"; downgrade = true; fields = []; rule = rule.Absent })
-        ≡ codes "GET http://b.test/ HTTP/1.0\r\nHost: b.test\r\nConnection: close\r\n\r\n"
-    }
+    ensures get { next_head (record { method = codes "GET"; target = codes "/x"; host = codes "a.test"; downgrade = false; fields = []; rule = rule.Absent })
+        ≡ codes "GET /x HTTP/1.1\r\nHost: a.test\r\nConnection: close\r\n\r\n" }
+    ensures post { next_head (record { method = codes "POST"; target = codes "/x"; host = codes "a.test"; downgrade = false; fields = field (codes "A") (codes "1") ∷ []; rule = rule.Length 2 })
+        ≡ codes "POST /x HTTP/1.1\r\nHost: a.test\r\nA: 1\r\nContent-Length: 2\r\nConnection: close\r\n\r\n" }
+    ensures parent { next_head (record { method = codes "GET"; target = codes "http://b.test/"; host = codes "b.test"; downgrade = true; fields = []; rule = rule.Absent })
+        ≡ codes "GET http://b.test/ HTTP/1.0\r\nHost: b.test\r\nConnection: close\r\n\r\n" }
     ensures chunks { next_minor true rule.Chunked ≡ 1 }
     ensures lower { next_minor true (rule.Length 2) ≡ 0 }
 {}

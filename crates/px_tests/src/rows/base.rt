@@ -1,11 +1,6 @@
 //! White space, decimal numbers and lists of ports.
-#![tactic(auto, unfolding(
-    px_base::specs::Blanks::trimmed,
-    px_base::specs::Numbers::decimal,
-    px_base::specs::Ports::item,
-    px_base::specs::Ports::port,
-    px_base::specs::Ports::port_list,
-))]
+#![tactic(auto, unfolding(px_base::specs::Blanks::trimmed, px_base::specs::Numbers::decimal, px_base::specs::Ports::item, px_base::specs::Ports::port, px_base::specs::Ports::port_list))]
+
 ghost use Rattle.std.specs.Prelude.{◌≡◌, ◌∷◌, [], Some, None, true, false, codes, option_map};
 ghost use Rattle.px_base.specs.Blanks.{trimmed};
 ghost use Rattle.px_base.specs.Numbers.{decimal};

@@ -1,25 +1,6 @@
 //! Words, files and printed lines of the commands, and the generated job.
-#![tactic(auto, unfolding(
-    core::specs::Fmt::digits,
-    px_base::specs::Numbers::decimal,
-    px_commands::specs::Entries::first_entry,
-    px_generated::specs::Draws::after_draws,
-    px_generated::specs::Files::filter_text,
-    px_generated::specs::Files::place,
-    px_generated::specs::Files::section,
-    px_generated::specs::Files::section_from,
-    px_generated::specs::Files::update_of,
-    px_generated::specs::Sessions::answer_bytes,
-    px_generated::specs::Sessions::answer_front,
-    px_generated::specs::Sessions::request,
-    px_generated::specs::Sessions::request_from,
-    px_show::specs::Showing::counted,
-    px_show::specs::Showing::file_counts,
-    px_show::specs::Showing::filter_counts,
-    px_show::specs::Showing::note_lines,
-    px_show::specs::Showing::pattern_counts,
-    px_show::specs::Showing::ref_lines,
-))]
+#![tactic(auto, unfolding(core::specs::Fmt::digits, px_base::specs::Numbers::decimal, px_commands::specs::Entries::first_entry, px_generated::specs::Draws::after_draws, px_generated::specs::Files::filter_text, px_generated::specs::Files::place, px_generated::specs::Files::section, px_generated::specs::Files::section_from, px_generated::specs::Files::update_of, px_generated::specs::Sessions::answer_bytes, px_generated::specs::Sessions::answer_front, px_generated::specs::Sessions::request, px_generated::specs::Sessions::request_from, px_show::specs::Showing::counted, px_show::specs::Showing::file_counts, px_show::specs::Showing::filter_counts, px_show::specs::Showing::note_lines, px_show::specs::Showing::pattern_counts, px_show::specs::Showing::ref_lines))]
+
 ghost use Rattle.std.specs.Prelude.{◌≡◌, ◌∷◌, ◌^◌, ◌-◌, [], Some, None, true, false, codes};
 ghost use Rattle.px_commands.specs.Entries.{first_entry};
 ghost use Rattle.px_commands.specs.Sents.{sent_text};
@@ -59,10 +40,8 @@ fn entries_of_origin()
 
 /// An entry of SENT for each link.
 fn entries_of_sent()
-    ensures one {
-        sent_text (record { host = codes "a.test"; port = 443; heard = codes "xyz"; sent = codes "abc" } ∷ [])
-        ≡ codes "a.test:443 3\nabc"
-    }
+    ensures one { sent_text (record { host = codes "a.test"; port = 443; heard = codes "xyz"; sent = codes "abc" } ∷ [])
+        ≡ codes "a.test:443 3\nabc" }
     ensures none { sent_text [] ≡ [] }
 {}
 
@@ -81,17 +60,13 @@ fn statuses()
 
 /// What `check` and `show` print.
 fn printed_lines()
-    ensures note {
-        note_lines (record { file = codes "config"; line = 4; text = codes "directive ignored: logfile" } ∷ [])
-        ≡ codes "config:4: note: directive ignored: logfile\n"
-    }
+    ensures note { note_lines (record { file = codes "config"; line = 4; text = codes "directive ignored: logfile" } ∷ [])
+        ≡ codes "config:4: note: directive ignored: logfile\n" }
     ensures files { file_counts 2 ≡ codes "ok: 2 action files, " }
     ensures patterns { pattern_counts 30 30 ≡ codes "30 sections, 30 patterns, " }
     ensures filters { filter_counts 1 1 ≡ codes "1 filter files, 1 filters\n" }
-    ensures sections {
-        ref_lines (codes "u.action" ∷ []) (record { file = 0; line = 1 } ∷ record { file = 0; line = 3 } ∷ [])
-        ≡ codes "u.action:1\nu.action:3\n"
-    }
+    ensures sections { ref_lines (codes "u.action" ∷ []) (record { file = 0; line = 1 } ∷ record { file = 0; line = 3 } ∷ [])
+        ≡ codes "u.action:1\nu.action:3\n" }
 {}
 
 /// The generated job's numbers are those of the example of `rand` in the C standard (ISO C17, 7.22.2.2), with 31 bits kept.

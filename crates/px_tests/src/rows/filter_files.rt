@@ -1,12 +1,6 @@
 //! Filter files (Privoxy's manual, "Filter Files").
-#![tactic(auto, unfolding(
-    core::specs::Str::chars,
-    core::specs::Str::is_utf8,
-    px_filter_files::specs::FilterFiles::all_skipped,
-    px_filter_files::specs::FilterFiles::first_fault,
-    px_subst::specs::Expressions::expression,
-    px_subst::specs::Jobs::job_of,
-))]
+#![tactic(auto, unfolding(core::specs::Str::chars, core::specs::Str::is_utf8, px_filter_files::specs::FilterFiles::all_skipped, px_filter_files::specs::FilterFiles::first_fault, px_subst::specs::Expressions::expression, px_subst::specs::Jobs::job_of))]
+
 ghost use Rattle.std.specs.Prelude.{◌≡◌, ◌∷◌, [], Some, None, true, false, codes};
 ghost use Rattle.px_filter_files.specs.FilterFiles.{all_skipped, first_fault};
 ghost use Rattle.px_filter_files.specs.Headings.{heading_at};
@@ -35,10 +29,8 @@ fn refused_filters()
     ensures no_name_outside { first_fault [] (line 2 (codes "EXTERNAL-FILTER:") ∷ []) ≡ Some (At 2 26) }
     ensures twice { first_fault [] (line 1 (codes "FILTER: f a") ∷ line 4 (codes "FILTER: f b") ∷ []) ≡ Some (At 4 27) }
     ensures two_kinds { first_fault [] (line 1 (codes "FILTER: f a") ∷ line 2 (codes "SERVER-HEADER-FILTER: f a") ∷ []) ≡ None }
-    ensures outside {
-        first_fault [] (line 1 (codes "EXTERNAL-FILTER: f") ∷ line 2 (codes "not a job") ∷ line 3 (codes "EXTERNAL-FILTER: f") ∷ [])
-        ≡ None
-    }
+    ensures outside { first_fault [] (line 1 (codes "EXTERNAL-FILTER: f") ∷ line 2 (codes "not a job") ∷ line 3 (codes "EXTERNAL-FILTER: f") ∷ [])
+        ≡ None }
 {}
 
 /// A job that isn't read is left out by its line.

@@ -1,13 +1,6 @@
 //! How bodies are framed (RFC 9112, sections 6 and 7).
-#![tactic(auto, unfolding(
-    px_base::specs::Blanks::trimmed,
-    px_base::specs::Numbers::decimal,
-    px_framing::specs::Lines::after,
-    px_framing::specs::Lines::may_stand,
-    px_framing::specs::Lines::size_of,
-    px_framing::specs::Rules::request_rule,
-    px_framing::specs::Rules::response_rule,
-))]
+#![tactic(auto, unfolding(px_base::specs::Blanks::trimmed, px_base::specs::Numbers::decimal, px_framing::specs::Lines::after, px_framing::specs::Lines::may_stand, px_framing::specs::Lines::size_of, px_framing::specs::Rules::request_rule, px_framing::specs::Rules::response_rule))]
+
 ghost use Rattle.std.specs.Prelude.{◌≡◌, ◌∷◌, ◌^◌, ◌-◌, [], Some, None, Ok, Err, true, false, codes};
 ghost use Rattle.px_framing.specs.Body.{at_end, first_bytes};
 ghost use Rattle.px_framing.specs.Lines.{after, may_stand, size_of};
@@ -50,14 +43,10 @@ fn places_of_lines()
 fn bodies_of_requests()
     ensures none { request_rule [] ≡ Ok Absent }
     ensures stated { request_rule (field (codes "content-length") (codes "12") ∷ []) ≡ Ok (Length 12) }
-    ensures equal {
-        request_rule (field (codes "Content-Length") (codes "3") ∷ field (codes "Content-Length") (codes "03") ∷ [])
-        ≡ Ok (Length 3)
-    }
-    ensures two {
-        request_rule (field (codes "Content-Length") (codes "3") ∷ field (codes "Content-Length") (codes "4") ∷ [])
-        ≡ Err TwoLengths
-    }
+    ensures equal { request_rule (field (codes "Content-Length") (codes "3") ∷ field (codes "Content-Length") (codes "03") ∷ [])
+        ≡ Ok (Length 3) }
+    ensures two { request_rule (field (codes "Content-Length") (codes "3") ∷ field (codes "Content-Length") (codes "4") ∷ [])
+        ≡ Err TwoLengths }
     ensures bad { request_rule (field (codes "Content-Length") (codes "x") ∷ []) ≡ Err BadLength }
     ensures list { request_rule (field (codes "Content-Length") (codes "3, 3") ∷ []) ≡ Err BadLength }
     ensures above { request_rule (field (codes "Content-Length") (codes "9223372036854775808") ∷ []) ≡ Err BadLength }
@@ -65,10 +54,8 @@ fn bodies_of_requests()
     ensures empty_items { request_rule (field (codes "Transfer-Encoding") (codes ", chunked ,") ∷ []) ≡ Ok Chunked }
     ensures other { request_rule (field (codes "Transfer-Encoding") (codes "gzip") ∷ []) ≡ Err UnknownCoding }
     ensures twice { request_rule (field (codes "Transfer-Encoding") (codes "chunked, chunked") ∷ []) ≡ Err UnknownCoding }
-    ensures both {
-        request_rule (field (codes "Transfer-Encoding") (codes "chunked") ∷ field (codes "Content-Length") (codes "3") ∷ [])
-        ≡ Err LengthAndChunks
-    }
+    ensures both { request_rule (field (codes "Transfer-Encoding") (codes "chunked") ∷ field (codes "Content-Length") (codes "3") ∷ [])
+        ≡ Err LengthAndChunks }
 {}
 
 /// By which rule the body of an answer is read.
@@ -78,18 +65,12 @@ fn bodies_of_answers()
     ensures no_content { response_rule (answer 1 204 [] []) (codes "GET") ≡ Ok Absent }
     ensures not_modified { response_rule (answer 1 304 [] []) (codes "GET") ≡ Ok Absent }
     ensures interim { response_rule (answer 1 103 [] []) (codes "GET") ≡ Ok Absent }
-    ensures last_coding {
-        response_rule (answer 1 200 [] (field (codes "Transfer-Encoding") (codes "gzip, chunked") ∷ [])) (codes "GET")
-        ≡ Ok Chunked
-    }
-    ensures other_coding {
-        response_rule (answer 1 200 [] (field (codes "Transfer-Encoding") (codes "chunked, gzip") ∷ [])) (codes "GET")
-        ≡ Ok ToClose
-    }
-    ensures both {
-        response_rule (answer 1 200 [] (field (codes "Transfer-Encoding") (codes "chunked") ∷ field (codes "Content-Length") (codes "3") ∷ [])) (codes "GET")
-        ≡ Err LengthAndChunks
-    }
+    ensures last_coding { response_rule (answer 1 200 [] (field (codes "Transfer-Encoding") (codes "gzip, chunked") ∷ [])) (codes "GET")
+        ≡ Ok Chunked }
+    ensures other_coding { response_rule (answer 1 200 [] (field (codes "Transfer-Encoding") (codes "chunked, gzip") ∷ [])) (codes "GET")
+        ≡ Ok ToClose }
+    ensures both { response_rule (answer 1 200 [] (field (codes "Transfer-Encoding") (codes "chunked") ∷ field (codes "Content-Length") (codes "3") ∷ [])) (codes "GET")
+        ≡ Err LengthAndChunks }
     ensures bad { response_rule (answer 1 200 [] (field (codes "Content-Length") (codes "-1") ∷ [])) (codes "GET") ≡ Err BadLength }
 {}
 
@@ -100,10 +81,8 @@ fn ends_of_bodies()
     ensures chunks { at_end Chunked state.More ≡ state.Cut }
     ensures whole { at_end Chunked state.Whole ≡ state.Whole }
     ensures misframed { at_end Chunked state.Misframed ≡ state.Misframed }
-    ensures behind {
-        first_bytes 2 state.Whole (codes "hi!")
-        ≡ record { raw = codes "hi"; plain = codes "hi"; used = 2; state = state.Whole }
-    }
+    ensures behind { first_bytes 2 state.Whole (codes "hi!")
+        ≡ record { raw = codes "hi"; plain = codes "hi"; used = 2; state = state.Whole } }
     ensures short { first_bytes 3 state.Whole (codes "hi") ≡ record { raw = codes "hi"; plain = codes "hi"; used = 2; state = state.More } }
 {}
 

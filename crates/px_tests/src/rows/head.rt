@@ -1,21 +1,6 @@
 //! Heads of messages (RFC 9110 and RFC 9112).
-#![tactic(auto, unfolding(
-    core::specs::Fmt::digits,
-    px_base::specs::Blanks::trimmed,
-    px_head::specs::Blocks::block_len,
-    px_head::specs::Blocks::block_of,
-    px_head::specs::Blocks::head_end,
-    px_head::specs::Blocks::lines_of,
-    px_head::specs::Blocks::up_to_empty,
-    px_head::specs::Names::is_held_back_of_request,
-    px_head::specs::Names::is_held_back_of_response,
-    px_head::specs::Names::lists_word,
-    px_head::specs::Prints::field_lines,
-    px_head::specs::Prints::printed_head,
-    px_head::specs::Prints::request_line,
-    px_head::specs::Prints::status_line,
-    px_head::specs::Prints::status_text,
-))]
+#![tactic(auto, unfolding(core::specs::Fmt::digits, px_base::specs::Blanks::trimmed, px_head::specs::Blocks::block_len, px_head::specs::Blocks::block_of, px_head::specs::Blocks::head_end, px_head::specs::Blocks::lines_of, px_head::specs::Blocks::up_to_empty, px_head::specs::Names::is_held_back_of_request, px_head::specs::Names::is_held_back_of_response, px_head::specs::Names::lists_word, px_head::specs::Prints::field_lines, px_head::specs::Prints::printed_head, px_head::specs::Prints::request_line, px_head::specs::Prints::status_line, px_head::specs::Prints::status_text))]
+
 ghost use Rattle.std.specs.Prelude.{◌≡◌, ◌∷◌, [], Some, None, true, false, codes};
 ghost use Rattle.px_head.specs.Blocks.{block_len, head_end};
 ghost use Rattle.px_head.specs.Faults.{fault_name, fault_number, too_long_name, too_long_number};
@@ -72,10 +57,8 @@ fn printed_heads()
     ensures answer { status_line (answer 1 404 (codes "Not Found") []) ≡ codes "HTTP/1.1 404 Not Found" }
     ensures no_reason { status_line (answer 1 200 [] []) ≡ codes "HTTP/1.1 200" }
     ensures three_digits { status_text 7 ≡ codes "007" }
-    ensures fields {
-        printed_head (codes "A") (field (codes "X") (codes "1") ∷ field (codes "Y") [] ∷ [])
-        ≡ codes "A\r\nX: 1\r\nY: \r\n\r\n"
-    }
+    ensures fields { printed_head (codes "A") (field (codes "X") (codes "1") ∷ field (codes "Y") [] ∷ [])
+        ≡ codes "A\r\nX: 1\r\nY: \r\n\r\n" }
 {}
 
 /// The refusals of heads.

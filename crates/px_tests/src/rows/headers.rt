@@ -1,67 +1,6 @@
 //! Header actions (Privoxy's manual, "Actions Files"; RFC 9110; RFC 6265).
-#![tactic(auto, unfolding(
-    core::specs::Fmt::digits,
-    core::specs::Str::chars,
-    core::specs::Str::is_utf8,
-    httpdate::specs::Calendar::days_of_months,
-    httpdate::specs::Calendar::days_of_years,
-    httpdate::specs::Reader::parse,
-    httpdate::specs::Reader::parse_asctime,
-    httpdate::specs::Reader::parse_imf_fixdate,
-    httpdate::specs::Reader::parse_rfc850_date,
-    httpdate::specs::Reader::read_name,
-    httpdate::specs::Reader::read_padded_day,
-    httpdate::specs::Reader::read_tag,
-    httpdate::specs::Reader::read_time,
-    httpdate::specs::Reader::read_two_digits,
-    httpdate::specs::Reader::read_year,
-    memchr::specs::Find::first_of,
-    memchr::specs::Find::matches_from,
-    px_base::specs::Blanks::trimmed,
-    px_base::specs::Numbers::decimal,
-    px_base::specs::Ports::port,
-    px_head::specs::Names::is_held_back_of_request,
-    px_head::specs::Names::is_held_back_of_response,
-    px_head::specs::Names::lists_word,
-    px_headers::specs::ClientRows::blocked,
-    px_headers::specs::ClientRows::blocked_or_set,
-    px_headers::specs::Cookies::cap_of,
-    px_headers::specs::Cookies::capped_attribute,
-    px_headers::specs::Cookies::capped_cookie,
-    px_headers::specs::Cookies::is_expires,
-    px_headers::specs::Cookies::is_max_age,
-    px_headers::specs::Cookies::is_short,
-    px_headers::specs::Cookies::is_soon,
-    px_headers::specs::Cookies::piece_name,
-    px_headers::specs::Cookies::piece_value,
-    px_headers::specs::Cookies::session_cookie,
-    px_headers::specs::Dates::date_at,
-    px_headers::specs::Dates::date_on,
-    px_headers::specs::Dates::month_on,
-    px_headers::specs::Dates::year_on,
-    px_headers::specs::HeldBack::is_held_back,
-    px_headers::specs::HeldBack::passed_on,
-    px_headers::specs::Kinds::holds_without_case,
-    px_headers::specs::Kinds::is_text_type,
-    px_headers::specs::Referrers::is_foreign,
-    px_headers::specs::Referrers::root_of,
-    px_headers::specs::Referrers::with_hidden_referrer,
-    px_headers::specs::Referrers::without_brackets,
-    px_headers::specs::Rewrites::before_version,
-    px_headers::specs::Rewrites::behind,
-    px_headers::specs::Rewrites::behind_version,
-    px_headers::specs::Rewrites::is_status_part,
-    px_headers::specs::Rewrites::rewritten,
-    px_headers::specs::Rewrites::target_in,
-    px_headers::specs::Rows::with_more,
-    px_headers::specs::Rows::with_value,
-    px_headers::specs::Rows::without,
-    px_headers::specs::Rows::without_holding,
-    px_patterns::specs::Urls::host_of,
-    px_patterns::specs::Urls::port_of,
-    px_patterns::specs::Urls::shown_host_port,
-    px_patterns::specs::Urls::url_of,
-))]
+#![tactic(auto, unfolding(core::specs::Fmt::digits, core::specs::Str::chars, core::specs::Str::is_utf8, httpdate::specs::Calendar::days_of_months, httpdate::specs::Calendar::days_of_years, httpdate::specs::Reader::parse, httpdate::specs::Reader::parse_asctime, httpdate::specs::Reader::parse_imf_fixdate, httpdate::specs::Reader::parse_rfc850_date, httpdate::specs::Reader::read_name, httpdate::specs::Reader::read_padded_day, httpdate::specs::Reader::read_tag, httpdate::specs::Reader::read_time, httpdate::specs::Reader::read_two_digits, httpdate::specs::Reader::read_year, memchr::specs::Find::first_of, memchr::specs::Find::matches_from, px_base::specs::Blanks::trimmed, px_base::specs::Numbers::decimal, px_base::specs::Ports::port, px_head::specs::Names::is_held_back_of_request, px_head::specs::Names::is_held_back_of_response, px_head::specs::Names::lists_word, px_headers::specs::ClientRows::blocked, px_headers::specs::ClientRows::blocked_or_set, px_headers::specs::Cookies::cap_of, px_headers::specs::Cookies::capped_attribute, px_headers::specs::Cookies::capped_cookie, px_headers::specs::Cookies::is_expires, px_headers::specs::Cookies::is_max_age, px_headers::specs::Cookies::is_short, px_headers::specs::Cookies::is_soon, px_headers::specs::Cookies::piece_name, px_headers::specs::Cookies::piece_value, px_headers::specs::Cookies::session_cookie, px_headers::specs::Dates::date_at, px_headers::specs::Dates::date_on, px_headers::specs::Dates::month_on, px_headers::specs::Dates::year_on, px_headers::specs::HeldBack::is_held_back, px_headers::specs::HeldBack::passed_on, px_headers::specs::Kinds::holds_without_case, px_headers::specs::Kinds::is_text_type, px_headers::specs::Referrers::is_foreign, px_headers::specs::Referrers::root_of, px_headers::specs::Referrers::with_hidden_referrer, px_headers::specs::Referrers::without_brackets, px_headers::specs::Rewrites::before_version, px_headers::specs::Rewrites::behind, px_headers::specs::Rewrites::behind_version, px_headers::specs::Rewrites::is_status_part, px_headers::specs::Rewrites::rewritten, px_headers::specs::Rewrites::target_in, px_headers::specs::Rows::with_more, px_headers::specs::Rows::with_value, px_headers::specs::Rows::without, px_headers::specs::Rows::without_holding, px_patterns::specs::Urls::host_of, px_patterns::specs::Urls::port_of, px_patterns::specs::Urls::shown_host_port, px_patterns::specs::Urls::url_of))]
+
 ghost use Rattle.std.specs.Prelude.{◌≡◌, ◌∷◌, [], Some, None, true, false, codes, option_map};
 ghost use Rattle.px_headers.specs.ClientRows.{blocked, blocked_or_set};
 ghost use Rattle.px_headers.specs.Cookies.{capped_cookie, session_cookie};
@@ -88,30 +27,18 @@ fn hosts_of_referrers()
 
 /// What hide-referrer makes of a Referer field.
 fn referrers()
-    ensures own {
-        with_hidden_referrer (url_at (codes "a.test") 81 (codes "/x")) (codes "conditional-forge") (field (codes "Referer") (codes "https://A.test/y") ∷ [])
-        ≡ field (codes "Referer") (codes "https://A.test/y") ∷ []
-    }
-    ensures foreign {
-        with_hidden_referrer (url_at (codes "a.test") 81 (codes "/x")) (codes "conditional-forge") (field (codes "Referer") (codes "http://b.test/") ∷ [])
-        ≡ field (codes "Referer") (codes "http://a.test:81/") ∷ []
-    }
-    ensures no_url {
-        with_hidden_referrer (url_at (codes "a.test") 81 (codes "/x")) (codes "conditional-forge") (field (codes "Referer") (codes "about") ∷ [])
-        ≡ field (codes "Referer") (codes "http://a.test:81/") ∷ []
-    }
-    ensures conditional {
-        with_hidden_referrer (url_at (codes "a.test") 81 (codes "/x")) (codes "conditional-block") (field (codes "Referer") (codes "http://b.test/") ∷ [])
-        ≡ []
-    }
-    ensures block {
-        with_hidden_referrer (url_at (codes "a.test") 81 (codes "/x")) (codes "block") (field (codes "Referer") (codes "http://a.test/") ∷ [])
-        ≡ []
-    }
-    ensures text {
-        with_hidden_referrer (url_at (codes "a.test") 81 (codes "/x")) (codes "r") (field (codes "referer") (codes "x") ∷ [])
-        ≡ field (codes "referer") (codes "r") ∷ []
-    }
+    ensures own { with_hidden_referrer (url_at (codes "a.test") 81 (codes "/x")) (codes "conditional-forge") (field (codes "Referer") (codes "https://A.test/y") ∷ [])
+        ≡ field (codes "Referer") (codes "https://A.test/y") ∷ [] }
+    ensures foreign { with_hidden_referrer (url_at (codes "a.test") 81 (codes "/x")) (codes "conditional-forge") (field (codes "Referer") (codes "http://b.test/") ∷ [])
+        ≡ field (codes "Referer") (codes "http://a.test:81/") ∷ [] }
+    ensures no_url { with_hidden_referrer (url_at (codes "a.test") 81 (codes "/x")) (codes "conditional-forge") (field (codes "Referer") (codes "about") ∷ [])
+        ≡ field (codes "Referer") (codes "http://a.test:81/") ∷ [] }
+    ensures conditional { with_hidden_referrer (url_at (codes "a.test") 81 (codes "/x")) (codes "conditional-block") (field (codes "Referer") (codes "http://b.test/") ∷ [])
+        ≡ [] }
+    ensures block { with_hidden_referrer (url_at (codes "a.test") 81 (codes "/x")) (codes "block") (field (codes "Referer") (codes "http://a.test/") ∷ [])
+        ≡ [] }
+    ensures text { with_hidden_referrer (url_at (codes "a.test") 81 (codes "/x")) (codes "r") (field (codes "referer") (codes "x") ∷ [])
+        ≡ field (codes "referer") (codes "r") ∷ [] }
 {}
 
 /// A cookie of a session has no attribute that says how long it lives (Privoxy's manual, "session-cookies-only").
@@ -142,49 +69,31 @@ fn types_of_a_text()
 
 /// The fields of one connection, and those that it names, aren't passed on (RFC 9110, section 7.6.1).
 fn passed_fields()
-    ensures named {
-        passed_on Request (field (codes "Connection") (codes "X-A, close") ∷ field (codes "x-a") (codes "1") ∷ field (codes "Accept") (codes "*") ∷ [])
-        ≡ field (codes "Accept") (codes "*") ∷ []
-    }
+    ensures named { passed_on Request (field (codes "Connection") (codes "X-A, close") ∷ field (codes "x-a") (codes "1") ∷ field (codes "Accept") (codes "*") ∷ [])
+        ≡ field (codes "Accept") (codes "*") ∷ [] }
     ensures host { passed_on Request (field (codes "Host") (codes "b.test") ∷ []) ≡ [] }
-    ensures host_of_an_answer {
-        passed_on Response (field (codes "Host") (codes "b.test") ∷ [])
-        ≡ field (codes "Host") (codes "b.test") ∷ []
-    }
+    ensures host_of_an_answer { passed_on Response (field (codes "Host") (codes "b.test") ∷ [])
+        ≡ field (codes "Host") (codes "b.test") ∷ [] }
 {}
 
 /// What actions do to fields: setting changes those that are there, and removing removes each.
 fn changed_fields()
-    ensures set {
-        with_value (codes "User-Agent") (codes "x") (field (codes "user-agent") (codes "y") ∷ field (codes "A") (codes "1") ∷ [])
-        ≡ field (codes "user-agent") (codes "x") ∷ field (codes "A") (codes "1") ∷ []
-    }
+    ensures set { with_value (codes "User-Agent") (codes "x") (field (codes "user-agent") (codes "y") ∷ field (codes "A") (codes "1") ∷ [])
+        ≡ field (codes "user-agent") (codes "x") ∷ field (codes "A") (codes "1") ∷ [] }
     ensures not_added { with_value (codes "User-Agent") (codes "x") [] ≡ [] }
-    ensures each {
-        without (codes "A") (field (codes "a") (codes "1") ∷ field (codes "B") (codes "2") ∷ field (codes "A") (codes "3") ∷ [])
-        ≡ field (codes "B") (codes "2") ∷ []
-    }
+    ensures each { without (codes "A") (field (codes "a") (codes "1") ∷ field (codes "B") (codes "2") ∷ field (codes "A") (codes "3") ∷ [])
+        ≡ field (codes "B") (codes "2") ∷ [] }
     ensures block { blocked_or_set (codes "From") (codes "block") (field (codes "From") (codes "u") ∷ []) ≡ [] }
-    ensures other {
-        blocked_or_set (codes "From") (codes "v") (field (codes "From") (codes "u") ∷ [])
-        ≡ field (codes "From") (codes "v") ∷ []
-    }
-    ensures no_effect {
-        blocked (codes "If-Modified-Since") (codes "1") (field (codes "If-Modified-Since") (codes "u") ∷ [])
-        ≡ field (codes "If-Modified-Since") (codes "u") ∷ []
-    }
-    ensures more {
-        with_more (codes "X-Forwarded-For") (codes ", ") (codes "127.0.0.1") (field (codes "X-Forwarded-For") (codes "10.0.0.1") ∷ [])
-        ≡ field (codes "X-Forwarded-For") (codes "10.0.0.1, 127.0.0.1") ∷ []
-    }
-    ensures new {
-        with_more (codes "X-Forwarded-For") (codes ", ") (codes "127.0.0.1") []
-        ≡ field (codes "X-Forwarded-For") (codes "127.0.0.1") ∷ []
-    }
-    ensures crunched {
-        without_holding (codes "A: 1") (field (codes "X-A") (codes "12") ∷ field (codes "a") (codes "1") ∷ [])
-        ≡ field (codes "a") (codes "1") ∷ []
-    }
+    ensures other { blocked_or_set (codes "From") (codes "v") (field (codes "From") (codes "u") ∷ [])
+        ≡ field (codes "From") (codes "v") ∷ [] }
+    ensures no_effect { blocked (codes "If-Modified-Since") (codes "1") (field (codes "If-Modified-Since") (codes "u") ∷ [])
+        ≡ field (codes "If-Modified-Since") (codes "u") ∷ [] }
+    ensures more { with_more (codes "X-Forwarded-For") (codes ", ") (codes "127.0.0.1") (field (codes "X-Forwarded-For") (codes "10.0.0.1") ∷ [])
+        ≡ field (codes "X-Forwarded-For") (codes "10.0.0.1, 127.0.0.1") ∷ [] }
+    ensures new { with_more (codes "X-Forwarded-For") (codes ", ") (codes "127.0.0.1") []
+        ≡ field (codes "X-Forwarded-For") (codes "127.0.0.1") ∷ [] }
+    ensures crunched { without_holding (codes "A: 1") (field (codes "X-A") (codes "12") ∷ field (codes "a") (codes "1") ∷ [])
+        ≡ field (codes "a") (codes "1") ∷ [] }
 {}
 
 /// A rewritten request line is one of the same method; a rewritten status line is one of the same status.

@@ -1,31 +1,6 @@
 //! URLs, and patterns of hosts (RFC 9112, section 3.2; Privoxy's manual, "Patterns").
-#![tactic(auto, unfolding(
-    core::specs::Fmt::digits,
-    core::specs::Str::chars,
-    core::specs::Str::is_utf8,
-    px_base::specs::Blanks::trimmed,
-    px_base::specs::Numbers::decimal,
-    px_base::specs::Ports::item,
-    px_base::specs::Ports::port,
-    px_base::specs::Ports::port_list,
-    px_patterns::specs::Expressions::expression,
-    px_patterns::specs::Globs::glob_matches,
-    px_patterns::specs::Globs::items_from,
-    px_patterns::specs::Globs::label_of,
-    px_patterns::specs::Globs::ranges_of,
-    px_patterns::specs::Hosts::host_matches,
-    px_patterns::specs::Hosts::host_pattern,
-    px_patterns::specs::Hosts::labels_match,
-    px_patterns::specs::Patterns::path_of,
-    px_patterns::specs::Patterns::ports_of,
-    px_patterns::specs::Patterns::url_pattern,
-    px_patterns::specs::Urls::authority_of,
-    px_patterns::specs::Urls::host_of,
-    px_patterns::specs::Urls::port_of,
-    px_patterns::specs::Urls::shown_host_port,
-    px_patterns::specs::Urls::shown_url,
-    px_patterns::specs::Urls::url_of,
-))]
+#![tactic(auto, unfolding(core::specs::Fmt::digits, core::specs::Str::chars, core::specs::Str::is_utf8, px_base::specs::Blanks::trimmed, px_base::specs::Numbers::decimal, px_base::specs::Ports::item, px_base::specs::Ports::port, px_base::specs::Ports::port_list, px_patterns::specs::Expressions::expression, px_patterns::specs::Globs::glob_matches, px_patterns::specs::Globs::items_from, px_patterns::specs::Globs::label_of, px_patterns::specs::Globs::ranges_of, px_patterns::specs::Hosts::host_matches, px_patterns::specs::Hosts::host_pattern, px_patterns::specs::Hosts::labels_match, px_patterns::specs::Patterns::path_of, px_patterns::specs::Patterns::ports_of, px_patterns::specs::Patterns::url_pattern, px_patterns::specs::Urls::authority_of, px_patterns::specs::Urls::host_of, px_patterns::specs::Urls::port_of, px_patterns::specs::Urls::shown_host_port, px_patterns::specs::Urls::shown_url, px_patterns::specs::Urls::url_of))]
+
 ghost use Rattle.std.specs.Prelude.{◌≡◌, ◌∷◌, [], Some, None, Ok, Err, true, false, codes};
 ghost use Rattle.px_patterns.specs.Faults.{pattern_fault_name, pattern_fault_number, url_fault_name, url_fault_number};
 ghost use Rattle.px_patterns.specs.Globs.{label_of, ranges_of};

@@ -1,21 +1,6 @@
 //! Requests and how sessions end (RFC 9112, sections 3.2 and 9.3; RFC 9110, section 9.3.6).
-#![tactic(auto, unfolding(
-    core::specs::Fmt::digits,
-    core::specs::Str::chars,
-    core::specs::Str::is_utf8,
-    px_base::specs::Blanks::trimmed,
-    px_base::specs::Numbers::decimal,
-    px_base::specs::Ports::port,
-    px_framing::specs::Rules::request_rule,
-    px_head::specs::Names::lists_word,
-    px_judging::specs::Replies::url_symbols,
-    px_judging::specs::Requests::keeps,
-    px_patterns::specs::Urls::authority_of,
-    px_patterns::specs::Urls::host_of,
-    px_patterns::specs::Urls::port_of,
-    px_patterns::specs::Urls::shown_url,
-    px_patterns::specs::Urls::url_of,
-))]
+#![tactic(auto, unfolding(core::specs::Fmt::digits, core::specs::Str::chars, core::specs::Str::is_utf8, px_base::specs::Blanks::trimmed, px_base::specs::Numbers::decimal, px_base::specs::Ports::port, px_framing::specs::Rules::request_rule, px_head::specs::Names::lists_word, px_judging::specs::Replies::url_symbols, px_judging::specs::Requests::keeps, px_patterns::specs::Urls::authority_of, px_patterns::specs::Urls::host_of, px_patterns::specs::Urls::port_of, px_patterns::specs::Urls::shown_url, px_patterns::specs::Urls::url_of))]
+
 ghost use Rattle.std.specs.Prelude.{◌≡◌, ◌∷◌, [], Some, None, Ok, Err, true, false, codes};
 ghost use Rattle.px_framing.specs.declared.rules.BodyRule.TheVariants as rule;
 ghost use Rattle.px_judging.specs.Replies.{url_symbols};
@@ -36,10 +21,8 @@ fn targets_of_requests()
     ensures tunnel_to_a_url { target_read (request (codes "CONNECT") (codes "http://a.test/") 1 []) ≡ Err url.BadPort }
     ensures case { is_connect (request (codes "connect") (codes "a.test:443") 1 []) ≡ false }
     ensures head { is_head (request (codes "HEAD") (codes "/") 1 []) ≡ true }
-    ensures no_body {
-        body_read (request (codes "CONNECT") (codes "a.test:443") 1 (field (codes "Content-Length") (codes "x") ∷ []))
-        ≡ Ok rule.Absent
-    }
+    ensures no_body { body_read (request (codes "CONNECT") (codes "a.test:443") 1 (field (codes "Content-Length") (codes "x") ∷ []))
+        ≡ Ok rule.Absent }
 {}
 
 /// Which requests let the connection be kept.
@@ -52,10 +35,8 @@ fn kept_connections()
 
 /// The values of a page's symbols.
 fn symbols_of_pages()
-    ensures of_url {
-        url_symbols (url_at (codes "a.test") 81 (codes "/x")) (codes "no") [] []
-        ≡ symbols (codes "a.test") (codes "81") (codes "/x") (codes "http://a.test:81/x") (codes "no") [] []
-    }
+    ensures of_url { url_symbols (url_at (codes "a.test") 81 (codes "/x")) (codes "no") [] []
+        ≡ symbols (codes "a.test") (codes "81") (codes "/x") (codes "http://a.test:81/x") (codes "no") [] [] }
     ensures misframed { error_of page.InvalidRequest ≡ codes "Misframed" }
     ensures parent { parent_of (record { host = codes "p.test"; port = 8080; parent = true }) page.ForwardingFailed ≡ codes "p.test:8080" }
     ensures no_parent { parent_of (record { host = codes "p.test"; port = 8080; parent = true }) page.SendFailed ≡ [] }

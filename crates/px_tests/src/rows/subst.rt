@@ -1,10 +1,6 @@
 //! Jobs: their fields, flags, items and words (Privoxy's manual, "Filter Files").
-#![tactic(auto, unfolding(
-    core::specs::Str::chars,
-    core::specs::Str::is_utf8,
-    px_subst::specs::Expressions::expression,
-    px_subst::specs::Jobs::job_of,
-))]
+#![tactic(auto, unfolding(core::specs::Str::chars, core::specs::Str::is_utf8, px_subst::specs::Expressions::expression, px_subst::specs::Jobs::job_of))]
+
 ghost use Rattle.std.specs.Prelude.{◌≡◌, ◌∷◌, [], Some, None, Ok, Err, true, false, codes, option_map};
 ghost use Rattle.px_subst.specs.Fields.{field_end, is_delimiter, unescaped};
 ghost use Rattle.px_subst.specs.JobFlags.{flags_of};
@@ -38,10 +34,8 @@ fn refused_jobs()
 
 /// A job with `D` keeps its texts until it is run.
 fn jobs_with_words()
-    ensures host {
-        job_of (codes "s@$host@H@D")
-        ≡ Ok (Worded (codes "$host") (codes "H") (record { every = false; any_case = false; multi_line = false; dot_all = false; spaced = false; ungreedy = false; plain = false; dynamic = true }))
-    }
+    ensures host { job_of (codes "s@$host@H@D")
+        ≡ Ok (Worded (codes "$host") (codes "H") (record { every = false; any_case = false; multi_line = false; dot_all = false; spaced = false; ungreedy = false; plain = false; dynamic = true })) }
 {}
 
 /// Each flag may stand any number of times; `o` asks for nothing.
@@ -71,10 +65,8 @@ fn items_of_substitutes()
 
 /// The four words stand for a run's values, and a value isn't searched again.
 fn words_of_jobs()
-    ensures each {
-        filled (record { host = codes "a.test"; origin = codes "127.0.0.1"; path = codes "/x"; url = codes "http://a.test/x" }) (codes "$host $origin $path $url")
-        ≡ codes "a.test 127.0.0.1 /x http://a.test/x"
-    }
+    ensures each { filled (record { host = codes "a.test"; origin = codes "127.0.0.1"; path = codes "/x"; url = codes "http://a.test/x" }) (codes "$host $origin $path $url")
+        ≡ codes "a.test 127.0.0.1 /x http://a.test/x" }
     ensures once { filled (record { host = codes "$path"; origin = []; path = codes "/x"; url = [] }) (codes "<$host>") ≡ codes "<$path>" }
     ensures other { filled (record { host = codes "a"; origin = []; path = []; url = [] }) (codes "$hos $hostx") ≡ codes "$hos ax" }
 {}

@@ -1,23 +1,6 @@
 //! Pages and replies (Privoxy's manual, "Privoxy's Template Files").
-#![tactic(auto, unfolding(
-    core::specs::Fmt::digits,
-    px_base::specs::Blanks::trimmed,
-    px_templates::specs::Lines::assembled,
-    px_templates::specs::Lines::included_name,
-    px_templates::specs::Lines::lines_of,
-    px_templates::specs::Lines::without_comments,
-    px_templates::specs::Pieces::end_place,
-    px_templates::specs::Pieces::front_at,
-    px_templates::specs::Pieces::open_behind,
-    px_templates::specs::Pieces::parts_behind,
-    px_templates::specs::Pieces::pieces_behind,
-    px_templates::specs::Rendering::escaped,
-    px_templates::specs::Rendering::rendered,
-    px_templates::specs::Replies::head_of,
-    px_templates::specs::Replies::reply_of,
-    px_templates::specs::Symbols::condition_at,
-    px_templates::specs::Symbols::symbol_at,
-))]
+#![tactic(auto, unfolding(core::specs::Fmt::digits, px_base::specs::Blanks::trimmed, px_templates::specs::Lines::assembled, px_templates::specs::Lines::included_name, px_templates::specs::Lines::lines_of, px_templates::specs::Lines::without_comments, px_templates::specs::Pieces::end_place, px_templates::specs::Pieces::front_at, px_templates::specs::Pieces::open_behind, px_templates::specs::Pieces::parts_behind, px_templates::specs::Pieces::pieces_behind, px_templates::specs::Rendering::escaped, px_templates::specs::Rendering::rendered, px_templates::specs::Replies::head_of, px_templates::specs::Replies::reply_of, px_templates::specs::Symbols::condition_at, px_templates::specs::Symbols::symbol_at))]
+
 ghost use Rattle.std.specs.Prelude.{◌≡◌, ◌∷◌, [], Some, None, true, false, codes, length};
 ghost use Rattle.px_templates.specs.Lines.{assembled, included_name};
 ghost use Rattle.px_templates.specs.Pages.{built_in, page_name, page_status};
@@ -48,14 +31,10 @@ fn lines_of_templates()
 /// Symbols are replaced, and a block stands where its value isn't empty.
 fn pages_with_values()
     ensures symbol { rendered (symbols (codes "a&b") [] [] [] [] [] []) (pieces_of (codes "@hostname@ @x@")) ≡ codes "a&amp;b @x@" }
-    ensures block {
-        rendered (symbols [] [] [] [] (codes "no") [] []) (pieces_of (codes "[@if-block-reason-start r=@block-reason@ if-block-reason-end@]"))
-        ≡ codes "[ r=no ]"
-    }
-    ensures no_block {
-        rendered (symbols [] [] [] [] [] [] []) (pieces_of (codes "[@if-block-reason-start r=@block-reason@ if-block-reason-end@]"))
-        ≡ codes "[]"
-    }
+    ensures block { rendered (symbols [] [] [] [] (codes "no") [] []) (pieces_of (codes "[@if-block-reason-start r=@block-reason@ if-block-reason-end@]"))
+        ≡ codes "[ r=no ]" }
+    ensures no_block { rendered (symbols [] [] [] [] [] [] []) (pieces_of (codes "[@if-block-reason-start r=@block-reason@ if-block-reason-end@]"))
+        ≡ codes "[]" }
     ensures open { open_line (codes "x\n@if-parent-start y\n") ≡ Some 2 }
     ensures closed { open_line (codes "@if-parent-start y if-parent-end@") ≡ None }
 {}
@@ -82,24 +61,14 @@ fn pages()
 
 /// Replies without an origin.
 fn replies()
-    ensures redirect {
-        reply_of (local.Redirect (codes "http://r.test/")) [] false false
-        ≡ codes "HTTP/1.1 302 Found\r\nLocation: http://r.test/\r\nContent-Length: 0\r\nCache-Control: no-cache\r\nConnection: keep-alive\r\n\r\n"
-    }
-    ensures image {
-        reply_of local.Image (codes "GIF89a") false false
-        ≡ codes "HTTP/1.1 403 Forbidden\r\nContent-Type: image/gif\r\nContent-Length: 6\r\nCache-Control: no-cache\r\nConnection: keep-alive\r\n\r\nGIF89a"
-    }
-    ensures empty {
-        reply_of (local.Empty true) [] true false
-        ≡ codes "HTTP/1.1 200 OK\r\nContent-Type: text/html\r\nContent-Length: 1\r\nCache-Control: no-cache\r\nConnection: close\r\n\r\n "
-    }
-    ensures empty_refused {
-        reply_of (local.Empty false) [] true false
-        ≡ codes "HTTP/1.1 403 Forbidden\r\nContent-Type: text/html\r\nContent-Length: 1\r\nCache-Control: no-cache\r\nConnection: close\r\n\r\n "
-    }
-    ensures bodiless {
-        reply_of local.Image (codes "GIF89a") true true
-        ≡ codes "HTTP/1.1 403 Forbidden\r\nContent-Type: image/gif\r\nContent-Length: 6\r\nCache-Control: no-cache\r\nConnection: close\r\n\r\n"
-    }
+    ensures redirect { reply_of (local.Redirect (codes "http://r.test/")) [] false false
+        ≡ codes "HTTP/1.1 302 Found\r\nLocation: http://r.test/\r\nContent-Length: 0\r\nCache-Control: no-cache\r\nConnection: keep-alive\r\n\r\n" }
+    ensures image { reply_of local.Image (codes "GIF89a") false false
+        ≡ codes "HTTP/1.1 403 Forbidden\r\nContent-Type: image/gif\r\nContent-Length: 6\r\nCache-Control: no-cache\r\nConnection: keep-alive\r\n\r\nGIF89a" }
+    ensures empty { reply_of (local.Empty true) [] true false
+        ≡ codes "HTTP/1.1 200 OK\r\nContent-Type: text/html\r\nContent-Length: 1\r\nCache-Control: no-cache\r\nConnection: close\r\n\r\n " }
+    ensures empty_refused { reply_of (local.Empty false) [] true false
+        ≡ codes "HTTP/1.1 403 Forbidden\r\nContent-Type: text/html\r\nContent-Length: 1\r\nCache-Control: no-cache\r\nConnection: close\r\n\r\n " }
+    ensures bodiless { reply_of local.Image (codes "GIF89a") true true
+        ≡ codes "HTTP/1.1 403 Forbidden\r\nContent-Type: image/gif\r\nContent-Length: 6\r\nCache-Control: no-cache\r\nConnection: close\r\n\r\n" }
 {}
