@@ -18,6 +18,8 @@ mod rows;
 #[cfg(test)]
 mod serving;
 #[cfg(test)]
+mod sides;
+#[cfg(test)]
 mod sockets;
 #[cfg(test)]
 mod streams;

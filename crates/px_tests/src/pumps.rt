@@ -2,8 +2,9 @@
 ghost use Rattle.std.specs.Prelude.{◌≡◌, true, false};
 
 use crate::common::{same, same_at, text};
+use crate::sides::Told;
 use px_actions::{ActionSet, Update};
-use px_base::{Failed, List, MemFiles, Sink, SinkFault, Source, TapeIn, TapeOut, Text};
+use px_base::{Failed, List, MemFiles, Source, TapeIn, TapeOut, Text};
 use px_config::{Config, Warm, load};
 use px_pumps::{After, Asked, Conclusion, Ending, Flow, Pump, Talked, return_answer};
 use px_subst::Vars;
@@ -206,28 +207,7 @@ fn a_head_is_held_up_to_its_limit(rt: HostRuntime) {
 /// How many bytes an origin gives at most beyond what the client has taken.
 const LEAD: u64 = 16_384;
 
-/// A client that adds what it takes to a count.
-#[derive(Drop)]
-struct Taking<'c> {
-    tape: TapeOut,
-    taken: &'c AtomicU64,
-}
-
-impl<'c> Sink for Taking<'c> {
-    ghost state = { λ t. ⟦<TapeOut as Sink>⟧.state t.tape };
-
-    fn write(&mut self, bytes: &[u8]) -> Result<usize, SinkFault> {
-        let count = self.tape.write(bytes)?;
-        self.taken.fetch_add(count as u64, Ordering::SeqCst);
-        Ok(count)
-    }
-
-    fn finish(&mut self) {
-        self.tape.finish();
-    }
-}
-
-/// An origin that fails where the client hasn't taken all but the last 16,384 bytes of what it gave.
+/// An origin that gives a byte only once the client has taken all but 16,384 of those before it, and else fails.
 #[derive(Drop)]
 struct Leading<'c> {
     tape: TapeIn,
@@ -247,7 +227,8 @@ impl<'c> Source for Leading<'c> {
     } };
 
     fn read(&mut self, buf: &mut [u8]) -> Result<usize, Failed> {
-        if self.given <= self.taken.load(Ordering::SeqCst).saturating_add(LEAD) {
+        let last = self.given.saturating_add(buf.len() as u64);
+        if last <= self.taken.load(Ordering::SeqCst).saturating_add(LEAD) {
             if let Ok(count) = self.tape.read(buf) {
                 self.given = self.given.saturating_add(count as u64);
                 return Ok(count);
@@ -282,7 +263,7 @@ fn what_comes_is_written_before_the_next_read(rt: HostRuntime) {
         taken: &taken,
         faults: 0,
     };
-    let mut client = Taking {
+    let mut client = Told {
         tape: TapeOut::new(alloc, &[], &[]).expect(&rt, "memory"),
         taken: &taken,
     };

@@ -1,76 +1,11 @@
 //! A tunnel whose sides wait for each other: only both directions at once carry it.
-ghost use Rattle.std.specs.Prelude.{true, false};
-
-use px_base::{Failed, Mem, Sink, SinkFault, Source, TapeIn, TapeOut, Text};
+use crate::sides::{Told, Waiting};
+use px_base::{Mem, TapeIn, TapeOut, Text};
 use px_ways::{Carried, Way, carry};
 use std::alloc::Global;
-use std::sync::atomic::{AtomicU64, Ordering};
+use std::sync::atomic::AtomicU64;
 use std::test::Fail;
-use std::thread::{self, Threads};
-
-/// How often a source looks whether the other side has taken bytes, yielding its thread between two looks.
-const LOOKS: u64 = 1_000_000;
-
-/// A sink in memory that adds what it takes to a count that others see.
-#[derive(Drop)]
-struct Told<'c> {
-    tape: TapeOut,
-    taken: &'c AtomicU64,
-}
-
-impl<'c> Sink for Told<'c> {
-    ghost state = { λ told. ⟦<TapeOut as Sink>⟧.state told.tape };
-
-    fn write(&mut self, bytes: &[u8]) -> Result<usize, SinkFault> {
-        let count = self.tape.write(bytes)?;
-        self.taken.fetch_add(count as u64, Ordering::SeqCst);
-        Ok(count)
-    }
-
-    fn finish(&mut self) {
-        self.tape.finish();
-    }
-}
-
-/// A source in memory that gives its bytes once a sink has taken some. A source that waits in vain fails.
-#[derive(Drop)]
-struct Waiting<'c> {
-    tape: TapeIn,
-    taken: &'c AtomicU64,
-    faults: u64,
-}
-
-/// Waits until a sink has taken bytes, and tells whether it has.
-fn has_taken(taken: &AtomicU64) -> bool {
-    'looks: for _ in 0..LOOKS {
-        if taken.load(Ordering::SeqCst) > 0 {
-            return true;
-        }
-        thread::yield_now();
-    }
-    false
-}
-
-impl<'c> Source for Waiting<'c> {
-    ghost state = { λ w. record {
-      tells = true;
-      offered = (⟦<TapeIn as Source>⟧.state w.tape).offered;
-      left = (⟦<TapeIn as Source>⟧.state w.tape).left;
-      faults = w.faults;
-      steady = false;
-      mark = (⟦<TapeIn as Source>⟧.state w.tape).mark;
-    } };
-
-    fn read(&mut self, buf: &mut [u8]) -> Result<usize, Failed> {
-        if has_taken(self.taken) {
-            if let Ok(count) = self.tape.read(buf) {
-                return Ok(count);
-            }
-        }
-        self.faults = self.faults.saturating_add(1);
-        Err(Failed)
-    }
-}
+use std::thread::Threads;
 
 /// A sink that adds to that count.
 fn told_sink<'c>(alloc: Global, taken: &'c AtomicU64) -> Result<Told<'c>, Mem> {
@@ -84,11 +19,11 @@ fn told_sink<'c>(alloc: Global, taken: &'c AtomicU64) -> Result<Told<'c>, Mem> {
 fn waiting_source<'c>(
     alloc: Global,
     bytes: &[u8],
-    taken: &'c AtomicU64,
+    until: &'c AtomicU64,
 ) -> Result<Waiting<'c>, Mem> {
     Ok(Waiting {
         tape: TapeIn::new(alloc, bytes, &[], &[])?,
-        taken,
+        until,
         faults: 0,
     })
 }
