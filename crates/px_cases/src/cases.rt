@@ -1,5 +1,6 @@
 //! Cases: files in, streams and answers, and what a command or a session makes of them.
-use crate::reports::{Fault, Misread, Report};
+use crate::faults::{Fault, Misread};
+use crate::reports::Report;
 use std::thread::Threads;
 
 /// Runs the cases of a file's text.
@@ -8,8 +9,5 @@ pub fn run<R: Threads + Sync + AllocGlobal>(
     _text: &str,
     _report: &mut Report,
 ) -> Result<(), Misread> {
-    Err(Misread {
-        line: 0,
-        fault: Fault::Form("cases aren't run yet"),
-    })
+    Err(Fault::Form("cases aren't run yet").at(0))
 }

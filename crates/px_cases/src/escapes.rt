@@ -1,7 +1,7 @@
 //! Bytes in a line of text: printable ASCII as it is, and the rest by escapes.
 //!
 //! `\n`, `\r`, `\t` and `\\` are those bytes, `\xNN` is the byte of two hexadecimal digits, and `\{N TEXT}` is TEXT N times.
-use crate::reports::Fault;
+use crate::faults::Fault;
 use std::alloc::{AllocError, Global};
 
 /// Where a reading of escapes stands.

@@ -1,113 +1,153 @@
-//! Files of leaf rows: a heading that names the columns, and a row a line. Their columns are parted by tabs.
+//! Files of leaf rows: a heading that names the columns, and a row a line, whose columns are parted by tabs.
 use crate::escapes::decoded;
-use crate::kinds::Kind;
-use crate::reports::{Fault, Misread, Report};
+use crate::faults::{Fault, Misread};
+use crate::kinds::gives;
+use crate::reports::Report;
+use px_base::{List, Text};
 use std::alloc::Global;
 use std::str::FromStr;
 
-/// The two columns behind those of a kind: what the row gives, and what it shows.
-const LAST_COLUMNS: [&str; 2] = ["gives", "shows"];
+/// What parts the items of a value.
+pub const ITEMS: &str = " | ";
 
-/// The values of a row, by their places.
+/// The values of a row, by the names of their columns.
 #[derive(Drop)]
 pub struct Row<'a> {
     pub alloc: Global,
+    names: &'a [&'a str],
     cells: Vec<&'a str>,
 }
 
 impl<'a> Row<'a> {
+    fn new(alloc: Global, names: &'a [&'a str], line: &'a str) -> Result<Row<'a>, Fault> {
+        let cells = columns(alloc, line)?;
+        if cells.len() == names.len() {
+            Ok(Row {
+                alloc,
+                names,
+                cells,
+            })
+        } else {
+            Err(Fault::Form("the row hasn't a cell for each column"))
+        }
+    }
+
     /// A value as it stands.
-    pub fn word(&self, place: usize) -> &'a str {
-        self.cells.get(place).copied().unwrap_or("")
+    pub fn word(&self, name: &str) -> Result<&'a str, Fault> {
+        for (column, cell) in self.names.iter().zip(&self.cells) {
+            if *column == name {
+                return Ok(*cell);
+            }
+        }
+        Err(Fault::Form("the heading lacks a column of its kind"))
+    }
+
+    /// Whether a value is `yes`, and not `no`.
+    pub fn is(&self, name: &str) -> Result<bool, Fault> {
+        match self.word(name)? {
+            "yes" => Ok(true),
+            "no" => Ok(false),
+            _ => Err(Fault::Form("yes or no is wanted")),
+        }
     }
 
     /// A value that is a number.
-    pub fn number<N: FromStr>(&self, place: usize) -> Result<N, Fault>
+    pub fn number<N: FromStr>(&self, name: &str) -> Result<N, Fault>
     where
         N::Err: Drop,
     {
-        self.word(place)
-            .parse::<N>()
-            .map_err(|_| Fault::Form("a number is wanted"))
+        number_in(self.word(name)?)
     }
 
-    /// A value's text.
-    pub fn string(&self, place: usize) -> Result<String, Fault> {
-        String::from_utf8(self.bytes(place)?).map_err(|_| Fault::Form("UTF-8 is wanted"))
+    /// A value that is numbers between spaces.
+    pub fn numbers<N: FromStr + Drop>(&self, name: &str) -> Result<Vec<N>, Fault>
+    where
+        N::Err: Drop,
+    {
+        let mut numbers = Vec::new(self.alloc);
+        for word in self.word(name)?.split_whitespace() {
+            numbers.push(number_in(word)?)?;
+        }
+        Ok(numbers)
+    }
+
+    /// A value that is text.
+    pub fn string(&self, name: &str) -> Result<String, Fault> {
+        String::from_utf8(self.bytes(name)?).map_err(|_| Fault::Form("UTF-8 is wanted"))
     }
 
     /// A value's bytes.
-    pub fn bytes(&self, place: usize) -> Result<Vec<u8>, Fault> {
-        decoded(self.alloc, self.word(place))
+    pub fn bytes(&self, name: &str) -> Result<Vec<u8>, Fault> {
+        decoded(self.alloc, self.word(name)?)
     }
 
-    /// The bytes of each item of a value, whose items are parted by ` | `. An empty value has none.
-    pub fn items(&self, place: usize) -> Result<Vec<Vec<u8>>, Fault> {
-        let mut items = Vec::new(self.alloc);
-        let word = self.word(place);
+    /// A value's bytes.
+    pub fn text(&self, name: &str) -> Result<Text, Fault> {
+        Ok(Text::from_vec(self.bytes(name)?))
+    }
+
+    /// A file's bytes by a value that has its lines between ` | `.
+    pub fn file(&self, name: &str) -> Result<Text, Fault> {
+        let mut file = Text::new(self.alloc);
+        for line in self.items(name)?.as_slice() {
+            file.push_all(line.as_bytes())?;
+            file.push(b'\n')?;
+        }
+        Ok(file)
+    }
+
+    /// The items of a value that has some between ` | `. An empty value has none.
+    pub fn items(&self, name: &str) -> Result<List<Text>, Fault> {
+        let mut items = List::new(self.alloc);
+        let word = self.word(name)?;
         if !word.is_empty() {
-            for item in word.split(" | ") {
-                items.push(decoded(self.alloc, item)?)?;
+            for item in word.split(ITEMS) {
+                items.add(Text::from_vec(decoded(self.alloc, item)?))?;
             }
         }
         Ok(items)
     }
 }
 
-fn row_of<'a>(alloc: Global, line: &'a str) -> Result<Row<'a>, Fault> {
-    let mut cells = Vec::new(alloc);
-    for cell in line.split('\t') {
-        cells.push(cell)?;
+fn number_in<N: FromStr>(word: &str) -> Result<N, Fault>
+where
+    N::Err: Drop,
+{
+    word.parse::<N>()
+        .map_err(|_| Fault::Form("a number is wanted"))
+}
+
+fn columns<'a>(alloc: Global, line: &'a str) -> Result<Vec<&'a str>, Fault> {
+    let mut columns = Vec::new(alloc);
+    for column in line.split('\t') {
+        columns.push(column)?;
     }
-    Ok(Row { alloc, cells })
+    Ok(columns)
 }
 
-/// Whether a heading names the columns of a kind.
-fn is_heading(kind: Kind, heading: &str) -> bool {
-    let columns = kind.columns().iter().chain(LAST_COLUMNS.iter());
-    heading.split('\t').eq(columns.copied())
-}
-
-/// Runs a row.
-fn run_row(
-    alloc: Global,
-    kind: Kind,
-    number: usize,
-    line: &str,
-    report: &mut Report,
-) -> Result<(), Fault> {
-    let row = row_of(alloc, line)?;
-    let values = kind.columns().len();
-    if row.cells.len() != values.saturating_add(2) {
-        return Err(Fault::Form("the row hasn't a cell for each column of the heading"));
+/// Runs a row of a kind.
+fn run_row(kind: &str, row: &Row<'_>, line: usize, report: &mut Report) -> Result<(), Fault> {
+    let want = row.bytes("gives")?;
+    match gives(kind, row) {
+        Ok(got) => report.add(line, want.as_slice(), got.as_bytes()),
+        Err(fault) => report.add(line, want.as_slice(), fault.refusal(row.alloc)?.as_bytes()),
     }
-    let want = row.bytes(values)?;
-    let got = kind.gives(&row)?;
-    report.add(number, want.as_slice(), got.as_bytes())
 }
 
-/// Runs the rows of a file's text. A line that begins with `#` is a remark.
-pub fn run(alloc: Global, kind: Kind, text: &str, report: &mut Report) -> Result<(), Misread> {
-    let mut headed = false;
+/// Runs the rows of a file that is named for a kind. A line that begins with `#` is a remark.
+pub fn run(alloc: Global, kind: &str, text: &str, report: &mut Report) -> Result<(), Misread> {
+    let mut names = Vec::new(alloc);
     for (place, line) in text.lines().enumerate() {
         let number = place.saturating_add(1);
         if line.starts_with('#') {
             continue;
         }
-        let ran = if headed {
-            run_row(alloc, kind, number, line, report)
-        } else if is_heading(kind, line) {
-            headed = true;
-            Ok(())
-        } else {
-            Err(Fault::Form("the heading doesn't name the columns of the kind"))
-        };
-        if let Err(fault) = ran {
-            return Err(Misread {
-                line: number,
-                fault,
-            });
+        if names.is_empty() {
+            names = columns(alloc, line).map_err(|fault| fault.at(number))?;
+            continue;
         }
+        let row = Row::new(alloc, names.as_slice(), line).map_err(|fault| fault.at(number))?;
+        run_row(kind, &row, number, report).map_err(|fault| fault.at(number))?;
     }
     Ok(())
 }

@@ -3,64 +3,45 @@
 
 mod cases;
 mod escapes;
+mod faults;
 mod kinds;
 mod leaves;
 mod reports;
 
-use crate::kinds::Kind;
-use crate::reports::{Fault, Misread, Report};
+use crate::faults::{Fault, Misread};
+use crate::reports::Report;
 use std::process::ExitCode;
 use std::rt::{Env, Files};
 use std::thread::Threads;
 use std::{env, fs, io};
 
-/// How the rows of a file stand, by its name.
-enum Form {
-    /// `NAME.tsv`: a row a line, of the kind that the file is named for.
-    Leaves(Kind),
-    /// `NAME.case`: a row a case.
-    Cases,
-}
-
-fn form_of(name: &str) -> Option<Form> {
-    if name.ends_with(".case") {
-        return Some(Form::Cases);
-    }
-    let stem = name.strip_suffix(".tsv")?;
-    let kind = match stem.rsplit_once('/') {
-        Some((_, kind)) => kind,
-        None => stem,
+/// The name of a file without its folder and without what stands behind its last dot, and what stands there.
+fn stem_and_ending(name: &str) -> Option<(&str, &str)> {
+    let name = match name.rsplit_once('/') {
+        Some((_, name)) => name,
+        None => name,
     };
-    Kind::by_name(kind).map(Form::Leaves)
+    name.rsplit_once('.')
 }
 
-/// Runs the rows of a file's text.
+/// Runs the rows of a file's text: a case each, or a line each, by the ending of the file's name.
 fn run_text<R: Threads + Sync + AllocGlobal>(
     rt: &R,
     name: &str,
     text: &[u8],
     report: &mut Report,
 ) -> Result<(), Misread> {
-    let whole = |what| Misread {
-        line: 0,
-        fault: Fault::Form(what),
-    };
     let Ok(text) = str::from_utf8(text) else {
-        return Err(whole("the file isn't UTF-8"));
+        return Err(Fault::Form("the file isn't UTF-8").at(0));
     };
-    if text.is_empty() {
-        return Err(whole("the file is empty"));
+    if !text.is_empty() && !text.ends_with('\n') {
+        let last = text.lines().count();
+        return Err(Fault::Form("the file is cut: its last line isn't ended").at(last));
     }
-    if !text.ends_with('\n') {
-        return Err(Misread {
-            line: text.lines().count(),
-            fault: Fault::Form("the file is cut: its last line isn't ended"),
-        });
-    }
-    match form_of(name) {
-        Some(Form::Leaves(kind)) => leaves::run(rt.alloc(), kind, text, report),
-        Some(Form::Cases) => cases::run(rt, text, report),
-        None => Err(whole("neither NAME.case nor a .tsv file that is named for a kind")),
+    match stem_and_ending(name) {
+        Some((kind, "tsv")) => leaves::run(rt.alloc(), kind, text, report),
+        Some((_, "case")) => cases::run(rt, text, report),
+        _ => Err(Fault::Form("neither a .tsv nor a .case file").at(0)),
     }
 }
 

@@ -1,42 +1,8 @@
 //! What the rows of a file come to, and how it is told.
 use crate::escapes::encoded;
-use px_base::Mem;
-use std::alloc::{AllocError, AllocFailed, Global};
+use crate::faults::{Fault, Misread};
+use std::alloc::Global;
 use std::io;
-
-/// Why a row isn't run.
-#[derive(Clone, Copy)]
-pub enum Fault {
-    /// Memory was wanting.
-    Mem,
-    /// The row isn't of its form, and what is wrong with it.
-    Form(&'static str),
-}
-
-impl From<Mem> for Fault {
-    fn from(_: Mem) -> Fault {
-        Fault::Mem
-    }
-}
-
-impl From<AllocError> for Fault {
-    fn from(_: AllocError) -> Fault {
-        Fault::Mem
-    }
-}
-
-impl<T: Drop> From<AllocFailed<T>> for Fault {
-    fn from(_: AllocFailed<T>) -> Fault {
-        Fault::Mem
-    }
-}
-
-/// A fault at a line of a file: 0 where it is the file's own.
-#[derive(Clone, Copy)]
-pub struct Misread {
-    pub line: usize,
-    pub fault: Fault,
-}
 
 /// A row that gave something else than it wants.
 #[derive(Drop)]
@@ -90,6 +56,11 @@ impl Report {
             Err(Misread { line, fault }) => match fault {
                 Fault::Mem => println!(rt; "{name}:{line}: memory was wanting")?,
                 Fault::Form(what) => println!(rt; "{name}:{line}: {what}")?,
+                Fault::Refused {
+                    number,
+                    name: what,
+                    ..
+                } => { println!(rt; "{name}:{line}: {number} {what}")? }
             },
         }
         Ok(false)

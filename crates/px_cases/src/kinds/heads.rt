@@ -1,0 +1,96 @@
+//! Where heads end, heads that are read, and field lines.
+use crate::faults::Fault;
+use crate::kinds::made::{push_item, said};
+use crate::leaves::Row;
+use px_base::Text;
+use px_head::{
+    HeadEnd, HeadSearch, RequestHead, ResponseHead, TOO_LONG_NAME, TOO_LONG_NUMBER, find_head,
+    is_held_back_of_request, is_held_back_of_response, print_head, read_field_line,
+};
+use std::alloc::Global;
+
+/// Where the head block at the front of bytes ends, and with how many of them that was settled.
+pub fn blocks(row: &Row<'_>) -> Result<Text, Fault> {
+    let bytes = row.bytes("bytes")?;
+    let limit = row.number::<usize>("limit")?;
+    let (end, len) = search(bytes.as_slice(), limit);
+    if find_head(bytes.as_slice(), limit) != end {
+        return said(row.alloc, "a search gives something else");
+    }
+    let text = match end {
+        HeadEnd::At(place) => format!(in row.alloc; "{place}, by {len}")?,
+        HeadEnd::NotYet => format!(in row.alloc; "not yet, by {len}")?,
+        HeadEnd::Over => format!(in row.alloc; "{TOO_LONG_NUMBER} {TOO_LONG_NAME}, by {len}")?,
+    };
+    said(row.alloc, text.as_str())
+}
+
+/// Searches in bytes that grow one by one, and answers with how many of them it found its answer.
+fn search(bytes: &[u8], limit: usize) -> (HeadEnd, usize) {
+    let mut search = HeadSearch::new();
+    let mut len = 0;
+    'more: loop {
+        match search.go_on(&bytes[..len], limit) {
+            HeadEnd::NotYet => {
+                if len == bytes.len() {
+                    return (HeadEnd::NotYet, len);
+                }
+                len += 1;
+            }
+            end => return (end, len),
+        }
+    }
+}
+
+/// A head as it is printed.
+pub fn heads(row: &Row<'_>) -> Result<Text, Fault> {
+    let block = row.bytes("head")?;
+    match row.word("of")? {
+        "request" => request(row.alloc, block.as_slice()),
+        "response" => response(row.alloc, block.as_slice()),
+        _ => Err(Fault::Form("request or response is wanted")),
+    }
+}
+
+fn request(alloc: Global, block: &[u8]) -> Result<Text, Fault> {
+    let head = RequestHead::read(alloc, block)?;
+    let mut out = Text::new(alloc);
+    print_head(
+        head.first_line(alloc)?.as_bytes(),
+        head.fields.as_slice(),
+        &mut out,
+    )?;
+    Ok(out)
+}
+
+fn response(alloc: Global, block: &[u8]) -> Result<Text, Fault> {
+    let head = ResponseHead::read(alloc, block)?;
+    let mut out = Text::new(alloc);
+    print_head(
+        head.first_line(alloc)?.as_bytes(),
+        head.fields.as_slice(),
+        &mut out,
+    )?;
+    Ok(out)
+}
+
+/// The name and the value of a field line, and of which messages it is held back; or `no field line`.
+pub fn fields(row: &Row<'_>) -> Result<Text, Fault> {
+    let line = row.bytes("line")?;
+    let Some(line) = read_field_line(line.as_slice()) else {
+        return said(row.alloc, "no field line");
+    };
+    let held = match (
+        is_held_back_of_request(line.name),
+        is_held_back_of_response(line.name),
+    ) {
+        (true, true) => "held back",
+        (true, false) => "held back of requests",
+        (false, true) => "held back of responses",
+        (false, false) => "passed on",
+    };
+    let mut out = Text::from_bytes(row.alloc, line.name)?;
+    push_item(&mut out, line.value)?;
+    push_item(&mut out, held.as_bytes())?;
+    Ok(out)
+}
