@@ -1,8 +1,10 @@
 //! Bytes in a line of text: printable ASCII as it is, and the rest by escapes.
 //!
-//! `\n`, `\r`, `\t` and `\\` are those bytes, `\xNN` is the byte of two hexadecimal digits, and `\{N TEXT}` is TEXT N times.
+//! `\n`, `\r`, `\t` and `\\` are those bytes, `\xNN` is the byte of two hexadecimal digits, and `\{N TEXT}` is TEXT N times, in
+//! which `\#` is the number of the time, from 1.
 use crate::faults::Fault;
 use std::alloc::{AllocError, Global};
+use std::mem;
 
 /// Where a reading of escapes stands.
 #[derive(Clone, Copy)]
@@ -29,12 +31,20 @@ struct Repeat {
     begins: usize,
 }
 
+/// A part of a text that is repeated.
+#[derive(Drop)]
+enum Part {
+    Bytes(Vec<u8>),
+    Number,
+}
+
 #[derive(Drop)]
 struct Decoder {
     alloc: Global,
     bytes: Vec<u8>,
     place: Place,
     repeat: Option<Repeat>,
+    parts: Vec<Part>,
 }
 
 impl Decoder {
@@ -43,15 +53,46 @@ impl Decoder {
         Ok(Place::Plain)
     }
 
+    /// Takes the bytes of a part of a text that is repeated.
+    fn end_part(&mut self, begins: usize) -> Result<(), Fault> {
+        let begins = begins.min(self.bytes.len());
+        let part = Vec::from_slice(self.alloc, &self.bytes.as_slice()[begins..])?;
+        self.bytes.truncate(begins);
+        Ok(self.parts.push(Part::Bytes(part))?)
+    }
+
+    /// Adds the parts for each time.
+    fn repeat(&mut self, times: usize) -> Result<(), Fault> {
+        let parts = mem::replace(&mut self.parts, Vec::new(self.alloc));
+        for time in 0..times {
+            for part in parts.iter() {
+                match part {
+                    Part::Bytes(bytes) => self.bytes.extend_from_slice(bytes.as_slice())?,
+                    Part::Number => {
+                        let number = format!(in self.alloc; "{}", time.saturating_add(1))?;
+                        self.bytes.extend_from_slice(number.as_bytes())?;
+                    }
+                }
+            }
+        }
+        Ok(())
+    }
+
     /// Ends a text that is repeated.
     fn close(&mut self, repeat: Repeat) -> Result<Place, Fault> {
-        let begins = repeat.begins.min(self.bytes.len());
-        let text = Vec::from_slice(self.alloc, &self.bytes.as_slice()[begins..])?;
-        self.bytes.truncate(begins);
-        for _ in 0..repeat.times {
-            self.bytes.extend_from_slice(text.as_slice())?;
-        }
+        self.end_part(repeat.begins)?;
+        self.repeat(repeat.times)?;
         self.repeat = None;
+        Ok(Place::Plain)
+    }
+
+    /// Puts the number of the time into a text that is repeated.
+    fn count(&mut self) -> Result<Place, Fault> {
+        let Some(repeat) = self.repeat else {
+            return Err(Fault::Form("\\# is in no \\{N TEXT}"));
+        };
+        self.end_part(repeat.begins)?;
+        self.parts.push(Part::Number)?;
         Ok(Place::Plain)
     }
 
@@ -71,7 +112,8 @@ impl Decoder {
             b'\\' => self.put(b'\\'),
             b'x' => Ok(Place::High),
             b'{' => Ok(Place::Times(0)),
-            _ => Err(Fault::Form("a backslash is before none of n, r, t, x, { and \\")),
+            b'#' => self.count(),
+            _ => Err(Fault::Form("no such escape")),
         }
     }
 
@@ -128,6 +170,7 @@ pub fn decoded(alloc: Global, text: &str) -> Result<Vec<u8>, Fault> {
         bytes: Vec::new(alloc),
         place: Place::Plain,
         repeat: None,
+        parts: Vec::new(alloc),
     };
     for byte in text.bytes() {
         decoder.feed(byte)?;

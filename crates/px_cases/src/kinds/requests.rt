@@ -9,7 +9,7 @@ use px_base::{List, Peer, TapeIn, TapeOut, Text};
 use px_head::{Field, RequestHead, read_field_line};
 use px_headers::client_headers;
 use px_patterns::Url;
-use px_sending::{Message, NextHead, expects_continue, next_head, send};
+use px_sending::{Message, NextHead, Sent, expects_continue, next_head, send};
 use px_streams::{Ahead, fill};
 use px_taggers::tag_headers;
 
@@ -90,8 +90,8 @@ pub fn waits(row: &Row<'_>) -> Result<Text, Fault> {
     yes_or_no(row.alloc, waits)
 }
 
-/// What comes of a head `POST /x HTTP/1.1` and a body that are sent on, what the link took, what the client took, and what is
-/// left of the client's bytes. The link takes nine bytes at first and nine then, the client five; calls fail as the row says.
+/// What comes of a head `POST /x HTTP/1.1` and a body that are sent on, what the link took, what the client took, and where
+/// that is said what is left of the client's bytes. The link takes nine bytes at first and nine then, the client five; calls fail as the row says.
 pub fn sends(row: &Row<'_>) -> Result<Text, Fault> {
     let message = Message {
         head: said(row.alloc, "POST /x HTTP/1.1\r\n\r\n")?,
@@ -124,6 +124,8 @@ pub fn sends(row: &Row<'_>) -> Result<Text, Fault> {
     let mut out = said(row.alloc, format!(in row.alloc; "{sent:?}")?.as_str())?;
     push_item(&mut out, link.taken())?;
     push_item(&mut out, client.taken())?;
-    push_item(&mut out, ahead.as_bytes())?;
+    if matches!(sent, Sent::Whole | Sent::Misframed | Sent::WriteFailed) {
+        push_item(&mut out, ahead.as_bytes())?;
+    }
     Ok(out)
 }
