@@ -37,11 +37,12 @@ pub struct Cut {
 }
 
 impl Cut {
-    /// The ways to cut so many bytes: byte by byte, not at all, and into two at each place, or of many bytes at some hundreds.
+    /// The ways to cut so many bytes: byte by byte, not at all, and into two at each place, or of many bytes at some.
     pub fn all(alloc: Global, len: usize) -> Result<Vec<Cut>, Fault> {
         let mut cuts = Vec::new(alloc);
         cuts.push(Cut { first: 1, size: 1 })?;
-        for first in (0..=len).step_by(1 + len / 256) {
+        let step = if len < 512 { 1 } else { len / 16 };
+        for first in (0..=len).step_by(step) {
             cuts.push(Cut { first, size: len })?;
         }
         Ok(cuts)
