@@ -41,7 +41,7 @@ impl Cut {
     pub fn all(alloc: Global, len: usize) -> Result<Vec<Cut>, Fault> {
         let mut cuts = Vec::new(alloc);
         cuts.push(Cut { first: 1, size: 1 })?;
-        let step = if len < 512 { 1 } else { len / 16 };
+        let step = if len < 512 { 1 } else { 1 + len / 16 };
         for first in (0..=len).step_by(step) {
             cuts.push(Cut { first, size: len })?;
         }
