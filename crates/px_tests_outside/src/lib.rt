@@ -1,8 +1,10 @@
-//! Tests of the crates of the outside: texts, objects in memory, the adapters over the system, tunnels, publishing, sockets, generated jobs.
+//! Tests of the crates of the outside: texts, objects in memory, the adapters over the system, tunnels, publishing, boards of tags, sockets, generated jobs.
 #![tactic(auto)]
 
 #[cfg(test)]
 mod base;
+#[cfg(test)]
+mod boards;
 #[cfg(test)]
 mod common;
 #[cfg(test)]
