@@ -120,6 +120,8 @@ def expand(alt, number, ungreedy, only=None):
             inner = node.node if isinstance(node, Repeat) else node
             if isinstance(inner, (Group, Look)) and not (isinstance(inner, Group) and inner.number == number):
                 expand(inner.body, number, ungreedy, only)
+                if isinstance(node, Repeat) and node.high is None:
+                    branch[places[0] : places[0] + 1] = last_apart(node)
                 continue
             raise Unread("`\\%d` stands where its group isn't known" % number)
         first, last = places[0], places[-1]
@@ -129,6 +131,14 @@ def expand(alt, number, ungreedy, only=None):
         words = words if only is None else [words[only]]
         variants = [[n for node in branch[first : last + 1] for n in replaced(copy.deepcopy(node), number, word)] for word in words]
         branch[first : last + 1] = [Group(Alt(variants))] if len(variants) > 1 else variants[0]
+
+
+def last_apart(node):
+    """A repetition with its last turn apart, so that groups in it hold what that turn matched and nothing of turns before."""
+    plain = Repeat(flat_node(copy.deepcopy(node.node), set()), max(node.low - 1, 0), None, node.lazy)
+    if node.low > 0:
+        return [plain, node.node]
+    return [Repeat(Group(Alt([[plain, node.node]])), 0, 1, node.lazy)]
 
 
 # Look-around.
