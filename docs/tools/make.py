@@ -112,7 +112,9 @@ def head_end(lines, at):
     """The line behind the head of the function that begins there: where its body opens, or its declaration ends."""
     indent = re.match(r" *", lines[at])[0]
     for number in range(at, len(lines)):
-        if lines[number].endswith(";") or lines[number] in (indent + "{", indent + "{}") or re.search(r" \{(?: .*\})?$", lines[number]) and not re.match(r"\s+(ensures|requires)", lines[number]):
+        line = lines[number]
+        opens = re.search(r" \{(?: .*\})?$", line) and not re.match(r"\s+(ensures|requires)", line)
+        if opens or line.endswith(";") or line in (indent + "{", indent + "{}"):
             return number
     return len(lines) - 1
 
@@ -132,7 +134,8 @@ def functions(text):
         elif found and (found[2] or is_trait and is_public):
             name = f"{under}::{found[3]}" if found[1] else found[3]
             if not found[1] or under:
-                yield under if found[1] else found[3], Function(name, comment, "\n".join(lines[at : head_end(lines, at) + 1]))
+                head = "\n".join(lines[at : head_end(lines, at) + 1])
+                yield under if found[1] else found[3], Function(name, comment, head)
         if not said and not re.match(r"\s*#\[", line):
             comment = []
 
@@ -200,7 +203,8 @@ def all_below(name, found):
 
 
 def directives():
-    """docs/MANUAL.md: a row for each directive that the program reads: its names and its value from there, the rest as it stands."""
+    """docs/MANUAL.md: a row for each directive that the program reads: its names and its value from
+    there, the rest as it stands."""
     text = read(DIRECTIVES)
     body = re.search(r"enum Directive \{(.*?)\n\}", text, re.S)
     if not body:
@@ -220,12 +224,20 @@ def directives():
 def directive_rows(rows):
     stands = dict(re.findall(r"(?m)^\| `([\w-]+)` \|[^|]*\|(.*)\|$", part("docs/MANUAL.md", "directives")))
     if set(stands) != set(rows):
-        raise Stale(f"docs/MANUAL.md: the table of directives has {sorted(set(stands) ^ set(rows))} otherwise than {DIRECTIVES}: write such a row, its second cell empty")
+        differ = sorted(set(stands) ^ set(rows))
+        raise Stale(
+            f"docs/MANUAL.md: the table of directives has {differ} otherwise than {DIRECTIVES}:"
+            " write such a row, its second cell empty"
+        )
     out = ["| Directive | Value | Without it | If it stands twice |", "|---|---|---|---|"]
     return "\n".join(out + [f"| `{it}` | {cell(rows[it])} |{stands[it]}|" for it in stands])
 
 
-PARTS = [("docs/PROOFS.md", "calls", calls), ("docs/ARCHITECTURE.md", "floors", floors), ("docs/MANUAL.md", "directives", directives)]
+PARTS = [
+    ("docs/PROOFS.md", "calls", calls),
+    ("docs/ARCHITECTURE.md", "floors", floors),
+    ("docs/MANUAL.md", "directives", directives),
+]
 
 
 def span(text, path, name):

@@ -9,6 +9,8 @@ mod common;
 #[cfg(test)]
 mod doors;
 #[cfg(test)]
+mod exercise;
+#[cfg(test)]
 mod generated;
 #[cfg(test)]
 mod memory;

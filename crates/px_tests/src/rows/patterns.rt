@@ -4,7 +4,7 @@
 ghost use Rattle.std.specs.Prelude.{◌≡◌, ◌∷◌, [], Some, None, Ok, Err, true, false, codes};
 ghost use Rattle.px_patterns.specs.Faults.{pattern_fault_name, pattern_fault_number, url_fault_name, url_fault_number};
 ghost use Rattle.px_patterns.specs.Globs.{label_of, ranges_of};
-ghost use Rattle.px_patterns.specs.Hosts.{host_matches, host_pattern};
+ghost use Rattle.px_patterns.specs.Hosts.{host_labels, host_matches, host_pattern, is_candidate, labels_within, last_plain};
 ghost use Rattle.px_patterns.specs.Patterns.{url_pattern};
 ghost use Rattle.px_patterns.specs.Results.{result_map};
 ghost use Rattle.px_patterns.specs.Urls.{authority_of, shown_host_port, shown_url, url_of};
@@ -56,6 +56,16 @@ fn hosts_of_patterns()
     ensures one_label { result_map (λ p. host_matches p (codes "ad7.b.test")) (host_pattern (codes "ad[0-9]*.test")) ≡ Ok false }
     ensures every { result_map (λ p. host_matches p (codes "a.test")) (host_pattern []) ≡ Ok true }
     ensures dot { result_map (λ p. host_matches p (codes "a.test")) (host_pattern (codes ".")) ≡ Ok true }
+{}
+
+/// An index keeps a pattern under its last label without `*`, `?` and `[`.
+fn kept_patterns()
+    ensures label { result_map (λ p. last_plain (labels_within p)) (host_pattern (codes ".a*.b.test")) ≡ Ok (Some (codes "test")) }
+    ensures none { result_map (λ p. last_plain (labels_within p)) (host_pattern (codes "a*.b?")) ≡ Ok None }
+    ensures every { result_map (λ p. last_plain (labels_within p)) (host_pattern []) ≡ Ok None }
+    ensures candidate { result_map (λ p. is_candidate p (codes "x.TEST")) (host_pattern (codes "a.test")) ≡ Ok true }
+    ensures no_candidate { result_map (λ p. is_candidate p (codes "a.org")) (host_pattern (codes "a.test")) ≡ Ok false }
+    ensures labels { host_labels (codes "a.test.") ≡ codes "a" ∷ codes "test" ∷ [] }
 {}
 
 /// What no pattern is, and the order in which that is looked for.
