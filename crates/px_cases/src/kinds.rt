@@ -2,7 +2,6 @@
 mod actions;
 mod answers;
 mod bodies;
-mod configs;
 mod files;
 mod heads;
 mod made;
@@ -29,7 +28,6 @@ pub fn gives(kind: &str, row: &Row<'_>) -> Result<Text, Fault> {
         "refusals" => files::refusals(row),
         "jobs" => files::jobs(row),
         "filters" => files::filters(row),
-        "runs" => files::runs(row),
         "templates" => pages::templates(row),
         "replies" => pages::replies(row),
         "sections" => sections::sections(row),
@@ -44,15 +42,9 @@ pub fn gives(kind: &str, row: &Row<'_>) -> Result<Text, Fault> {
         "chunks" | "bodies" => bodies::bodies(row),
         "referrers" | "requests" => requests::requests(row),
         "taggers" => requests::taggers(row),
-        "nexts" => requests::nexts(row),
-        "waits" => requests::waits(row),
-        "sends" => requests::sends(row),
         "cookies" | "responses" => answers::responses(row),
         "texts" => answers::texts(row),
         "answers" => answers::answers(row),
-        "held" => answers::held(row),
-        "gathered" => configs::gathered(row),
-        "settings" => configs::settings(row),
         _ => Err(Fault::Form("no kind of rows has the file's name")),
     }
 }

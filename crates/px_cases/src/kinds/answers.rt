@@ -97,19 +97,3 @@ pub fn answers(row: &Row<'_>) -> Result<Text, Fault> {
     }
     Ok(whole)
 }
-
-/// How many bytes were returned behind each byte of a body, and how many are held at the last.
-pub fn held(row: &Row<'_>) -> Result<Text, Fault> {
-    let files = filters_of(row)?;
-    let mut warm = files.warm(row.alloc)?;
-    let mut put = Text::new(row.alloc);
-    let vars = vars_of(row.alloc, b"")?;
-    let mut passage = Passage::new(row.alloc, &mut warm, vars, framed(row, &files)?, &mut put)?;
-    let mut out = Text::new(row.alloc);
-    for byte in row.bytes("body")?.iter() {
-        passage.feed(&mut warm, &[*byte], &mut put)?;
-        out.push_all(format!(in row.alloc; "{} ", put.len())?.as_bytes())?;
-    }
-    out.push_all(format!(in row.alloc; "held {}", passage.held())?.as_bytes())?;
-    Ok(out)
-}

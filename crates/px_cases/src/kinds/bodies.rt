@@ -37,11 +37,12 @@ pub struct Cut {
 }
 
 impl Cut {
-    /// The ways to cut so many bytes: byte by byte, not at all, and into two at each place, or of many bytes at some hundreds.
+    /// The ways to cut so many bytes: byte by byte, not at all, and into two at each place, or of many bytes at some.
     pub fn all(alloc: Global, len: usize) -> Result<Vec<Cut>, Fault> {
         let mut cuts = Vec::new(alloc);
         cuts.push(Cut { first: 1, size: 1 })?;
-        for first in (0..=len).step_by(1 + len / 256) {
+        let step = if len < 512 { 1 } else { 1 + len / 16 };
+        for first in (0..=len).step_by(step) {
             cuts.push(Cut { first, size: len })?;
         }
         Ok(cuts)
@@ -70,77 +71,24 @@ impl Cut {
     }
 }
 
-/// Readers of one body, and what they took: one that gives both what was sent and its data, one that gives the first, and one
-/// that gives the second.
-#[derive(Drop)]
-struct Readers {
-    both: BodyReader,
-    passing: BodyReader,
-    decoding: BodyReader,
-    raw: Text,
-    plain: Text,
-    passed: Text,
-    decoded: Text,
-    used: usize,
-    agree: bool,
-}
-
-impl Readers {
-    fn new(alloc: Global, rule: BodyRule) -> Readers {
-        Readers {
-            both: BodyReader::new(alloc, rule),
-            passing: BodyReader::new(alloc, rule),
-            decoding: BodyReader::new(alloc, rule),
-            raw: Text::new(alloc),
-            plain: Text::new(alloc),
-            passed: Text::new(alloc),
-            decoded: Text::new(alloc),
-            used: 0,
-            agree: true,
-        }
-    }
-
-    fn take(&mut self, piece: &[u8]) -> Result<(), Fault> {
-        let fed = self.both.feed(piece, &mut self.raw, &mut self.plain)?;
-        let passed = self.passing.pass(piece, &mut self.passed)?;
-        self.passed
-            .push_all(&piece[..passed.whole.min(piece.len())])?;
-        let decoded = self.decoding.decode(piece, &mut self.decoded)?;
-        self.used = self.used.saturating_add(fed.used);
-        let used = fed.used == passed.used && fed.used == decoded.used;
-        let state = fed.state == passed.state && fed.state == decoded.state;
-        self.agree = self.agree && used && state;
-        Ok(())
-    }
-
-    /// How the body stands, how many bytes are its own, how many of them were given as they came, and its data.
-    fn end(&mut self, alloc: Global, ends: bool) -> Result<Text, Fault> {
-        let state = if ends {
-            self.both.end()
-        } else {
-            self.both.state()
-        };
-        let raw = self.raw.as_bytes() == self.passed.as_bytes();
-        let plain = self.plain.as_bytes() == self.decoded.as_bytes();
-        if !(self.agree && raw && plain) {
-            return said(alloc, "the readers differ");
-        }
-        let (used, raw) = (self.used, self.raw.len());
-        let mut out = said(
-            alloc,
-            format!(in alloc; "{state:?}, used {used}, raw {raw}: ")?.as_str(),
-        )?;
-        out.push_all(self.plain.as_bytes())?;
-        Ok(out)
-    }
-}
-
+/// How the body stands whose bytes come in pieces, how many bytes are its own, how many of them were given as they came, and
+/// its data.
 fn read(alloc: Global, rule: BodyRule, pieces: &[&[u8]], ends: bool) -> Result<Text, Fault> {
-    let mut readers = Readers::new(alloc, rule);
+    let mut reader = BodyReader::new(alloc, rule);
+    let (mut raw, mut plain) = (Text::new(alloc), Text::new(alloc));
+    let mut used = 0usize;
     for piece in pieces {
-        readers.take(piece)?;
+        let fed = reader.feed(piece, &mut raw, &mut plain)?;
+        used = used.saturating_add(fed.used);
     }
-    readers.end(alloc, ends)
+    let state = if ends { reader.end() } else { reader.state() };
+    let len = raw.len();
+    let mut out = said(
+        alloc,
+        format!(in alloc; "{state:?}, used {used}, raw {len}: ")?.as_str(),
+    )?;
+    out.push_all(plain.as_bytes())?;
+    Ok(out)
 }
 
 /// How a body is read, if it is read the same however it is cut.

@@ -1,11 +1,10 @@
 //! The lines of files, and the sections, filters and jobs in them.
 use crate::faults::Fault;
 use crate::kinds::actions::push_update;
-use crate::kinds::made::{as_str, filter_file_of, filters_of, lines_of, push_item, said, vars_of};
+use crate::kinds::made::{as_str, filter_file_of, lines_of, push_item, said, vars_of};
 use crate::leaves::Row;
 use px_action_files::{ActionFile, Pattern, refusal_name};
 use px_base::{List, Text};
-use px_filter_files::FilterKind;
 use px_subst::{Filter, Job, Outcome};
 
 /// The lines that a file's bytes stand for, each behind its number.
@@ -80,28 +79,6 @@ pub fn filters(row: &Row<'_>) -> Result<Text, Fault> {
         )?;
     }
     Ok(out)
-}
-
-/// The kind of filters that is named so.
-fn kind_named(name: &str) -> Result<FilterKind, Fault> {
-    match name {
-        "Content" => Ok(FilterKind::Content),
-        "ClientHeader" => Ok(FilterKind::ClientHeader),
-        "ServerHeader" => Ok(FilterKind::ServerHeader),
-        "ClientTagger" => Ok(FilterKind::ClientTagger),
-        "ServerTagger" => Ok(FilterKind::ServerTagger),
-        _ => Err(Fault::Form("a kind of filters is wanted")),
-    }
-}
-
-/// What the filter of a kind and a name makes of a text; or that there is none.
-pub fn runs(row: &Row<'_>) -> Result<Text, Fault> {
-    let filters = filters_of(row)?;
-    let kind = kind_named(row.word("kind")?)?;
-    match filters.find(kind, row.bytes("name")?.as_slice()) {
-        Some(filter) => run(row, filter),
-        None => said(row.alloc, "no filter"),
-    }
 }
 
 /// The hits of jobs on a text, and what they make of it.

@@ -4,42 +4,19 @@ use crate::kinds::made::{push_item, said};
 use crate::leaves::Row;
 use px_base::Text;
 use px_head::{
-    HeadEnd, HeadSearch, RequestHead, ResponseHead, TOO_LONG_NAME, TOO_LONG_NUMBER, find_head,
+    HeadEnd, RequestHead, ResponseHead, TOO_LONG_NAME, TOO_LONG_NUMBER, find_head,
     is_held_back_of_request, is_held_back_of_response, print_head, read_field_line,
 };
 use std::alloc::Global;
 
-/// Where the head block at the front of bytes ends, and with how many of them that was settled.
+/// Where the head block at the front of bytes ends, under a limit.
 pub fn blocks(row: &Row<'_>) -> Result<Text, Fault> {
-    let bytes = row.bytes("bytes")?;
-    let limit = row.number::<usize>("limit")?;
-    let (end, len) = search(bytes.as_slice(), limit);
-    if find_head(bytes.as_slice(), limit) != end {
-        return said(row.alloc, "a search gives something else");
-    }
-    let text = match end {
-        HeadEnd::At(place) => format!(in row.alloc; "{place}, by {len}")?,
-        HeadEnd::NotYet => format!(in row.alloc; "not yet, by {len}")?,
-        HeadEnd::Over => format!(in row.alloc; "{TOO_LONG_NUMBER} {TOO_LONG_NAME}, by {len}")?,
+    let text = match find_head(row.bytes("bytes")?.as_slice(), row.number("limit")?) {
+        HeadEnd::At(place) => format!(in row.alloc; "{place}")?,
+        HeadEnd::NotYet => format!(in row.alloc; "not yet")?,
+        HeadEnd::Over => format!(in row.alloc; "{TOO_LONG_NUMBER} {TOO_LONG_NAME}")?,
     };
     said(row.alloc, text.as_str())
-}
-
-/// Searches in bytes that grow one by one, and answers with how many of them it found its answer.
-fn search(bytes: &[u8], limit: usize) -> (HeadEnd, usize) {
-    let mut search = HeadSearch::new();
-    let mut len = 0;
-    'more: loop {
-        match search.go_on(&bytes[..len], limit) {
-            HeadEnd::NotYet => {
-                if len == bytes.len() {
-                    return (HeadEnd::NotYet, len);
-                }
-                len += 1;
-            }
-            end => return (end, len),
-        }
-    }
 }
 
 /// A head as it is printed.
