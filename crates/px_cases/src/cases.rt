@@ -19,12 +19,12 @@ use std::thread::Threads;
 const CALL_LIMIT: u64 = 10_000;
 
 /// The most bytes of a text that are told.
-const TOLD: usize = 200;
+const TOLD_LIMIT: usize = 200;
 
 /// What is told of a text: of a long one the part from a place on.
-fn told(text: &[u8], from: usize) -> &[u8] {
+fn shortened(text: &[u8], from: usize) -> &[u8] {
     let behind = text.get(from..).unwrap_or(&[]);
-    behind.get(..TOLD).unwrap_or(behind)
+    behind.get(..TOLD_LIMIT).unwrap_or(behind)
 }
 
 /// A case, what it wants of its runs, and of what they are: of the session by itself where configurations stand, else of the command.
@@ -64,13 +64,19 @@ impl<R: Threads + Sync> Trial<'_, '_, R> {
             return Ok(true);
         };
         let same = want.iter().zip(got).take_while(|(w, g)| w == g).count();
-        let from = if want.len().max(got.len()) <= TOLD {
+        let from = if want.len().max(got.len()) <= TOLD_LIMIT {
             0
         } else {
-            same.saturating_sub(TOLD / 4)
+            same.saturating_sub(TOLD_LIMIT / 4)
         };
-        let run = format!(in self.alloc; "{run} (from byte {from})")?;
-        report.differ(line, told(want, from), told(got, from), run.as_str())?;
+        let place = if from == 0 {
+            String::new(self.alloc)
+        } else {
+            format!(in self.alloc; " from byte {from} on")?
+        };
+        let run = format!(in self.alloc; "{place}{run}")?;
+        let (want, got) = (shortened(want, from), shortened(got, from));
+        report.differ(line, want, got, run.as_str())?;
         Ok(false)
     }
 

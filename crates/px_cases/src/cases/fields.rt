@@ -188,7 +188,7 @@ pub fn read_cases<'a>(alloc: Global, text: &'a str) -> Result<Vec<Case<'a>>, Mis
     let mut cases = Vec::new(alloc);
     for (place, text) in text.lines().enumerate() {
         let line = place.saturating_add(1);
-        if !text.is_empty() && !text.starts_with('#') {
+        if !text.trim().is_empty() && !text.starts_with('#') {
             take_line(alloc, &mut cases, line, text).map_err(|fault| fault.at(line))?;
         }
     }

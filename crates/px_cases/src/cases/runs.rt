@@ -43,6 +43,9 @@ impl Plan {
 /// How many pieces of a stream are single bytes; what is behind them is one piece.
 const SINGLE_BYTES: usize = 4_096;
 
+/// What is shown of SENT where it isn't put.
+pub const UNTOUCHED: &[u8] = b"untouched";
+
 /// What a run shows, by key.
 #[derive(Drop)]
 pub struct Seen {
@@ -50,9 +53,6 @@ pub struct Seen {
 }
 
 impl Seen {
-    /// What is shown of SENT where it isn't put.
-    pub const UNTOUCHED: &'static [u8] = b"untouched";
-
     /// What it shows under a key.
     pub fn shown(&self, key: Key<'_>) -> Option<&[u8]> {
         for (shown, text) in &self.shown {
@@ -265,7 +265,7 @@ pub fn run_command<R: Threads + Sync>(
     );
     let sent = match sent_file(setup, &mut files) {
         Some(sent) => sent,
-        None => run.text(Seen::UNTOUCHED)?,
+        None => run.text(UNTOUCHED)?,
     };
     Ok(Seen {
         shown: vec![in alloc;

@@ -1,6 +1,6 @@
 //! What a case wants of its runs, and where a run gives something else.
 use crate::cases::fields::{Case, Field, Key};
-use crate::cases::runs::Seen;
+use crate::cases::runs::{Seen, UNTOUCHED};
 use crate::cases::setups::{Setup, number_of, text_bytes};
 use crate::escapes::decoded;
 use crate::faults::{Fault, Misread};
@@ -101,7 +101,7 @@ impl<'a> Wants<'a> {
         let bytes = text_bytes(self.alloc, field.texts.as_slice(), "\r\n")?;
         let text = match field.words {
             "nothing" => Vec::new(self.alloc),
-            "untouched" => Vec::from_slice(self.alloc, Seen::UNTOUCHED)?,
+            "untouched" => Vec::from_slice(self.alloc, UNTOUCHED)?,
             words => sent_text(self.alloc, words, bytes.as_slice())?,
         };
         match self.whole.last_mut() {
