@@ -16,7 +16,7 @@ use std::sync::Arc;
 use std::thread::Threads;
 
 /// The most calls of a device that fail in turn.
-const CALL_LIMIT: u64 = 10_000;
+const CALL_LIMIT: u64 = 1_000;
 
 /// The most bytes of a text that are told.
 const TOLD_LIMIT: usize = 200;
@@ -145,7 +145,12 @@ impl<R: Threads + Sync> Trial<'_, '_, R> {
             }
         }
         match self.wants.times {
-            Some(wanted) if wanted != times => Err(Fault::Form("another number of calls fails")),
+            Some((line, wanted)) if wanted != times => {
+                let want = format!(in self.alloc; "{wanted}")?;
+                let got = format!(in self.alloc; "{times}")?;
+                report.differ(line, want.as_bytes(), got.as_bytes(), "")?;
+                Ok(false)
+            }
             Some(_) => Ok(true),
             None => Ok(true),
         }

@@ -36,8 +36,8 @@ pub struct Wants<'a> {
     alloc: Global,
     whole: Vec<Want<'a>>,
     failed: Vec<FailedWant<'a>>,
-    /// In how many runs one more call fails, where the case says so.
-    pub times: Option<u64>,
+    /// In how many runs one more call fails, and the line that says so.
+    pub times: Option<(usize, u64)>,
 }
 
 /// The text of SENT that a field stands for: for `HOST:PORT`, or `HOST:PORT times N`, entries with the number of bytes and those.
@@ -115,7 +115,7 @@ impl<'a> Wants<'a> {
     fn add_failed(&mut self, field: &Field<'a>) -> Result<(), Fault> {
         match field.words.split_once(' ') {
             Some(("times", words)) => {
-                self.times = Some(number_of(words)?);
+                self.times = Some((field.line, number_of(words)?));
                 Ok(())
             }
             Some((what, words)) => Ok(
