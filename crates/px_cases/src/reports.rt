@@ -31,12 +31,24 @@ impl Report {
 
     /// Counts a row, and keeps it where it gave something else than it wants.
     pub fn add(&mut self, line: usize, want: &[u8], got: &[u8]) -> Result<(), Fault> {
-        self.rows = self.rows.saturating_add(1);
+        self.count();
         if want != got {
-            let want = encoded(self.alloc, want)?;
-            let got = encoded(self.alloc, got)?;
-            self.differences.push(Difference { line, want, got })?;
+            self.differ(line, want, got, "")?;
         }
+        Ok(())
+    }
+
+    /// Counts a row.
+    pub fn count(&mut self) {
+        self.rows = self.rows.saturating_add(1);
+    }
+
+    /// Keeps that a row gave something else than the line wants, and of which run of it that is.
+    pub fn differ(&mut self, line: usize, want: &[u8], got: &[u8], run: &str) -> Result<(), Fault> {
+        let want = encoded(self.alloc, want)?;
+        let mut got = encoded(self.alloc, got)?;
+        got.push_str(run)?;
+        self.differences.push(Difference { line, want, got })?;
         Ok(())
     }
 
