@@ -47,6 +47,8 @@ ROWS = [
     ("the worked configuration", ["check", "c"], WORKED, 0, WORKED_CHECK, ""),
     ("what the worked configuration sets", ["show", "c", "http://www.ad7.test"], WORKED, 0, WORKED_SHOW, ""),
     ("an empty main file", ["check", "c"], [("c", "")], 0, NONE, ""),
+    ("a templates folder that is a plain file", ["check", "c"], [("c", "templdir t\n"), ("t", "")], 0, NONE, ""),
+    ("a file below a plain file", ["check", "c"], [("c", "actionsfile t/u.action\n"), ("t", "")], 1, "", "t/u.action:0: 32 Missing\n"),
     (
         "two sections with a filter that goes and comes again",
         ["show", "c", "http://a.test/"],

@@ -15,6 +15,8 @@ mod sockets;
 #[cfg(test)]
 mod texts;
 #[cfg(test)]
+mod times;
+#[cfg(test)]
 mod waiting;
 #[cfg(test)]
 mod ways;
