@@ -471,19 +471,26 @@ def curl(port, origin, folder):
 
 
 def statuses(program, folder):
-    """Words, a configuration that doesn't load, and a port that is taken."""
+    """Words, configurations that don't load, a folder of templates that is a plain file, and a port that is taken."""
     with socket.create_server(("127.0.0.1", 0)) as taken:
         with open(os.path.join(folder, "taken"), "w") as file:
             file.write("listen-address 127.0.0.1:%d\n" % taken.getsockname()[1])
         with open(os.path.join(folder, "bad"), "w") as file:
             file.write("listen-address 0.0.0.0:8118\n")
+        with open(os.path.join(folder, "plain"), "w") as file:
+            file.write("listen-address 127.0.0.1:%d\ntempldir bad\n" % taken.getsockname()[1])
+        with open(os.path.join(folder, "below"), "w") as file:
+            file.write("actionsfile bad/u.action\n")
+        refusal = b"helmthread: can't listen at 127.0.0.1:%d: in use\n" % taken.getsockname()[1]
         for words, status, text in (
             (["serve"], 2, b"usage: "),
             (["serve", "taken", "0"], 2, b"usage: "),
             (["serve", "taken", "1", "0"], 2, b"usage: "),
             (["serve", "bad"], 1, b"bad:1: 30 NotLoopback\n"),
             (["serve", "missing"], 1, b"missing:0: 32 Missing\n"),
-            (["serve", "taken"], 7, b"helmthread: can't listen at 127.0.0.1:%d: in use\n" % taken.getsockname()[1]),
+            (["serve", "below"], 1, b"bad/u.action:0: 32 Missing\n"),
+            (["serve", "plain"], 7, refusal),
+            (["serve", "taken"], 7, refusal),
         ):
             ran = subprocess.run([program] + words, cwd=folder, stdout=subprocess.PIPE, stderr=subprocess.PIPE, timeout=WAIT)
             check("status %d of %s" % (status, words), ran.returncode == status and ran.stderr.startswith(text) and ran.stdout == b"")

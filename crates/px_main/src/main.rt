@@ -1,6 +1,9 @@
 //! Helmthread: a filtering HTTP proxy. The program: a command over the files, the streams and the network of this machine.
 #![tactic(auto)]
 
+mod help;
+
+use help::asked_text;
 use px_base::{DiskFiles, ReaderSource, SystemClock, WriterSink};
 use px_commands::{Parts, Status, USAGE, report, run_proxy, run_tool};
 use px_doors::{SocketDoors, Times};
@@ -40,6 +43,10 @@ fn main(rt: HostRuntime) -> ExitCode {
             return ExitCode::from(status.code());
         }
     };
+    if let Some(text) = asked_text(&words) {
+        let mut out = WriterSink::new(rt.stdout(), 0);
+        return ExitCode::from(report(&mut out, text, Status::Done).code());
+    }
     let mut files = DiskFiles::new(alloc, &rt);
     if is_serve(&words) {
         let doors = SocketDoors::new(alloc, &rt, Times::usual());
