@@ -34,6 +34,8 @@ mod texts;
 #[cfg(test)]
 mod threads;
 #[cfg(test)]
+mod times;
+#[cfg(test)]
 mod waiting;
 #[cfg(test)]
 mod ways;
