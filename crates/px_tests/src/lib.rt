@@ -3,6 +3,8 @@
 #![tactic(auto)]
 
 #[cfg(test)]
+mod aliases;
+#[cfg(test)]
 mod boards;
 #[cfg(test)]
 mod common;
