@@ -71,17 +71,23 @@ class Sandbox:
         for name in ("http_proxy", "https_proxy", "HTTP_PROXY", "HTTPS_PROXY", "no_proxy", "NO_PROXY"):
             self.env.pop(name, None)
 
-    def run(self, text):
-        """Runs one block; gives what went wrong, or None."""
-        text = text.replace("8118", str(self.port))
-        folder = self.top if re.search(r"conf/|tools/|~/", text) else os.path.join(self.top, "conf")
-        if " serve " in text:
-            self.serves = (text.strip(), folder)
-            return self.serve()
-        if "curl " in text:
-            failed = self.serve()
+    def run(self, block):
+        """Runs one block, line by line; gives what went wrong, or None. The proxy is started anew before each line that asks it."""
+        block = block.replace("8118", str(self.port))
+        folder = self.top if re.search(r"conf/|tools/|~/", block) else os.path.join(self.top, "conf")
+        for text in block.strip().splitlines():
+            failed = None
+            if " serve " in text:
+                self.serves = (text, folder)
+                failed = self.serve()
+            else:
+                failed = self.serve() if "curl " in text else None
+                failed = failed or self.line(text, folder)
             if failed:
-                return failed
+                return text + "\n" + failed
+        return None
+
+    def line(self, text, folder):
         ran = subprocess.run(["bash", "-euo", "pipefail", "-c", text], cwd=folder, env=self.env, capture_output=True, text=True, timeout=600)
         return None if ran.returncode == 0 else "status %d\n%s%s" % (ran.returncode, ran.stdout[-500:], ran.stderr[-500:])
 
@@ -167,6 +173,13 @@ def main():
             if wrong:
                 failed += 1
                 print("manual.py: %s\n%s" % (block.rstrip(), wrong.rstrip()))
+        for told in ("curl -s -x http://127.0.0.1:8118 http://www.travel.example/ | grep 'walks in the wood'",
+                     "curl -s -x http://127.0.0.1:8118 http://www.far.example/ | grep parent.example.net:3128"):
+            counts[0] += 1
+            wrong = sandbox.run(told)
+            if wrong:
+                failed += 1
+                print("manual.py: what the manual tells of its tasks isn't so: " + wrong.rstrip())
         sandbox.stop()
     server.shutdown()
     if counts[0] < 10 or counts[1] < 10:
