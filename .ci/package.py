@@ -68,7 +68,9 @@ def page(port):
     """The page through the proxy at the port, over a connection of its own."""
     with socket.create_connection(("127.0.0.1", port), 20) as it:
         it.settimeout(20)
-        it.sendall(b"GET http://www.example.com/ HTTP/1.1\r\nHost: www.example.com\r\nConnection: close\r\n\r\n")
+        it.sendall(
+            b"GET http://www.example.com/ HTTP/1.1\r\nHost: www.example.com\r\nConnection: close\r\n\r\n"
+        )
         got = b""
         while True:
             more = it.recv(65536)
@@ -81,14 +83,25 @@ def command(root, unit, key, instance=""):
     """A command line of a unit, its files taken from the unpacked package."""
     with open(os.path.join(root, "lib/systemd/system", unit), encoding="utf-8") as file:
         line = re.search(r"^%s=(.*)$" % key, file.read(), re.MULTILINE)[1]
-    return [re.sub("^/(usr|etc)/", root + r"/\1/", word.replace("%i", instance)) for word in shlex.split(line)]
+    return [
+        re.sub("^/(usr|etc)/", root + r"/\1/", word.replace("%i", instance))
+        for word in shlex.split(line)
+    ]
 
 
 def main_file(root, name, port, net):
     with open(os.path.join(root, "etc/helmthread/config"), encoding="utf-8") as file:
         text = file.read()
     with open(os.path.join(root, "etc/helmthread", name), "w", encoding="utf-8") as file:
-        file.write(re.sub(r"^listen-address .*$", "listen-address 127.0.0.1:%d" % port, text, flags=re.MULTILINE) + "\nforward / 127.0.0.1:%d\n" % net)
+        file.write(
+            re.sub(
+                r"^listen-address .*$",
+                "listen-address 127.0.0.1:%d" % port,
+                text,
+                flags=re.MULTILINE,
+            )
+            + "\nforward / 127.0.0.1:%d\n" % net
+        )
 
 
 def made(program, folder):
@@ -97,14 +110,25 @@ def made(program, folder):
         if not shutil.which(tool):
             print("package.py: skipped, since %s can't be had" % tool)
             return None
-    ran = subprocess.run([sys.executable, os.path.join(PACKAGING, "make-deb"), "--program", program, folder], capture_output=True, text=True, timeout=600)
+    ran = subprocess.run(
+        [sys.executable, os.path.join(PACKAGING, "make-deb"), "--program", program, folder],
+        capture_output=True,
+        text=True,
+        timeout=600,
+    )
     check("make-deb", ran.returncode == 0, ran.stderr)
     if ran.returncode:
         return None
     package = ran.stdout.strip()
     if shutil.which("lintian"):
-        found = subprocess.run(["lintian", "--allow-root", package], capture_output=True, text=True, timeout=600)
-        check("lintian", found.returncode == 0 and not re.search("^[EW]:", found.stdout, re.MULTILINE), found.stdout + found.stderr)
+        found = subprocess.run(
+            ["lintian", "--allow-root", package], capture_output=True, text=True, timeout=600
+        )
+        check(
+            "lintian",
+            found.returncode == 0 and not re.search("^[EW]:", found.stdout, re.MULTILINE),
+            found.stdout + found.stderr,
+        )
     else:
         print("package.py: lintian is skipped, since it can't be had")
     root = os.path.join(folder, "root")
@@ -119,18 +143,38 @@ def exposure(root):
         return
     for unit in UNITS:
         path = os.path.join(root, "lib/systemd/system", unit)
-        ran = subprocess.run(["systemd-analyze", "security", "--offline=true", path], capture_output=True, text=True, timeout=60)
+        ran = subprocess.run(
+            ["systemd-analyze", "security", "--offline=true", path],
+            capture_output=True,
+            text=True,
+            timeout=60,
+        )
         found = re.search(r"exposure level for \S+: (\d+\.\d)", ran.stdout)
-        check("the exposure of " + unit, bool(found) and float(found[1]) <= MOST_EXPOSED, found[0] if found else ran.stderr)
+        check(
+            "the exposure of " + unit,
+            bool(found) and float(found[1]) <= MOST_EXPOSED,
+            found[0] if found else ran.stderr,
+        )
 
 
 def installed(root, net):
     """The unit's command lines, a page, the tools and the man pages."""
     port = free_port()
     main_file(root, "config", port, net)
-    checked = subprocess.run(command(root, "helmthread.service", "ExecStartPre"), capture_output=True, text=True, timeout=60)
-    check("ExecStartPre", checked.returncode == 0 and checked.stdout.startswith("ok:"), checked.stdout + checked.stderr)
-    proxy = subprocess.Popen(command(root, "helmthread.service", "ExecStart"), stderr=subprocess.DEVNULL)
+    checked = subprocess.run(
+        command(root, "helmthread.service", "ExecStartPre"),
+        capture_output=True,
+        text=True,
+        timeout=60,
+    )
+    check(
+        "ExecStartPre",
+        checked.returncode == 0 and checked.stdout.startswith("ok:"),
+        checked.stdout + checked.stderr,
+    )
+    proxy = subprocess.Popen(
+        command(root, "helmthread.service", "ExecStart"), stderr=subprocess.DEVNULL
+    )
     try:
         check("the installed program listens", wait_for(port))
         got = page(port)
@@ -139,10 +183,27 @@ def installed(root, net):
         proxy.kill()
         proxy.wait()
     for name in ("helmthread-lint", "helmthread-from-hosts", "helmthread-from-privoxy"):
-        ran = subprocess.run([os.path.join(root, "usr/bin", name), "--help"], capture_output=True, text=True, timeout=60)
+        ran = subprocess.run(
+            [os.path.join(root, "usr/bin", name), "--help"],
+            capture_output=True,
+            text=True,
+            timeout=60,
+        )
         check(name + " --help", ran.returncode == 0 and "usage: " + name in ran.stdout, ran.stderr)
-    linted = subprocess.run([os.path.join(root, "usr/bin/helmthread-lint"), os.path.join(root, "etc/helmthread/config")], capture_output=True, text=True, timeout=60)
-    check("helmthread-lint over the installed files", linted.stdout == "nothing found\n", linted.stdout)
+    linted = subprocess.run(
+        [
+            os.path.join(root, "usr/bin/helmthread-lint"),
+            os.path.join(root, "etc/helmthread/config"),
+        ],
+        capture_output=True,
+        text=True,
+        timeout=60,
+    )
+    check(
+        "helmthread-lint over the installed files",
+        linted.stdout == "nothing found\n",
+        linted.stdout,
+    )
 
 
 def behind_haproxy(root, net, folder):
@@ -152,7 +213,9 @@ def behind_haproxy(root, net, folder):
         print("package.py: haproxy is skipped, since it can't be had")
         return
     ports = {"8118": free_port(), "8121": free_port(), "8122": free_port()}
-    with open(os.path.join(root, "usr/share/doc/helmthread/examples/haproxy.cfg"), encoding="utf-8") as file:
+    with open(
+        os.path.join(root, "usr/share/doc/helmthread/examples/haproxy.cfg"), encoding="utf-8"
+    ) as file:
         text = re.sub("8118|8121|8122", lambda found: str(ports[found[0]]), file.read())
     config = os.path.join(folder, "haproxy.cfg")
     with open(config, "w", encoding="utf-8") as file:
@@ -160,9 +223,17 @@ def behind_haproxy(root, net, folder):
     running = []
     for name, port in (("a", ports["8121"]), ("b", ports["8122"])):
         main_file(root, name + ".config", port, net)
-        running.append(subprocess.Popen(command(root, "helmthread@.service", "ExecStart", name), stderr=subprocess.DEVNULL))
+        running.append(
+            subprocess.Popen(
+                command(root, "helmthread@.service", "ExecStart", name), stderr=subprocess.DEVNULL
+            )
+        )
         check("instance %s listens" % name, wait_for(port))
-    running.append(subprocess.Popen([haproxy, "-db", "-f", config], stdout=subprocess.DEVNULL, stderr=subprocess.DEVNULL))
+    running.append(
+        subprocess.Popen(
+            [haproxy, "-db", "-f", config], stdout=subprocess.DEVNULL, stderr=subprocess.DEVNULL
+        )
+    )
     try:
         check("haproxy listens", wait_for(ports["8118"]))
         results, stopped, end = [], [None], time.time() + 8
@@ -187,9 +258,20 @@ def behind_haproxy(root, net, folder):
             it.join()
         before = [right for began, right in results if began < stopped[0] - 1]
         after = [right for began, right in results if began >= stopped[0]]
-        check("pages before the stop", len(before) > 20 and all(before), "%d of %d" % (before.count(False), len(before)))
-        check("pages of connections made after it", len(after) > 20 and all(after), "%d of %d lost" % (after.count(False), len(after)))
-        print("package.py: %d pages before the stop of one instance, %d after it, %d lost" % (len(before), len(after), after.count(False)))
+        check(
+            "pages before the stop",
+            len(before) > 20 and all(before),
+            "%d of %d" % (before.count(False), len(before)),
+        )
+        check(
+            "pages of connections made after it",
+            len(after) > 20 and all(after),
+            "%d of %d lost" % (after.count(False), len(after)),
+        )
+        print(
+            "package.py: %d pages before the stop of one instance, %d after it, %d lost"
+            % (len(before), len(after), after.count(False))
+        )
     finally:
         for it in running:
             it.kill()
