@@ -122,11 +122,11 @@ def substitute_text(found, places):
     return "".join(out)
 
 
-def is_plain_bytes(tree, flags):
+def is_plain_bytes(top, flags):
     """Whether the expression means the same in bytes and in characters."""
     if "i" in flags:
         return False
-    for node in rewriting.nodes(tree.top):
+    for node in rewriting.nodes(top):
         if isinstance(node, Char) and (
             len(node.bytes) > 1
             and max(node.bytes) > 127
@@ -208,7 +208,7 @@ def convert_texts(job, flags, content, only):
         flags = flags.replace("T", "")
     as_it_is = not (rewritten or kept or "x" in flags) and is_read_as_it_is(job.pattern)
     pattern = job.pattern if as_it_is else write(top)
-    if not is_plain_bytes(tree, flags):
+    if not is_plain_bytes(top, flags):
         pattern = "(?-u)" + pattern
     substitute = job.substitute if "T" in flags else substitute_text(found, places)
     if not is_utf8(substitute):
