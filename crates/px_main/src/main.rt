@@ -6,7 +6,7 @@ mod help;
 use help::asked_text;
 use px_base::{DiskFiles, ReaderSource, SystemClock, WriterSink};
 use px_commands::{Parts, Status, USAGE, report, run_proxy, run_tool};
-use px_doors::SocketDoors;
+use px_doors::{SocketDoors, Times};
 use px_ways::Way;
 use std::process::ExitCode;
 use std::rt::Env;
@@ -49,9 +49,11 @@ fn main(rt: HostRuntime) -> ExitCode {
     }
     let mut files = DiskFiles::new(alloc, &rt);
     if is_serve(&words) {
-        let doors = SocketDoors::new(alloc, &rt);
+        let doors = SocketDoors::new(alloc, &rt, Times::usual());
         let parts = Parts { files, doors, err };
-        return ExitCode::from(run_proxy(alloc, &rt, &words, parts).status);
+        let proxied = run_proxy(alloc, &rt, &words, parts);
+        proxied.parts.doors.close();
+        return ExitCode::from(proxied.status);
     }
     let mut input = ReaderSource::new(rt.stdin(), 0);
     let mut out = WriterSink::new(rt.stdout(), 0);

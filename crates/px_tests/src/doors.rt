@@ -9,9 +9,10 @@ use px_base::{
 };
 use px_doors::*;
 use px_serve::{Session, SessionEnd};
-use px_sockets::SocketDialer;
+use px_sockets::{SocketDialer, SocketSource};
 use std::alloc::Global;
 use std::test::Fail;
+use std::time::Duration;
 
 /// A connection in memory whose client says those bytes.
 fn client(alloc: Global, bytes: &[u8]) -> Result<MemConn, Mem>
@@ -109,19 +110,45 @@ fn the_calls_of_doors_in_memory_fail_by_their_numbers(rt: HostRuntime) -> Result
     Ok(())
 }
 
-#[test]
-fn doors_over_tcp_give_who_calls(rt: HostRuntime) {
+/// Short times, so that nothing waits for long.
+fn short_times() -> Times {
+    Times {
+        idle: Duration::from_millis(2_000),
+        piece: Duration::from_millis(1_000),
+        linger: Duration::from_millis(400),
+        ..Times::usual()
+    }
+}
+
+/// Doors over TCP that listen on a free port, and the port.
+fn open_doors(rt: &HostRuntime) -> Option<(SocketDoors<'_>, u16)> {
     let alloc = rt.alloc();
-    let mut doors = SocketDoors::new(alloc, &rt);
+    let mut doors = SocketDoors::new(alloc, rt, short_times());
+    let address = ListenAddress::copied(alloc, b"127.0.0.1", 0).ok()?;
+    if doors.listen(address).is_err() {
+        return None;
+    }
+    let port = doors.port()?;
+    Some((doors, port))
+}
+
+#[test]
+fn doors_that_do_not_listen_fail(rt: HostRuntime) {
+    let mut doors = SocketDoors::new(rt.alloc(), &rt, short_times());
     same(
         &rt,
         matches!(doors.accept(), Err(AcceptFault::Failed)),
         true,
     );
-    let address = ListenAddress::copied(alloc, b"127.0.0.1", 0).expect(&rt, "memory");
-    same(&rt, doors.listen(address), Ok(()));
-    let port = doors.port().expect(&rt, "a port");
-    let Ok((_link_in, mut link_out)) = SocketDialer::new(&rt, 0).dial(b"127.0.0.1", port) else {
+}
+
+#[test]
+fn doors_over_tcp_give_who_calls(rt: HostRuntime) {
+    let Some((mut doors, port)) = open_doors(&rt) else {
+        panic!(rt; "no doors");
+    };
+    let mut dialer = SocketDialer::new(rt.alloc(), &rt, short_times(), 0);
+    let Ok((_link_in, mut link_out)) = dialer.dial(b"127.0.0.1", port) else {
         panic!(rt; "no link");
     };
     same(&rt, write_all(&mut link_out, b"call"), Ok(()));
@@ -133,6 +160,59 @@ fn doors_over_tcp_give_who_calls(rt: HostRuntime) {
     same(&rt, piece, *b"call");
     same(&rt, conn.peer.address.as_bytes(), "127.0.0.1".as_bytes());
     same(&rt, conn.clock.now() > 1_700_000_000, true);
+}
+
+/// Answers a connection that was accepted with so many thousand bytes, and parts it.
+fn answer_and_part(alloc: Global, doors: &mut SocketDoors<'_>, thousands: u64) -> bool {
+    let Ok(Some(mut conn)) = doors.accept() else {
+        return false;
+    };
+    let piece = [b'a'; 1_000];
+    'pieces: for _ in 0..thousands {
+        if write_all(&mut conn.client_out, &piece).is_err() {
+            return false;
+        }
+    }
+    conn.client_out.finish();
+    doors.part(Parted {
+        number: 0,
+        handed: 0,
+        session: Session {
+            exchanges: List::new(alloc),
+            end: SessionEnd::Closed,
+        },
+        conn,
+    });
+    true
+}
+
+/// The bytes that come until the end; none where a read fails.
+fn count_to_end(source: &mut SocketSource<'_>) -> Option<u64> {
+    let mut piece = [0; 4_096];
+    let mut count = 0u64;
+    'pieces: for _ in 0..1_000_000u64 {
+        match source.read(&mut piece) {
+            Ok(0) => return Some(count),
+            Ok(more) => count = count.saturating_add(more as u64),
+            Err(Failed) => return None,
+        }
+    }
+    None
+}
+
+#[test]
+fn a_late_byte_does_not_take_the_end_of_an_answer(rt: HostRuntime) {
+    let Some((mut doors, port)) = open_doors(&rt) else {
+        panic!(rt; "no doors");
+    };
+    let mut dialer = SocketDialer::new(rt.alloc(), &rt, short_times(), 0);
+    let Ok((mut link_in, mut link_out)) = dialer.dial(b"127.0.0.1", port) else {
+        panic!(rt; "no link");
+    };
+    same(&rt, write_all(&mut link_out, b"\r\n"), Ok(()));
+    same(&rt, answer_and_part(rt.alloc(), &mut doors, 60), true);
+    doors.close();
+    same(&rt, count_to_end(&mut link_in), Some(60_000));
 }
 
 /// Takes what may go to another thread.

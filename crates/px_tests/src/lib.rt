@@ -3,6 +3,8 @@
 #![tactic(auto)]
 
 #[cfg(test)]
+mod aliases;
+#[cfg(test)]
 mod boards;
 #[cfg(test)]
 mod common;
@@ -31,6 +33,8 @@ mod streams;
 mod texts;
 #[cfg(test)]
 mod threads;
+#[cfg(test)]
+mod times;
 #[cfg(test)]
 mod waiting;
 #[cfg(test)]

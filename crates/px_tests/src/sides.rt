@@ -5,12 +5,12 @@ use px_base::{Failed, Sink, SinkFault, Source, TapeIn, TapeOut};
 use std::sync::atomic::{AtomicU64, Ordering};
 use std::thread;
 
-/// How often a side that waits looks, yielding its thread between two looks.
-const LOOKS: u64 = 1_000_000;
+/// How often a side that waits for what comes looks, yielding its thread between two looks.
+pub(crate) const LOOKS: u64 = 1_000_000;
 
-/// Waits until a count isn't 0, and tells whether it is so.
-pub(crate) fn has_risen(count: &AtomicU64) -> bool {
-    'looks: for _ in 0..LOOKS {
+/// Waits until a count isn't 0, at most so many looks, and tells whether it is so.
+pub(crate) fn has_risen(count: &AtomicU64, looks: u64) -> bool {
+    'looks: for _ in 0..looks {
         if count.load(Ordering::SeqCst) > 0 {
             return true;
         }
@@ -45,6 +45,7 @@ impl<'c> Sink for Told<'c> {
 pub(crate) struct Waiting<'c> {
     pub tape: TapeIn,
     pub until: &'c AtomicU64,
+    pub looks: u64,
     pub faults: u64,
 }
 
@@ -59,7 +60,7 @@ impl<'c> Source for Waiting<'c> {
     } };
 
     fn read(&mut self, buf: &mut [u8]) -> Result<usize, Failed> {
-        if has_risen(self.until) {
+        if has_risen(self.until, self.looks) {
             if let Ok(count) = self.tape.read(buf) {
                 return Ok(count);
             }

@@ -1,5 +1,5 @@
 //! A tunnel whose sides wait for each other: only both directions at once carry it.
-use crate::sides::{Told, Waiting};
+use crate::sides::{LOOKS, Told, Waiting};
 use px_base::{Mem, TapeIn, TapeOut, Text};
 use px_ways::{Carried, Way, carry};
 use std::alloc::Global;
@@ -20,10 +20,12 @@ fn waiting_source<'c>(
     alloc: Global,
     bytes: &[u8],
     until: &'c AtomicU64,
+    looks: u64,
 ) -> Result<Waiting<'c>, Mem> {
     Ok(Waiting {
         tape: TapeIn::new(alloc, bytes, &[], &[])?,
         until,
+        looks,
         faults: 0,
     })
 }
@@ -33,12 +35,13 @@ fn waiting_source<'c>(
 fn carried_waiting<R: Threads + Sync>(
     alloc: Global,
     way: &Way<'_, R>,
+    looks: u64,
 ) -> Result<(Carried, Text, Text), Mem> {
     let taken_by_link = AtomicU64::new(0);
     let taken_by_client = AtomicU64::new(0);
-    let mut client_in = waiting_source(alloc, b"b", &taken_by_client)?;
+    let mut client_in = waiting_source(alloc, b"b", &taken_by_client, looks)?;
     let mut client_out = told_sink(alloc, &taken_by_client)?;
-    let mut link_in = waiting_source(alloc, b"x", &taken_by_link)?;
+    let mut link_in = waiting_source(alloc, b"x", &taken_by_link, looks)?;
     let mut link_out = told_sink(alloc, &taken_by_link)?;
     let carried = carry(
         way,
@@ -57,7 +60,7 @@ fn carried_waiting<R: Threads + Sync>(
 
 #[test]
 fn sides_that_wait_for_each_other_are_carried_at_once(rt: HostRuntime) -> Result<(), Fail> {
-    let (carried, by_client, by_link) = carried_waiting(rt.alloc(), &Way::AtOnce(&rt))?;
+    let (carried, by_client, by_link) = carried_waiting(rt.alloc(), &Way::AtOnce(&rt), LOOKS)?;
     let calm = Carried {
         client_read: false,
         client_write: false,
@@ -72,7 +75,7 @@ fn sides_that_wait_for_each_other_are_carried_at_once(rt: HostRuntime) -> Result
 #[test]
 fn in_turn_a_client_that_waits_for_the_link_fails(rt: HostRuntime) -> Result<(), Fail> {
     let way: Way<'_, HostRuntime> = Way::InTurn;
-    let (carried, by_client, by_link) = carried_waiting(rt.alloc(), &way)?;
+    let (carried, by_client, by_link) = carried_waiting(rt.alloc(), &way, 100)?;
     assert!(rt; carried.client_read && !carried.client_write);
     assert_eq!(rt; by_client.as_bytes(), b"x" as &[u8]);
     assert_eq!(rt; by_link.as_bytes(), b"a" as &[u8]);

@@ -3,21 +3,16 @@ use crate::cases::fields::{Case, Field, Key};
 use crate::escapes::decoded;
 use crate::faults::{Fault, Misread};
 use std::alloc::Global;
+use std::str::FromStr;
 
-/// Something outside that a run uses, whose calls can be cut short or fail.
-#[derive(Clone, Copy, PartialEq, Eq)]
+/// An object of the outside, whose calls may be cut short or fail.
+#[derive(Clone, Copy, Debug, PartialEq, Eq)]
 pub enum Device {
-    /// The client's source.
     ClientRead,
-    /// The client's sink.
     ClientWrite,
-    /// The error output.
     ErrorWrite,
-    /// The files.
     Files,
-    /// The source of a link.
     LinkRead,
-    /// The sink of a link.
     LinkWrite,
     /// A dial that finds no name.
     NoName,
@@ -26,44 +21,17 @@ pub enum Device {
 }
 
 impl Device {
-    pub const ALL: [Device; 8] = [
-        Device::ClientRead,
-        Device::ClientWrite,
-        Device::ErrorWrite,
-        Device::Files,
-        Device::LinkRead,
-        Device::LinkWrite,
-        Device::NoName,
-        Device::NotReached,
-    ];
-
-    pub fn name(self) -> &'static str {
-        match self {
-            Device::ClientRead => "client-read",
-            Device::ClientWrite => "client-write",
-            Device::ErrorWrite => "error-write",
-            Device::Files => "files",
-            Device::LinkRead => "link-read",
-            Device::LinkWrite => "link-write",
-            Device::NoName => "no-name",
-            Device::NotReached => "not-reached",
-        }
-    }
-
     fn by_name(name: &str) -> Result<Device, Fault> {
-        for device in Device::ALL {
-            if device.name() == name {
-                return Ok(device);
-            }
-        }
-        Err(Fault::Form("no device has such a name"))
-    }
-
-    /// Whether it is one of a dial, or of the link that the dial gives.
-    pub fn is_dialled(self) -> bool {
-        match self {
-            Device::LinkRead | Device::LinkWrite | Device::NoName | Device::NotReached => true,
-            Device::ClientRead | Device::ClientWrite | Device::ErrorWrite | Device::Files => false,
+        match name {
+            "client-read" => Ok(Device::ClientRead),
+            "client-write" => Ok(Device::ClientWrite),
+            "error-write" => Ok(Device::ErrorWrite),
+            "files" => Ok(Device::Files),
+            "link-read" => Ok(Device::LinkRead),
+            "link-write" => Ok(Device::LinkWrite),
+            "no-name" => Ok(Device::NoName),
+            "not-reached" => Ok(Device::NotReached),
+            _ => Err(Fault::Form("no device has such a name")),
         }
     }
 
@@ -71,9 +39,14 @@ impl Device {
     pub fn is_dial(self) -> bool {
         self == Device::NoName || self == Device::NotReached
     }
+
+    /// Whether it is a dial, or a part of the link that a dial gives.
+    pub fn is_dialled(self) -> bool {
+        self.is_dial() || self == Device::LinkRead || self == Device::LinkWrite
+    }
 }
 
-/// A call that fails: of a device, and the dial of which that is one. Both are counted from 0.
+/// A call that fails: of a device, and of a link that of which dial. Both are counted from 0.
 #[derive(Clone, Copy)]
 pub struct Failing {
     pub device: Device,
@@ -108,7 +81,7 @@ pub struct NamedFile<'a> {
 pub struct Setup<'a> {
     pub alloc: Global,
     pub words: Vec<&'a str>,
-    /// The files of each moment.
+    /// The files of each configuration.
     pub states: Vec<Vec<NamedFile<'a>>>,
     pub input: Vec<u8>,
     pub origins: Vec<Origin>,
@@ -116,18 +89,18 @@ pub struct Setup<'a> {
     pub has_origins: bool,
     pub moments: Vec<u64>,
     pub cuts: Vec<Cuts>,
-    /// Whether the run is repeated with every cut.
+    /// Whether the runs are repeated with every cut.
     pub each_cut: bool,
     pub failing: Vec<Failing>,
     /// The devices of which each call fails in turn.
     pub each_failing: Vec<Device>,
 }
 
+/// What `pass` is told where a case has no words.
+const PASS: [&str; 4] = ["pass", "c", "o", "s"];
+
 /// The moment of a case that names none, in seconds since 1970.
 const MOMENT: u64 = 1_000_000_000;
-
-/// What `pass` is told where a case has no words.
-const PASS: &str = "pass c o s";
 
 /// The text before a `\` that ends a line of text and isn't itself behind a `\`.
 fn before_open_end(text: &str) -> Option<&str> {
@@ -144,36 +117,32 @@ fn before_open_end(text: &str) -> Option<&str> {
 pub fn text_bytes(alloc: Global, texts: &[&str], line_end: &str) -> Result<Vec<u8>, Fault> {
     let mut bytes = Vec::new(alloc);
     for text in texts {
-        match before_open_end(text) {
-            Some(front) => bytes.extend_from_slice(decoded(alloc, front)?.as_slice())?,
-            None => {
-                bytes.extend_from_slice(decoded(alloc, text)?.as_slice())?;
-                bytes.extend_from_slice(line_end.as_bytes())?;
-            }
-        }
+        let (text, line_end) = match before_open_end(text) {
+            Some(front) => (front, ""),
+            None => (*text, line_end),
+        };
+        bytes.extend_from_slice(decoded(alloc, text)?.as_slice())?;
+        bytes.extend_from_slice(line_end.as_bytes())?;
     }
     Ok(bytes)
 }
 
 /// A number.
-pub fn number_of(word: &str) -> Result<u64, Fault> {
-    word.parse::<u64>()
-        .map_err(|_| Fault::Form("a number is wanted"))
-}
-
-fn size_of_word(word: &str) -> Result<usize, Fault> {
-    word.parse::<usize>()
+pub fn number_of<N: FromStr>(word: &str) -> Result<N, Fault>
+where
+    N::Err: Drop,
+{
+    word.parse::<N>()
         .map_err(|_| Fault::Form("a number is wanted"))
 }
 
 impl<'a> Setup<'a> {
-    fn new(alloc: Global) -> Result<Setup<'a>, Fault> {
-        let mut states = Vec::new(alloc);
-        states.push(Vec::new(alloc))?;
-        Ok(Setup {
+    /// What the fields of a case say.
+    pub fn of_case(alloc: Global, case: &Case<'a>) -> Result<Setup<'a>, Misread> {
+        let mut setup = Setup {
             alloc,
             words: Vec::new(alloc),
-            states,
+            states: Vec::new(alloc),
             input: Vec::new(alloc),
             origins: Vec::new(alloc),
             has_origins: true,
@@ -182,56 +151,63 @@ impl<'a> Setup<'a> {
             each_cut: false,
             failing: Vec::new(alloc),
             each_failing: Vec::new(alloc),
-        })
-    }
-
-    /// What the fields of a case say.
-    pub fn of_case(alloc: Global, case: &Case<'a>) -> Result<Setup<'a>, Misread> {
-        let mut setup = Setup::new(alloc).map_err(|fault| case.misread(fault))?;
+        };
+        setup.begin(case).map_err(|fault| case.misread(fault))?;
         for field in &case.fields {
             setup.add(field).map_err(|fault| fault.at(field.line))?;
         }
-        setup.fill(case).map_err(|fault| case.misread(fault))?;
         Ok(setup)
+    }
+
+    /// Puts what holds where the case doesn't say else.
+    fn begin(&mut self, case: &Case<'a>) -> Result<(), Fault> {
+        self.states.push(Vec::new(self.alloc))?;
+        if !case.has(Key::Words) {
+            self.words.extend_from_slice(&PASS)?;
+        }
+        if !case.has(Key::Clock) {
+            self.moments.push(MOMENT)?;
+        }
+        Ok(())
     }
 
     /// Takes up what a field says.
     fn add(&mut self, field: &Field<'a>) -> Result<(), Fault> {
-        let alloc = self.alloc;
-        let texts = field.texts.as_slice();
+        let (alloc, texts) = (self.alloc, field.texts.as_slice());
         match field.key {
             Key::File(name) => self.add_file(name, text_bytes(alloc, texts, "\n")?),
             Key::Turn => Ok(self.states.push(Vec::new(alloc))?),
-            Key::Words => self.add_words(field.words),
-            Key::In => Ok(
-                self.input
-                    .extend_from_slice(text_bytes(alloc, texts, "\r\n")?.as_slice())?,
-            ),
-            Key::Origin => self.add_origin(field.words, text_bytes(alloc, texts, "\r\n")?),
-            Key::Clock => self.add_moments(field.words),
+            Key::Words => {
+                self.words = field.words.split_whitespace().collect(alloc)?;
+                Ok(())
+            }
+            Key::In => {
+                self.input = text_bytes(alloc, texts, "\r\n")?;
+                Ok(())
+            }
+            Key::Origin => self.add_origins(field.words, text_bytes(alloc, texts, "\r\n")?),
+            Key::Clock => {
+                for word in field.words.split_whitespace() {
+                    self.moments.push(number_of(word)?)?;
+                }
+                Ok(())
+            }
             Key::Cuts => self.add_cuts(field.words),
             Key::Fails => self.add_failing(field.words),
-            Key::Failed | Key::Out | Key::Err | Key::Status | Key::Sent => Ok(()),
-            Key::End | Key::Configs | Key::Moments | Key::Next => Ok(()),
+            Key::Failed | Key::Out | Key::Err | Key::Status => Ok(()),
+            Key::Sent | Key::End | Key::Notes => Ok(()),
         }
     }
 
     fn add_file(&mut self, name: &'a str, bytes: Vec<u8>) -> Result<(), Fault> {
         match self.states.last_mut() {
             Some(state) => Ok(state.push(NamedFile { name, bytes })?),
-            None => Err(Fault::Form("the file belongs to no state")),
+            None => Err(Fault::Form("the file belongs to no configuration")),
         }
     }
 
-    fn add_words(&mut self, words: &'a str) -> Result<(), Fault> {
-        for word in words.split_whitespace() {
-            self.words.push(word)?;
-        }
-        Ok(())
-    }
-
-    /// Text, for so many dials; or `no-name` or `not-reached`; or `missing` where the file ORIGIN isn't there.
-    fn add_origin(&mut self, words: &str, bytes: Vec<u8>) -> Result<(), Fault> {
+    /// A text, for one dial or so many; or `no-name` or `not-reached`; or `missing` where the file ORIGIN isn't there.
+    fn add_origins(&mut self, words: &str, bytes: Vec<u8>) -> Result<(), Fault> {
         match words {
             "" => Ok(self.origins.push(Origin::Link(bytes))?),
             "no-name" => Ok(self.origins.push(Origin::NoName)?),
@@ -241,7 +217,7 @@ impl<'a> Setup<'a> {
                 Ok(())
             }
             times => {
-                for _ in 0..number_of(times)? {
+                for _ in 0..number_of::<u64>(times)? {
                     let bytes = Vec::from_slice(self.alloc, bytes.as_slice())?;
                     self.origins.push(Origin::Link(bytes))?;
                 }
@@ -250,63 +226,44 @@ impl<'a> Setup<'a> {
         }
     }
 
-    fn add_moments(&mut self, words: &str) -> Result<(), Fault> {
-        for word in words.split_whitespace() {
-            self.moments.push(number_of(word)?)?;
-        }
-        Ok(())
-    }
-
     /// `each`, or a device and the sizes of its calls.
     fn add_cuts(&mut self, words: &str) -> Result<(), Fault> {
-        if words == "each" {
+        let (device, sizes) = words.split_once(' ').unwrap_or((words, ""));
+        if device == "each" {
             self.each_cut = true;
             return Ok(());
         }
-        let mut words = words.split_whitespace();
-        let device = Device::by_name(words.next().unwrap_or(""))?;
-        let mut sizes = Vec::new(self.alloc);
-        for word in words {
-            sizes.push(size_of_word(word)?)?;
+        let mut cuts = Cuts {
+            device: Device::by_name(device)?,
+            sizes: Vec::new(self.alloc),
+        };
+        for word in sizes.split_whitespace() {
+            cuts.sizes.push(number_of(word)?)?;
         }
-        Ok(self.cuts.push(Cuts { device, sizes })?)
+        Ok(self.cuts.push(cuts)?)
     }
 
-    /// `each` and a device; or a device and a call of it, and for a link `of` and the number of its dial.
+    /// `each` and a device; or a device and the number of a call, and for a link `of` and the number of its dial.
     fn add_failing(&mut self, words: &str) -> Result<(), Fault> {
         let words: Vec<&str> = words.split_whitespace().collect(self.alloc)?;
         match words.as_slice() {
-            [] => Ok(()),
             ["each", device] => Ok(self.each_failing.push(Device::by_name(device)?)?),
-            [device, call] => self.add_call(device, call, "0"),
-            [device, call, "of", dial] => self.add_call(device, call, dial),
+            [device, call] => self.add_call(Device::by_name(device)?, call, "0"),
+            [device, call, "of", dial] => self.add_call(Device::by_name(device)?, call, dial),
             _ => Err(Fault::Form(
                 "`each DEVICE`, `DEVICE CALL` or `DEVICE CALL of DIAL` is wanted",
             )),
         }
     }
 
-    fn add_call(&mut self, device: &str, call: &str, dial: &str) -> Result<(), Fault> {
-        let device = Device::by_name(device)?;
-        let dial = if device.is_dial() { call } else { dial };
+    fn add_call(&mut self, device: Device, call: &str, dial: &str) -> Result<(), Fault> {
         Ok(
             self.failing.push(Failing {
                 device,
                 call: number_of(call)?,
-                dial: size_of_word(dial)?,
+                dial: number_of(if device.is_dial() { call } else { dial })?,
             })?,
         )
-    }
-
-    /// Puts the words and the moment that hold where the case names none.
-    fn fill(&mut self, case: &Case<'_>) -> Result<(), Fault> {
-        if !case.has(Key::Words) {
-            self.add_words(PASS)?;
-        }
-        if self.moments.is_empty() {
-            self.moments.push(MOMENT)?;
-        }
-        Ok(())
     }
 
     /// Whether the command is `pass`.
@@ -314,13 +271,13 @@ impl<'a> Setup<'a> {
         self.words.first().copied() == Some("pass")
     }
 
-    /// Whether the command can be run so: its links are read and written whole, and its files are those of one moment.
+    /// Whether the command can be run so: its links are read and written whole, and it has one configuration.
     pub fn is_command(&self) -> bool {
-        let cut = self.cuts.iter().any(|cuts| cuts.device.is_dialled());
-        let failing = self
-            .failing
+        let mut devices = self
+            .cuts
             .iter()
-            .any(|failing| failing.device.is_dialled());
-        !cut && !failing && self.states.len() == 1
+            .map(|cuts| cuts.device)
+            .chain(self.failing.iter().map(|failing| failing.device));
+        self.states.len() == 1 && !devices.any(|device| device.is_dialled())
     }
 }

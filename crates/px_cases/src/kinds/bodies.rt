@@ -37,11 +37,16 @@ pub struct Cut {
 }
 
 impl Cut {
-    /// The ways to cut so many bytes: byte by byte, not at all, and into two at each place, or of many bytes at some.
+    /// The ways to cut so many bytes: byte by byte, not at all, and into two at each place. Where they are many, into pieces of a
+    /// thousand, not at all, and into two at some places.
     pub fn all(alloc: Global, len: usize) -> Result<Vec<Cut>, Fault> {
+        let (size, step) = if len < 512 {
+            (1, 1)
+        } else {
+            (1_000, 1 + len / 16)
+        };
         let mut cuts = Vec::new(alloc);
-        cuts.push(Cut { first: 1, size: 1 })?;
-        let step = if len < 512 { 1 } else { 1 + len / 16 };
+        cuts.push(Cut { first: size, size })?;
         for first in (0..=len).step_by(step) {
             cuts.push(Cut { first, size: len })?;
         }
