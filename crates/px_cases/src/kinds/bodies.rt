@@ -43,7 +43,7 @@ impl Cut {
         let (size, step) = if len < 512 {
             (1, 1)
         } else {
-            (1_000, 1 + len / 16)
+            (1_000, 1 + len / 4)
         };
         let mut cuts = Vec::new(alloc);
         cuts.push(Cut { first: size, size })?;
