@@ -5,6 +5,7 @@ An expression is a str whose characters are bytes (Latin-1). `parse` makes a tre
 """
 import re
 from dataclasses import dataclass, field
+from .letters import is_alnum, is_digits
 
 ALL = frozenset(range(256))
 DIGIT = frozenset(b"0123456789")
@@ -281,7 +282,7 @@ class Reader:
             end = self.text.find("}", self.at)
             inner = self.text[self.at + 1 : end] if end > 0 else ""
             low, comma, high = inner.partition(",")
-            if not (low.isdigit() and (high == "" or high.isdigit())):
+            if not (is_digits(low) and (high == "" or is_digits(high))):
                 return None
             self.at, low, high = (
                 end + 1,
@@ -399,7 +400,7 @@ class Reader:
             )
         byte = self.number_escape(char, True)
         if byte is None:
-            if char == "" or char.isalnum():
+            if char == "" or is_alnum(char):
                 raise Unread("`\\%s` in a class isn't read" % char)
             return ord(char), "\\" + char if char not in "<> " and ord(char) < 127 else byte_text(
                 ord(char), True
@@ -424,7 +425,7 @@ class Reader:
             if value > 255:
                 raise Unread("`\\x{%s}` is no byte" % digits)
             return value
-        if char.isdigit() and (in_class or char == "0"):
+        if is_digits(char) and (in_class or char == "0"):
             digits = char
             while len(digits) < 3 and self.peek() and self.peek() in "01234567":
                 digits, self.at = digits + self.peek(), self.at + 1
@@ -469,9 +470,9 @@ class Reader:
             return []
         if char == "g" or char == "k":
             return [self.named_reference(char)]
-        if char.isdigit() and char != "0":
+        if is_digits(char) and char != "0":
             digits, at = char, self.at
-            while self.text[at : at + 1].isdigit():
+            while is_digits(self.text[at : at + 1]):
                 digits, at = digits + self.text[at], at + 1
             if int(digits) < 10 or int(digits) <= self.total:
                 self.at = at
@@ -480,7 +481,7 @@ class Reader:
         byte = self.number_escape(char, False)
         if byte is not None:
             return [self.literal(byte)]
-        if char.isalnum():
+        if is_alnum(char):
             raise Unread("`\\%s` has no form here" % char)
         return [
             self.literal(
@@ -500,7 +501,7 @@ class Reader:
             self.at += 1
         if char == "g" and opener in "<'":
             raise Unread("recursion (`\\g`) has no form here")
-        if name.lstrip("-").isdigit():
+        if is_digits(name.lstrip("-")):
             number = int(name)
             return Back(number if number > 0 else self.groups + 1 + number)
         if name not in self.names:

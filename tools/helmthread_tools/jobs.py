@@ -4,6 +4,7 @@ from dataclasses import dataclass, field
 from . import rewriting
 from .expressions import Alt, Assertion, Char, Group, Unread, is_read_as_it_is, parse, write
 from .lines import is_utf8, recoded
+from .letters import is_alnum, is_digits
 
 FLAGS = "gimsxUTDo"
 DELIMITERS = "@%~!;:,/|\"'`&=+-"
@@ -35,7 +36,7 @@ def split(text):
     if len(text) < 2 or text[0] != "s":
         raise Unread("a job begins with `s` and a sign")
     delimiter = text[1]
-    if delimiter.isalnum() or delimiter in " \t\\" or ord(delimiter) > 126:
+    if is_alnum(delimiter) or delimiter in " \t\\" or ord(delimiter) > 126:
         raise Unread("the sign behind `s` can't part a job")
     parts, at = [""], 2
     while at < len(text) and len(parts) < 3:
@@ -73,9 +74,9 @@ def items(substitute, groups):
                 text += escapes.get(after, after)
                 at += 2
             continue
-        if char == "$" and after.isdigit():
+        if char == "$" and is_digits(after):
             digits = ""
-            while substitute[at + 1 : at + 2].isdigit():
+            while is_digits(substitute[at + 1 : at + 2]):
                 digits += substitute[at + 1]
                 at += 1
             group = int(digits)
@@ -100,7 +101,7 @@ def literal(text):
     out = []
     for at, char in enumerate(text):
         after = text[at + 1 : at + 2]
-        if char == "\\" or char == "$" and (after == "" or after.isdigit() or after == "&"):
+        if char == "\\" or char == "$" and (after == "" or is_digits(after) or after == "&"):
             out.append("\\" + char)
         elif char == "\0":
             raise Unread("`\\0` in a substitute has no form here")

@@ -9,6 +9,7 @@ from .linting_actions import PATTERN_LIMIT, ActionLints
 from .linting_patterns import PatternLints
 from .nearness import near
 from .scanning import scan
+from .letters import is_digits
 
 
 class Linter(ActionLints, PatternLints):
@@ -52,6 +53,9 @@ class Linter(ActionLints, PatternLints):
                 "Name the file in it, as `%s`" % os.path.join(path, "config"),
             )
             return None
+        except ValueError:
+            self.say(name, 0, path, "no file has such a name", wanted)
+            return None
         except OSError as error:
             self.say(
                 name,
@@ -83,7 +87,7 @@ class Linter(ActionLints, PatternLints):
         for line in lines:
             for at, raw in enumerate(line.raw):
                 if not is_utf8(raw):
-                    word = next(part for part in raw.split() if not is_utf8(part))
+                    word = next(part for part in re.findall(r"[^ \t]+", raw) if not is_utf8(part))
                     self.say(
                         name,
                         line.number + at,
@@ -301,7 +305,7 @@ class Linter(ActionLints, PatternLints):
             )
 
     def buffer_limit(self, number, value):
-        if not (value.isdigit() and int(value) <= 16384):
+        if not (is_digits(value) and int(value) <= 16384):
             digits = re.match(r"\d*", value)[0]
             size = {"m": 1024, "k": 1}.get(value[len(digits) :].strip()[:1].lower(), 1) * int(
                 digits or 4096

@@ -4,6 +4,7 @@ import re
 
 from . import tables
 from .nearness import near
+from .letters import is_alnum
 
 PATTERN_LIMIT = 20000
 BLOCKS = ("alias", "settings", "description")
@@ -287,7 +288,7 @@ class ActionLints:
         if (
             len(value) > 2
             and value[0] == "s"
-            and not value[1].isalnum()
+            and not is_alnum(value[1])
             and value[1] not in " \t\\"
         ):
             self.job(name, number, value)

@@ -4,6 +4,7 @@ from dataclasses import dataclass, field
 from . import jobs, rewriting, tables
 from .expressions import Unread, is_read_as_it_is, parse, write
 from .lines import FILE_LIMIT, LINE_LIMIT, escaped, logical, recoded, shown
+from .letters import is_alnum, is_digits
 
 # What stands for a filter of Debian's that may have nothing left, among the filters of conf/default.filter.
 STANDS_FOR = {
@@ -323,7 +324,7 @@ class ActionsFile:
             and value.lower() in tables.FIXED_WORDS[key]
         ):
             return ["+%s{%s}" % (name, value.lower())]
-        if key == "redirect" and len(value) > 2 and value[0] == "s" and not value[1].isalnum():
+        if key == "redirect" and len(value) > 2 and value[0] == "s" and not is_alnum(value[1]):
             return self.redirect(word, name, value, place)
         if not tables.value_is_allowed(key, value):
             mended = {"fast-redirects": "simple-check"}.get(key)
@@ -490,7 +491,7 @@ class MainFile:
         if right and here:
             return as_it_stands(line)
         port = value.rpartition(":")[2]
-        new = "127.0.0.1" + (":" + port if port.isdigit() and 0 < int(port) < 65536 else "")
+        new = "127.0.0.1" + (":" + port if is_digits(port) and 0 < int(port) < 65536 else "")
         self.report.note(
             place,
             "`listen-address %s` became %s: it serves this machine alone" % (shown(value), new),
@@ -498,7 +499,7 @@ class MainFile:
         return ["listen-address " + new]
 
     def buffer_limit(self, line, value, place):
-        if value.isdigit() and int(value) <= 16384:
+        if is_digits(value) and int(value) <= 16384:
             return as_it_stands(line)
         self.report.note(place, "`buffer-limit %s` became 16384, which is the most" % shown(value))
         return ["buffer-limit 16384"]

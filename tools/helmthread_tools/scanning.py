@@ -1,4 +1,5 @@
 """Looks through an expression as Helmthread reads it for what it doesn't know, and says what to write."""
+from .letters import is_alpha, is_digits
 
 FLAGS = "imsUuxR-"
 LOOKS = {
@@ -73,7 +74,7 @@ def scan(text):
             close = text.find("}", at)
             inner = text[at + 1 : close] if close > 0 else ""
             low, _, high = inner.partition(",")
-            if not (low.strip().isdigit() and (high.strip() == "" or high.strip().isdigit())):
+            if not (is_digits(low.strip()) and (high.strip() == "" or is_digits(high.strip()))):
                 faults.append(("{", "a `{` that counts nothing", "\\{"))
             elif high.strip() and int(high) < int(low):
                 faults.append(
@@ -118,7 +119,7 @@ def escape(text, at, faults):
     after = text[at + 1 : at + 2]
     if after == "":
         faults.append(("\\", "a backslash at the end", "\\\\"))
-    elif after.isdigit():
+    elif is_digits(after):
         if after == "0":
             faults.append(("\\0", "an octal number", "\\x00"))
         else:
@@ -129,7 +130,7 @@ def escape(text, at, faults):
                     "one branch for each text: (?:\"[^\"]*\"|'[^']*')",
                 )
             )
-    elif after.isalpha() and after not in KNOWN:
+    elif is_alpha(after) and after not in KNOWN:
         faults.append(("\\" + after, "an escape that isn't known", ESCAPES.get(after, after)))
     return at + 1
 
@@ -151,11 +152,11 @@ def bracket(text, at, faults):
                 at = bracket(text, at, faults)
             last = None
         elif char == "\\":
-            if text[at + 1 : at + 2].isdigit():
+            if is_digits(text[at + 1 : at + 2]):
                 faults.append(
                     (text[at : at + 2], "a number in a class", "[^\"'>], the signs themselves")
                 )
-            elif text[at + 1 : at + 2].isalpha() and text[at + 1] not in KNOWN:
+            elif is_alpha(text[at + 1 : at + 2]) and text[at + 1] not in KNOWN:
                 faults.append(
                     (
                         text[at : at + 2],
