@@ -31,12 +31,16 @@ fn allowed(row: &Row<'_>, ports: &Ports) -> Result<Text, Fault> {
 
 /// The host, port and path of a URL or of a tunnel's target, its printed form, and its host and port as in a Host field.
 pub(crate) fn urls(row: &Row<'_>) -> Result<Text, Fault> {
-    let url = url_of(row, row.is("tunnel")?)?;
-    let mut out = Text::from_bytes(row.alloc, url.host.as_bytes())?;
-    push_item(&mut out, format!(in row.alloc; "{}", url.port)?.as_bytes())?;
-    push_item(&mut out, url.path.as_bytes())?;
-    push_item(&mut out, url.print(row.alloc)?.as_bytes())?;
-    push_item(&mut out, url.host_port(row.alloc)?.as_bytes())?;
+    parts_of(row.alloc, &url_of(row, row.is("tunnel")?)?)
+}
+
+fn parts_of(alloc: Global, url: &Url) -> Result<Text, Fault> {
+    let mut out = Text::from_bytes(alloc, url.host.as_bytes())?;
+    push_item(&mut out, format!(in alloc; "{}", url.port)?.as_bytes())?;
+    let (printed, host_port) = (url.print(alloc)?, url.host_port(alloc)?);
+    for part in [&url.path, &printed, &host_port] {
+        push_item(&mut out, part.as_bytes())?;
+    }
     Ok(out)
 }
 
