@@ -138,9 +138,10 @@ fn a_client_waits_longer_while_its_connection_holds_a_link(rt: HostRuntime) {
     let Some(mut pair) = open_pair(&rt) else {
         panic!(rt; "no link");
     };
+    let port = pair.listener.port;
     let client_in = &mut pair.caller.client_in;
     let mut dialer = SocketDialer::of_client(rt.alloc(), &rt, short_times(), client_in, 7);
-    let Ok((link_in, link_out)) = dialer.dial(b"127.0.0.1", pair.listener.port) else {
+    let Ok((link_in, link_out)) = dialer.dial(b"127.0.0.1", port) else {
         panic!(rt; "no link");
     };
     holds(
