@@ -126,7 +126,7 @@ const HEAD: &[u8] = b"HTTP/1.1 200 OK\r\nContent-Length: 2\r\nConnection: keep-a
 const RETURNED: &[u8] = b"HTTP/1.1 200 OK\r\nContent-Length: 2\r\nConnection: keep-alive\r\n\r\nhi";
 
 /// The actions, the front of an answer, what is put out of it, how many bytes are held, and the flow.
-const FRONTS: [(&[&str], &[u8], &[u8], u64, Flow); 6] = [
+const FRONTS: [(&[&str], &[u8], &[u8], u64, Flow); 5] = [
     (
         &[],
         b"HTTP/1.1 200 OK\r\nContent-Length: 2\r\n\r",
@@ -160,14 +160,6 @@ const FRONTS: [(&[&str], &[u8], &[u8], u64, Flow); 6] = [
         &["+filter{f}"],
         b"HTTP/1.1 200 OK\r\nContent-Type: image/png\r\nContent-Length: 3\r\n\r\naa",
         b"HTTP/1.1 200 OK\r\nContent-Type: image/png\r\nContent-Length: 3\r\nConnection: keep-alive\r\n\r\naa",
-        0,
-        Flow::More,
-    ),
-    // Of a text over the limit nothing waits for its end.
-    (
-        &["+filter{f}"],
-        b"HTTP/1.1 200 OK\r\nContent-Type: text/html\r\nContent-Length: 1025\r\n\r\naa",
-        b"HTTP/1.1 200 OK\r\nContent-Type: text/html\r\nContent-Length: 1025\r\nConnection: keep-alive\r\n\r\naa",
         0,
         Flow::More,
     ),
