@@ -186,23 +186,32 @@ fn two_seats_make_a_hundred_changes_each(rt: HostRuntime) {
     assert_eq!(rt; both, (200, 200));
 }
 
+/// Whether the board was full, and nothing is worn in its last state.
+fn is_full(answer: Result<Worn, WearFault>) -> bool {
+    match answer {
+        Ok(_worn) => false,
+        Err(WearFault::Full(worn)) => are_worn(&worn, 10_000, &[]),
+        Err(WearFault::Mem) => false,
+    }
+}
+
+/// Whether nothing is worn in the last state.
+fn is_bare(answer: Result<Worn, WearFault>) -> bool {
+    match answer {
+        Ok(worn) => are_worn(&worn, 10_000, &[]),
+        Err(WearFault::Full(_worn)) => false,
+        Err(WearFault::Mem) => false,
+    }
+}
+
 /// Fills a board, and tells whether a change that would alter something is refused then, while other answers go on.
 fn fills<N: BoardName, R: Wait>(rt: &R, alloc: Global, seat: &mut Seat<N>) -> Result<bool, Mem> {
     work(rt, alloc, seat, 7, 5000);
     let wear = TagChange::Wear(Text::from_bytes(alloc, b"ads")?);
     let shed = TagChange::Shed(Text::from_bytes(alloc, b"ads")?);
-    let refused = match seat.take(rt, &[8], Some(&wear)) {
-        Err(WearFault::Full(worn)) => are_worn(&worn, 10_000, &[]),
-        _ => false,
-    };
-    let settled = match seat.take(rt, &[8], Some(&shed)) {
-        Ok(worn) => are_worn(&worn, 10_000, &[]),
-        Err(_) => false,
-    };
-    let asked = match seat.take(rt, &[7], None) {
-        Ok(worn) => are_worn(&worn, 10_000, &[]),
-        Err(_) => false,
-    };
+    let refused = is_full(seat.take(rt, &[8], Some(&wear)));
+    let settled = is_bare(seat.take(rt, &[8], Some(&shed)));
+    let asked = is_bare(seat.take(rt, &[7], None));
     Ok(refused && settled && asked && seat.made() == 10_000)
 }
 
