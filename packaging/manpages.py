@@ -117,7 +117,7 @@ def of_script(path, version):
     loader.exec_module(module)
     first, usage, *rest = module.__doc__.strip("\n").split("\n\n")
     name = os.path.basename(path)
-    said = first.rstrip(".")
+    said = " ".join(first.split()).rstrip(".")
     out = head(name, 1, version, said[0].lower() + said[1:]) + [
         ".SH SYNOPSIS",
         plain(usage.replace("usage: ", "")),

@@ -1,1 +1,3 @@
-"""What the scripts of tools/ share: how files of the configuration are written, and how expressions are read."""
+"""What the scripts of tools/ share: how files of the configuration are written, and how expressions
+are read.
+"""

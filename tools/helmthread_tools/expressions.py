@@ -1,7 +1,8 @@
 """Reads expressions as PCRE has them, in bytes, and writes them as the Rust crate `regex` does.
 
-An expression is a str whose characters are bytes (Latin-1). `parse` makes a tree of it: an Alt of branches, each a list of nodes.
-`write` makes an expression for `regex` of a tree, under `(?-u)`: a dot, a class and `\\W` mean bytes there, as in PCRE.
+An expression is a str whose characters are bytes (Latin-1). `parse` makes a tree of it: an Alt of
+branches, each a list of nodes. `write` makes an expression for `regex` of a tree, under `(?-u)`:
+a dot, a class and `\\W` mean bytes there, as in PCRE.
 """
 import re
 from dataclasses import dataclass, field
@@ -35,7 +36,8 @@ META = set("\\.+*?()|[]{}^$#&-~")
 
 
 class Unread(Exception):
-    """The text is no expression of PCRE's, or has something in it that has no form here; says what."""
+    """The text is no expression of PCRE's, or has something in it that has no form here; says
+    what."""
 
 
 @dataclass
@@ -93,7 +95,8 @@ class Keep:
 
 @dataclass
 class Repeat:
-    """A node so many times; `high` is None where there is no bound. `lazy` says whether a `?` stands behind it."""
+    """A node so many times; `high` is None where there is no bound. `lazy` says whether a `?`
+    stands behind it."""
 
     node: object
     low: int
@@ -110,7 +113,8 @@ class Alt:
 
 @dataclass
 class Tree:
-    """An expression that was read: its tree, how many groups capture, their names, and what is only nearly the same."""
+    """An expression that was read: its tree, how many groups capture, their names, and what is only
+    nearly the same."""
 
     top: Alt
     groups: int

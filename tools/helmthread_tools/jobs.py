@@ -24,7 +24,8 @@ class Job:
 
 @dataclass
 class Made:
-    """What a job became: the jobs that stand for it, what is only nearly the same, and whether its text changed."""
+    """What a job became: the jobs that stand for it, what is only nearly the same, and whether its
+    text changed."""
 
     jobs: list
     nearly: list = field(default_factory=list)
@@ -165,7 +166,8 @@ def wrap_whole(top):
 
 
 def convert(text, content):
-    """A job of Privoxy's as Helmthread's: a Made, or Unread. `content` says that it runs on pages, not on header lines."""
+    """A job of Privoxy's as Helmthread's: a Made, or Unread. `content` says that it runs on pages,
+    not on header lines."""
     job = split(text)
     flags = "".join(flag for flag in job.flags if flag in FLAGS)
     return convert_texts(job, flags, content, {})
@@ -225,7 +227,8 @@ def convert_texts(job, flags, content, only):
 
 
 def hides_matches(top):
-    """Whether what is put back may be the front, or the bytes before the front, of another match."""
+    """Whether what is put back may be the front, or the bytes before the front, of another
+    match."""
     begins = frozenset().union(*(rewriting.firsts(branch) for branch in top.branches))
     for node in rewriting.nodes(top):
         if isinstance(node, Group) and node.number == rewriting.BEFORE:
@@ -249,7 +252,8 @@ def write_or_none(top):
 
 
 def one_a_text(job, flags, content, only, tree):
-    """More than nine groups: one job for each text of the first group that a back reference names."""
+    """More than nine groups: one job for each text of the first group that a back reference
+    names."""
     fresh = parse(job.pattern, flags)
     left = [number for number in rewriting.references(fresh.top) if number not in only]
     if not left:
@@ -275,7 +279,8 @@ def write_job(job):
 
 
 def delimited(text, delimiter, in_pattern):
-    """The text with a backslash before each delimiter; None where a backslash of its own stands there."""
+    """The text with a backslash before each delimiter; None where a backslash of its own stands
+    there."""
     out, at = [], 0
     while at < len(text):
         if text[at] == "\\" and at + 1 < len(text):

@@ -1,4 +1,6 @@
-"""Letters and digits of ASCII; the texts here are bytes, of which Python takes others for letters, too."""
+"""Letters and digits of ASCII; the texts here are bytes, of which Python takes others for letters,
+too.
+"""
 
 
 def is_digits(text):

@@ -1,4 +1,6 @@
-"""How lines of the main file, of actions files and of filter files are written. Text is a str of bytes (Latin-1)."""
+"""How lines of the main file, of actions files and of filter files are written. Text is a str of
+bytes (Latin-1).
+"""
 from dataclasses import dataclass, field
 
 LINE_LIMIT = 8192
@@ -7,7 +9,8 @@ FILE_LIMIT = 1048576
 
 @dataclass
 class Line:
-    """A logical line: the number of its first physical line, its text without comments, and its physical lines as they stand."""
+    """A logical line: the number of its first physical line, its text without comments, and its
+    physical lines as they stand."""
 
     number: int
     text: str

@@ -1,4 +1,6 @@
-"""Finds mistakes in a configuration, and says of each the file, the line, the word, what is wrong and what to write."""
+"""Finds mistakes in a configuration, and says of each the file, the line, the word, what is wrong
+and what to write.
+"""
 import os
 import re
 

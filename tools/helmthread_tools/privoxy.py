@@ -6,7 +6,8 @@ from .expressions import Unread, is_read_as_it_is, parse, write
 from .lines import FILE_LIMIT, LINE_LIMIT, escaped, logical, recoded, shown
 from .letters import is_alnum, is_digits
 
-# What stands for a filter of Debian's that may have nothing left, among the filters of conf/default.filter.
+# What stands for a filter of Debian's that may have nothing left, among the filters of
+# conf/default.filter.
 STANDS_FOR = {
     "all-popups": "same-window and quiet-windows",
     "banners-by-size": "banner-sizes",
@@ -20,7 +21,8 @@ STANDS_FOR = {
 
 @dataclass
 class Told:
-    """What is told of one filter: its kind and name, jobs of before and of now, what differs, what was left out."""
+    """What is told of one filter: its kind and name, jobs of before and of now, what differs, what
+    was left out."""
 
     kind: str
     name: str
@@ -32,7 +34,8 @@ class Told:
 
 @dataclass
 class Report:
-    """What the whole conversion has to tell. `used` has the actions of all sections and the values that they were given."""
+    """What the whole conversion has to tell. `used` has the actions of all sections and the values
+    that they were given."""
 
     filters: list = field(default_factory=list)
     notes: list = field(default_factory=list)
@@ -122,14 +125,16 @@ def filter_job(line, told):
 
 @dataclass
 class Patterns:
-    """What a pattern became: patterns, and ones that take back a block where the first ones match too much."""
+    """What a pattern became: patterns, and ones that take back a block where the first ones match
+    too much."""
 
     patterns: list
     taken_back: list = field(default_factory=list)
 
 
 def without_look(text, anchored):
-    """An expression that only asks for a match, without look-around: (expression, or None; what is to be taken back)."""
+    """An expression that only asks for a match, without look-around: (expression, or None; what is
+    to be taken back)."""
     tree = parse(text, "i")
     for number in rewriting.references(tree.top):
         rewriting.expand(tree.top, number, False)
@@ -370,7 +375,8 @@ class ActionsFile:
             self.out += [recoded(escaped(text)) for text in made.patterns]
 
     def pair(self, line, made):
-        """The pattern without look-around and a section that takes it back, before all other sections."""
+        """The pattern without look-around and a section that takes it back, before all other
+        sections."""
         blocks = any(
             tables.parted(word)[:2] == ("+", "block") for word in self.effective(self.words)
         )
@@ -426,7 +432,8 @@ class MainFile:
         return folder, self.kept
 
     def convert(self, folder, renamed, first):
-        """The converted file's bytes. `renamed` maps a name as written to its new one, or None where the file isn't there; `first` is
+        """The converted file's bytes. `renamed` maps a name as written to its new one, or None
+        where the file isn't there; `first` is
         an actions file that is read before all others."""
         out, done = [], False
         for line in self.lines:

@@ -1,7 +1,9 @@
-"""Takes back references and look-around out of an expression's tree, with the same matches as far as that can be.
+"""Takes back references and look-around out of an expression's tree, with the same matches as far as
+that can be.
 
-A back reference to a group of few texts (`["']?`) becomes an alternation with one branch a text. Look-around becomes part of what
-stands beside it: `(?=\\D)[^>]*` is `(?:[^>\\d][^>]*)?`. At an expression's end or front it becomes a group that is put back.
+A back reference to a group of few texts (`["']?`) becomes an alternation with one branch a text.
+Look-around becomes part of what stands beside it: `(?=\\D)[^>]*` is `(?:[^>\\d][^>]*)?`. At an
+expression's end or front it becomes a group that is put back.
 """
 import copy
 
@@ -155,7 +157,8 @@ def definition(alt, number):
 
 
 def expand(alt, number, ungreedy, only=None):
-    """Takes the back references to one group out of the tree. `only` is the number of the one text that is kept."""
+    """Takes the back references to one group out of the tree. `only` is the number of the one text
+    that is kept."""
     for branch in alt.branches:
         places = [at for at, node in enumerate(branch) if concerns(node, number)]
         if not places:
@@ -192,7 +195,8 @@ def expand(alt, number, ungreedy, only=None):
 
 
 def last_apart(node):
-    """A repetition with its last turn apart, so that groups in it hold what that turn matched and nothing of turns before."""
+    """A repetition with its last turn apart, so that groups in it hold what that turn matched and
+    nothing of turns before."""
     plain = Repeat(
         flat_node(copy.deepcopy(node.node), set()), max(node.low - 1, 0), None, node.lazy
     )
@@ -219,7 +223,8 @@ class Restriction:
         return list(reversed(sequence)) if self.behind else list(sequence)
 
     def apply(self, sequence, words, budget):
-        """The branches that are the sequence under the restriction. Look-behind walks it from its end."""
+        """The branches that are the sequence under the restriction. Look-behind walks it from its
+        end."""
         budget[0] -= 1
         if budget[0] < 0:
             raise Unread("look-around in a place that is too rich for it")
@@ -275,7 +280,8 @@ class Restriction:
         return [[Group(Alt(inner), node.number, node.opener), *rest]] if inner else []
 
     def at_edge(self, words):
-        """Nothing is left of the sequence: what the rest of the restriction asks for is taken along and put back."""
+        """Nothing is left of the sequence: what the rest of the restriction asks for is taken along
+        and put back."""
         if self.edge == "no":
             raise Unread("look-around over the end of a group has no form here")
         if self.edge == "bound":
@@ -291,7 +297,8 @@ class Restriction:
         return Alt([[Char(part, class_text(part)) for part in self.order(word)] for word in words])
 
     def others(self, words):
-        """All that doesn't begin with a word: the end, another byte, or a byte of it and then the same anew."""
+        """All that doesn't begin with a word: the end, another byte, or a byte of it and then the
+        same anew."""
         branches = [[Assertion("A", "\\A") if self.behind else Assertion("z", "\\z")]]
         for part, nexts in parts_of(ALL, words):
             if any(not word for word in nexts):
@@ -302,7 +309,8 @@ class Restriction:
 
 
 def parts_of(members, words):
-    """The set in parts, each with what is left of the words behind a byte of it; the largest part first."""
+    """The set in parts, each with what is left of the words behind a byte of it; the largest part
+    first."""
     parts = {}
     for byte in members:
         key = tuple(at for at, word in enumerate(words) if byte in word[0])
@@ -340,7 +348,8 @@ def words_of_node(node):
 
 
 def any_length_negative(look):
-    """`(?!X*W)` at an end, where X and the first bytes of W differ, or W is one byte: X* and what doesn't go on as W."""
+    """`(?!X*W)` at an end, where X and the first bytes of W differ, or W is one byte: X* and what
+    doesn't go on as W."""
     if len(look.body.branches) != 1 or not look.body.branches[0]:
         return None
     star, *rest = look.body.branches[0]
@@ -365,7 +374,8 @@ def any_length_negative(look):
 
 
 def factored(alternatives, behind_context=()):
-    """Branches as a sequence: what is the same node in all of them, at front and end, stands once."""
+    """Branches as a sequence: what is the same node in all of them, at front and end, stands
+    once."""
     if len(alternatives) == 1:
         return alternatives[0]
     front = 0
@@ -394,7 +404,8 @@ def factored(alternatives, behind_context=()):
 
 
 class Resolver:
-    """Takes look-around out of a tree. `strict` refuses what would be nearly the same; `anchored` says that nothing stands before."""
+    """Takes look-around out of a tree. `strict` refuses what would be nearly the same; `anchored`
+    says that nothing stands before."""
 
     def __init__(self, notes, strict=False, anchored=False):
         self.notes, self.strict, self.anchored = notes, strict, anchored
@@ -443,7 +454,8 @@ class Resolver:
         raise Unread("more look-around than can be taken out")
 
     def group(self, branch, at, front, end):
-        """A group with look-around in it. Where a branch of it begins with look-behind, what stands before goes into it."""
+        """A group with look-around in it. Where a branch of it begins with look-behind, what stands
+        before goes into it."""
         node = branch[at]
         first = [b for b in node.body.branches if b and isinstance(b[0], Look) and not b[0].ahead]
         if first and node.number == 0 and node.opener == "?:" and at > 0:
@@ -518,7 +530,8 @@ class Resolver:
 
 
 def firsts(sequence):
-    """The bytes with which a match of the sequence may begin; all of them where that isn't known."""
+    """The bytes with which a match of the sequence may begin; all of them where that isn't
+    known."""
     found = frozenset()
     for node in sequence:
         if isinstance(node, (Assertion, Flags)):

@@ -1,4 +1,6 @@
-"""Looks through an expression as Helmthread reads it for what it doesn't know, and says what to write."""
+"""Looks through an expression as Helmthread reads it for what it doesn't know, and says what to
+write.
+"""
 from .letters import is_alpha, is_digits
 
 FLAGS = "imsUuxR-"
