@@ -1,32 +1,38 @@
 //! Answers as they are returned: header actions, and bodies that are passed or filtered.
 use crate::faults::Fault;
 use crate::kinds::bodies::Cut;
-use crate::kinds::made::{filters_of, head_of, push_fields, set_of, vars_of, yes_or_no};
+use crate::kinds::made::{filters_of, head_of, push_fields, said, set_of, vars_of, yes_or_no};
 use crate::leaves::Row;
-use px_answers::{BodyPlan, Framed, HeaderLines, Passage, Terms};
+use px_answers::{BodyPlan, Framed, HeaderLines, Outcome, Passage, Terms};
 use px_base::{List, Text};
 use px_filter_files::Filters;
 use px_framing::response_body;
 use px_head::{Field, ResponseHead, is_held_back_of_response};
-use px_headers::{is_text, server_headers};
+use px_headers::{ServerOut, is_text, server_headers};
 use std::alloc::Global;
 
-/// The status line and the fields of an answer, behind the actions of words at a moment.
-pub fn responses(row: &Row<'_>) -> Result<Text, Fault> {
-    let mut head = ResponseHead::read(row.alloc, head_of(row)?.as_bytes())?;
-    let (set, filters, vars) = (set_of(row)?, filters_of(row)?, vars_of(row.alloc, b"")?);
+/// The status line and the fields of an answer with that head, behind the actions of the row's words at its moment.
+fn changed(row: &Row<'_>, filters: &Filters, mut head: ResponseHead) -> Result<ServerOut, Fault> {
+    let (set, vars) = (set_of(row)?, vars_of(row.alloc, b"")?);
     let moment = row.number("moment")?;
     let mut warm = filters.warm(row.alloc)?;
-    let returned = server_headers(
-        row.alloc, &mut head, &set, &filters, &mut warm, &vars, moment,
+    let out = server_headers(
+        row.alloc, &mut head, &set, filters, &mut warm, &vars, moment,
     )?;
-    let mut out = returned.first_line;
-    push_fields(row.alloc, &mut out, returned.fields.as_slice())?;
+    Ok(out)
+}
+
+/// The status line and the fields of an answer, behind the actions of words at a moment.
+pub(crate) fn responses(row: &Row<'_>) -> Result<Text, Fault> {
+    let head = ResponseHead::read(row.alloc, head_of(row)?.as_bytes())?;
+    let ServerOut { first_line, fields } = changed(row, &filters_of(row)?, head)?;
+    let mut out = first_line;
+    push_fields(row.alloc, &mut out, fields.as_slice())?;
     Ok(out)
 }
 
 /// Whether an answer is a text by the actions of words.
-pub fn texts(row: &Row<'_>) -> Result<Text, Fault> {
+pub(crate) fn texts(row: &Row<'_>) -> Result<Text, Fault> {
     let head = ResponseHead::read(row.alloc, head_of(row)?.as_bytes())?;
     yes_or_no(row.alloc, is_text(head.fields.as_slice(), &set_of(row)?))
 }
@@ -47,44 +53,55 @@ fn lines(alloc: Global, head: &ResponseHead) -> Result<HeaderLines, Fault> {
     })
 }
 
-/// The head of an answer, its body's rule and what the request says of it, as they are framed.
-fn framed(row: &Row<'_>, files: &Filters) -> Result<Framed, Fault> {
-    let head = ResponseHead::read(row.alloc, head_of(row)?.as_bytes())?;
-    let rule = response_body(&head, row.word("method")?.as_bytes())?;
-    let terms = Terms {
+/// What the request says of its answer.
+fn terms(row: &Row<'_>) -> Result<Terms, Fault> {
+    Ok(Terms {
         minor: row.number("minor")?,
         keep: row.is("keep")?,
         text: row.is("text")?,
         filters: row.items("names")?,
         limit: row.number("limit")?,
-    };
-    let lines = lines(row.alloc, &head)?;
-    Ok(BodyPlan::new(row.alloc, files, &head, rule, terms)?.behind(lines))
+    })
 }
 
-/// What is returned of an answer whose body comes in pieces, and behind it how it was returned, and whether the connection is kept.
-fn returned(row: &Row<'_>, files: &Filters, pieces: &[&[u8]]) -> Result<Text, Fault> {
+/// The head of an answer, its body's rule and what the request says of it, as they are framed.
+fn framed(row: &Row<'_>, files: &Filters) -> Result<Framed, Fault> {
+    let head = ResponseHead::read(row.alloc, head_of(row)?.as_bytes())?;
+    let rule = response_body(&head, row.word("method")?.as_bytes())?;
+    let lines = lines(row.alloc, &head)?;
+    Ok(BodyPlan::new(row.alloc, files, &head, rule, terms(row)?)?.behind(lines))
+}
+
+/// Adds what is returned of an answer whose body comes in pieces.
+fn pass(
+    row: &Row<'_>,
+    files: &Filters,
+    pieces: &[&[u8]],
+    out: &mut Text,
+) -> Result<Option<Outcome>, Fault> {
     let mut warm = files.warm(row.alloc)?;
-    let mut out = Text::new(row.alloc);
-    let vars = vars_of(row.alloc, b"")?;
-    let mut passage = Passage::new(row.alloc, &mut warm, vars, framed(row, files)?, &mut out)?;
+    let (framed, vars) = (framed(row, files)?, vars_of(row.alloc, b"")?);
+    let mut passage = Passage::new(row.alloc, &mut warm, vars, framed, out)?;
     for piece in pieces {
-        passage.feed(&mut warm, piece, &mut out)?;
+        passage.feed(&mut warm, piece, out)?;
     }
-    passage.end(&mut warm, row.is("fails")?, &mut out)?;
-    let end = match passage.ended() {
-        Some(outcome) => {
-            let keep = if outcome.keep { "keep" } else { "close" };
-            format!(in row.alloc; " | {:?} | {keep}", outcome.returned)?
-        }
-        None => format!(in row.alloc; " | not ended")?,
+    passage.end(&mut warm, row.is("fails")?, out)?;
+    Ok(passage.ended())
+}
+
+/// What is returned of an answer whose body comes in pieces, and behind it how, and whether the connection is kept.
+fn returned(row: &Row<'_>, files: &Filters, pieces: &[&[u8]]) -> Result<Text, Fault> {
+    let mut out = Text::new(row.alloc);
+    let Some(Outcome { returned, keep }) = pass(row, files, pieces, &mut out)? else {
+        return said(row.alloc, "the answer isn't ended");
     };
-    out.push_all(end.as_bytes())?;
+    let keep = if keep { "keep" } else { "close" };
+    out.push_all(format!(in row.alloc; " | {returned:?} | {keep}")?.as_bytes())?;
     Ok(out)
 }
 
 /// What is returned of an answer, if it is the same however its body is cut.
-pub fn answers(row: &Row<'_>) -> Result<Text, Fault> {
+pub(crate) fn answers(row: &Row<'_>) -> Result<Text, Fault> {
     let files = filters_of(row)?;
     let body = row.bytes("body")?;
     let whole = returned(row, &files, &[body.as_slice()])?;

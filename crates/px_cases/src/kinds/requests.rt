@@ -5,45 +5,59 @@ use crate::kinds::made::{
     vars_of,
 };
 use crate::leaves::Row;
+use px_actions::ActionSet;
 use px_base::{List, Peer, Text};
+use px_filter_files::Filters;
 use px_head::RequestHead;
-use px_headers::client_headers;
+use px_headers::{ClientOut, client_headers};
 use px_patterns::Url;
 use px_taggers::tag_headers;
 
-/// Where a request goes and its fields, behind the actions of words. The client's address is 127.0.0.1.
-pub fn requests(row: &Row<'_>) -> Result<Text, Fault> {
-    let mut head = RequestHead::read(row.alloc, head_of(row)?.as_bytes())?;
+/// Where a request with that head goes and its fields, behind the actions of the row's words. The client's address is 127.0.0.1.
+fn sent(row: &Row<'_>, filters: &Filters, mut head: RequestHead) -> Result<ClientOut, Fault> {
     let url = Url::read(row.alloc, head.target.as_bytes())?;
+    let (set, vars) = (set_of(row)?, vars_of(row.alloc, b"")?);
     let peer = Peer {
         address: said(row.alloc, "127.0.0.1")?,
     };
-    let (set, filters, vars) = (set_of(row)?, filters_of(row)?, vars_of(row.alloc, b"")?);
     let mut warm = filters.warm(row.alloc)?;
-    let sent = client_headers(
-        row.alloc, &mut head, url, &set, &filters, &mut warm, &vars, &peer,
+    let out = client_headers(
+        row.alloc, &mut head, url, &set, filters, &mut warm, &vars, &peer,
     )?;
+    Ok(out)
+}
+
+/// The URL of a request and its fields, behind the actions of words.
+pub(crate) fn requests(row: &Row<'_>) -> Result<Text, Fault> {
+    let head = RequestHead::read(row.alloc, head_of(row)?.as_bytes())?;
+    let sent = sent(row, &filters_of(row)?, head)?;
     let mut out = sent.url.print(row.alloc)?;
     push_fields(row.alloc, &mut out, sent.fields.as_slice())?;
     Ok(out)
 }
 
-/// The tags that the lines of a message make, and behind `set` the lines of its set.
-pub fn taggers(row: &Row<'_>) -> Result<Text, Fault> {
+/// The tags that the lines of a message make, which apply their sections to the set.
+fn tags(row: &Row<'_>, set: &mut ActionSet) -> Result<List<Text>, Fault> {
     let (sections, filters) = (sections_of(row)?, filters_of(row)?);
     let (lines, side, vars) = (row.items("lines")?, side_of(row)?, vars_of(row.alloc, b"")?);
-    let mut set = set_of(row)?;
     let mut tags = List::new(row.alloc);
     tag_headers(
         row.alloc,
         &sections,
         &filters,
-        &mut set,
+        set,
         &mut tags,
         lines.as_slice(),
         side,
         &vars,
     )?;
+    Ok(tags)
+}
+
+/// The tags that the lines of a message make, and behind `set` the lines of its set.
+pub(crate) fn taggers(row: &Row<'_>) -> Result<Text, Fault> {
+    let mut set = set_of(row)?;
+    let tags = tags(row, &mut set)?;
     let mut out = Text::new(row.alloc);
     for tag in tags.as_slice() {
         push_item(&mut out, tag.as_bytes())?;
