@@ -207,7 +207,7 @@ fn run_case<R: Threads + Sync>(
 }
 
 /// Runs the cases of a file's text.
-pub fn run<R: Threads + Sync + AllocGlobal>(
+pub(crate) fn run<R: Threads + Sync + AllocGlobal>(
     rt: &R,
     text: &str,
     report: &mut Report,

@@ -34,7 +34,7 @@ pub struct Plan {
 
 impl Plan {
     /// The run of the case itself.
-    pub const OWN: Plan = Plan {
+    pub(crate) const OWN: Plan = Plan {
         cut: Cut::Given,
         failing: None,
     };
@@ -44,7 +44,7 @@ impl Plan {
 const SINGLE_BYTES: usize = 4_096;
 
 /// What is shown of SENT where it isn't put.
-pub const UNTOUCHED: &[u8] = b"untouched";
+pub(crate) const UNTOUCHED: &[u8] = b"untouched";
 
 /// What a run shows, by key.
 #[derive(Drop)]
@@ -54,7 +54,7 @@ pub struct Seen {
 
 impl Seen {
     /// What it shows under a key.
-    pub fn shown(&self, key: Key<'_>) -> Option<&[u8]> {
+    pub(crate) fn shown(&self, key: Key<'_>) -> Option<&[u8]> {
         for (shown, text) in &self.shown {
             if *shown == key {
                 return Some(text.as_bytes());
@@ -63,17 +63,17 @@ impl Seen {
         None
     }
 
-    pub fn out(&self) -> &[u8] {
+    pub(crate) fn out(&self) -> &[u8] {
         self.shown(Key::Out).unwrap_or(&[])
     }
 
     /// How its session ended.
-    pub fn first_of_end(&self) -> Option<&[u8]> {
+    pub(crate) fn first_of_end(&self) -> Option<&[u8]> {
         self.shown(Key::End)?.split(|byte| *byte == b' ').next()
     }
 
     /// How the last exchange of its session ended.
-    pub fn last_of_end(&self) -> Option<&[u8]> {
+    pub(crate) fn last_of_end(&self) -> Option<&[u8]> {
         self.shown(Key::End)?.rsplit(|byte| *byte == b' ').next()
     }
 }
@@ -246,7 +246,7 @@ fn sent_file(setup: &Setup<'_>, files: &mut MemFiles) -> Option<Text> {
 }
 
 /// Runs the command, the directions of a tunnel in turn.
-pub fn run_command<R: Threads + Sync>(
+pub(crate) fn run_command<R: Threads + Sync>(
     _rt: &R,
     setup: &Setup<'_>,
     plan: &Plan,
@@ -285,7 +285,7 @@ pub fn run_command<R: Threads + Sync>(
 }
 
 /// The configurations of the files of a case.
-pub fn configs(setup: &Setup<'_>) -> Result<Vec<Arc<Config>>, Fault> {
+pub(crate) fn configs(setup: &Setup<'_>) -> Result<Vec<Arc<Config>>, Fault> {
     let (alloc, plan) = (setup.alloc, &Plan::OWN);
     let run = Run { alloc, setup, plan };
     let mut configs = Vec::new(alloc);
@@ -312,7 +312,7 @@ fn sent_over(alloc: Global, dialer: &MemDialer) -> Result<Text, Fault> {
 }
 
 /// Runs the session by itself, both directions of a tunnel at once.
-pub fn run_session<R: Threads + Sync>(
+pub(crate) fn run_session<R: Threads + Sync>(
     rt: &R,
     setup: &Setup<'_>,
     configs: &[Arc<Config>],
