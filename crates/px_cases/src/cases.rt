@@ -35,6 +35,8 @@ struct Trial<'t, 's, R> {
     setup: &'t Setup<'s>,
     wants: &'t Wants<'s>,
     configs: Option<Vec<Arc<Config>>>,
+    /// Whether `cuts each` means each place, and not single bytes alone.
+    at_each_place: bool,
 }
 
 impl<R: Threads + Sync> Trial<'_, '_, R> {
@@ -94,7 +96,8 @@ impl<R: Threads + Sync> Trial<'_, '_, R> {
                 longest = longest.max(bytes.len());
             }
         }
-        for place in 1..longest {
+        let places = if self.at_each_place { longest } else { 0 };
+        for place in 1..places {
             let run = format!(in self.alloc; ", the streams cut at {place}")?;
             if !self.hold(report, Cut::At(place), run.as_str())? {
                 return Ok(false);
@@ -173,7 +176,8 @@ impl<R: Threads + Sync> Trial<'_, '_, R> {
     }
 }
 
-/// Runs the command, where it can be run so, and the session by itself, where the case says how that ends.
+/// Runs the command, where it can be run so, and the session by itself, where the case says how that ends. Of the two the session
+/// is cut at each place.
 fn run_trial<R: Threads + Sync>(
     trial: &mut Trial<'_, '_, R>,
     case: &Case<'_>,
@@ -182,6 +186,7 @@ fn run_trial<R: Threads + Sync>(
     let held = !trial.setup.is_command() || trial.hold_all(report)?;
     if held && case.has(Key::End) {
         trial.configs = Some(configs(trial.setup)?);
+        trial.at_each_place = true;
         trial.hold_all(report)?;
     }
     Ok(())
@@ -202,12 +207,13 @@ fn run_case<R: Threads + Sync>(
         setup: &setup,
         wants: &wants,
         configs: None,
+        at_each_place: !case.has(Key::End),
     };
     run_trial(&mut trial, case, report).map_err(|fault| case.misread(fault))
 }
 
 /// Runs the cases of a file's text.
-pub fn run<R: Threads + Sync + AllocGlobal>(
+pub(crate) fn run<R: Threads + Sync + AllocGlobal>(
     rt: &R,
     text: &str,
     report: &mut Report,

@@ -53,7 +53,7 @@ impl<'a> Key<'a> {
     }
 }
 
-/// A field: the line where it begins, its key, the words behind the key, and the lines of its text.
+/// A field: the line where it begins, or the `again` that it is of, its key, the words behind the key, and the lines of its text.
 #[derive(Drop)]
 pub struct Field<'a> {
     pub line: usize,
@@ -73,21 +73,21 @@ pub struct Case<'a> {
 
 impl<'a> Case<'a> {
     /// Whether it has a field with that key.
-    pub fn has(&self, key: Key<'_>) -> bool {
+    pub(crate) fn has(&self, key: Key<'_>) -> bool {
         self.fields.iter().any(|field| field.key == key)
     }
 
     /// A fault of the case as a whole.
-    pub fn misread(&self, fault: Fault) -> Misread {
+    pub(crate) fn misread(&self, fault: Fault) -> Misread {
         fault.at(self.line)
     }
 
-    /// Its fields, for the case behind.
-    fn inherited(&self, alloc: Global) -> Result<Vec<Field<'a>>, Fault> {
+    /// Its fields for the case behind, which says so at that line.
+    fn inherited(&self, alloc: Global, line: usize) -> Result<Vec<Field<'a>>, Fault> {
         let mut fields = Vec::new(alloc);
         for field in &self.fields {
             fields.push(Field {
-                line: field.line,
+                line,
                 key: field.key,
                 words: field.words,
                 texts: Vec::from_slice(alloc, field.texts.as_slice())?,
@@ -116,7 +116,7 @@ fn take_line<'a>(
     match name {
         "" => add_text(cases, text.unwrap_or("")),
         "case" => begin_case(alloc, cases, line, words),
-        "again" => begin_again(alloc, cases),
+        "again" => begin_again(alloc, cases, line),
         _ => {
             let mut texts = Vec::new(alloc);
             if let Some(text) = text {
@@ -159,9 +159,9 @@ fn begin_case(
 }
 
 /// Gives the case the fields of the one before.
-fn begin_again(alloc: Global, cases: &mut Vec<Case<'_>>) -> Result<(), Fault> {
+fn begin_again(alloc: Global, cases: &mut Vec<Case<'_>>, line: usize) -> Result<(), Fault> {
     let fields = match cases.as_slice() {
-        [.., before, _] => before.inherited(alloc)?,
+        [.., before, _] => before.inherited(alloc, line)?,
         _ => return Err(Fault::Form("no case stands before this one")),
     };
     match cases.last_mut() {
@@ -184,7 +184,7 @@ fn add_field<'a>(cases: &mut Vec<Case<'a>>, field: Field<'a>) -> Result<(), Faul
 }
 
 /// The cases of a file's text.
-pub fn read_cases<'a>(alloc: Global, text: &'a str) -> Result<Vec<Case<'a>>, Misread> {
+pub(crate) fn read_cases<'a>(alloc: Global, text: &'a str) -> Result<Vec<Case<'a>>, Misread> {
     let mut cases = Vec::new(alloc);
     for (place, text) in text.lines().enumerate() {
         let line = place.saturating_add(1);

@@ -34,7 +34,7 @@ pub struct Plan {
 
 impl Plan {
     /// The run of the case itself.
-    pub const OWN: Plan = Plan {
+    pub(crate) const OWN: Plan = Plan {
         cut: Cut::Given,
         failing: None,
     };
@@ -44,7 +44,7 @@ impl Plan {
 const SINGLE_BYTES: usize = 4_096;
 
 /// What is shown of SENT where it isn't put.
-pub const UNTOUCHED: &[u8] = b"untouched";
+pub(crate) const UNTOUCHED: &[u8] = b"untouched";
 
 /// What a run shows, by key.
 #[derive(Drop)]
@@ -54,7 +54,7 @@ pub struct Seen {
 
 impl Seen {
     /// What it shows under a key.
-    pub fn shown(&self, key: Key<'_>) -> Option<&[u8]> {
+    pub(crate) fn shown(&self, key: Key<'_>) -> Option<&[u8]> {
         for (shown, text) in &self.shown {
             if *shown == key {
                 return Some(text.as_bytes());
@@ -63,17 +63,17 @@ impl Seen {
         None
     }
 
-    pub fn out(&self) -> &[u8] {
+    pub(crate) fn out(&self) -> &[u8] {
         self.shown(Key::Out).unwrap_or(&[])
     }
 
     /// How its session ended.
-    pub fn first_of_end(&self) -> Option<&[u8]> {
+    pub(crate) fn first_of_end(&self) -> Option<&[u8]> {
         self.shown(Key::End)?.split(|byte| *byte == b' ').next()
     }
 
     /// How the last exchange of its session ended.
-    pub fn last_of_end(&self) -> Option<&[u8]> {
+    pub(crate) fn last_of_end(&self) -> Option<&[u8]> {
         self.shown(Key::End)?.rsplit(|byte| *byte == b' ').next()
     }
 }
@@ -232,17 +232,21 @@ impl Run<'_, '_> {
 /// The most bytes of SENT.
 const SENT_LIMIT: u64 = 1 << 26;
 
-/// The text of SENT, if it was put.
+/// The text of SENT, if it was put. Where the call is one that is to fail, the next one reads it.
 fn sent_file(setup: &Setup<'_>, files: &mut MemFiles) -> Option<Text> {
     let name = setup.words.get(3)?;
-    match files.read(name, SENT_LIMIT) {
+    let read = match files.read(name, SENT_LIMIT) {
+        Ok(content) => Ok(content),
+        Err(_) => files.read(name, SENT_LIMIT),
+    };
+    match read {
         Ok(Content::Found(text)) => Some(text),
         Ok(Content::Missing) | Ok(Content::Over) | Err(_) => None,
     }
 }
 
 /// Runs the command, the directions of a tunnel in turn.
-pub fn run_command<R: Threads + Sync>(
+pub(crate) fn run_command<R: Threads + Sync>(
     _rt: &R,
     setup: &Setup<'_>,
     plan: &Plan,
@@ -281,7 +285,7 @@ pub fn run_command<R: Threads + Sync>(
 }
 
 /// The configurations of the files of a case.
-pub fn configs(setup: &Setup<'_>) -> Result<Vec<Arc<Config>>, Fault> {
+pub(crate) fn configs(setup: &Setup<'_>) -> Result<Vec<Arc<Config>>, Fault> {
     let (alloc, plan) = (setup.alloc, &Plan::OWN);
     let run = Run { alloc, setup, plan };
     let mut configs = Vec::new(alloc);
@@ -308,7 +312,7 @@ fn sent_over(alloc: Global, dialer: &MemDialer) -> Result<Text, Fault> {
 }
 
 /// Runs the session by itself, both directions of a tunnel at once.
-pub fn run_session<R: Threads + Sync>(
+pub(crate) fn run_session<R: Threads + Sync>(
     rt: &R,
     setup: &Setup<'_>,
     configs: &[Arc<Config>],

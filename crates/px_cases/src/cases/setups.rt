@@ -36,12 +36,12 @@ impl Device {
     }
 
     /// Whether its calls are dials.
-    pub fn is_dial(self) -> bool {
+    pub(crate) fn is_dial(self) -> bool {
         self == Device::NoName || self == Device::NotReached
     }
 
     /// Whether it is a dial, or a part of the link that a dial gives.
-    pub fn is_dialled(self) -> bool {
+    pub(crate) fn is_dialled(self) -> bool {
         self.is_dial() || self == Device::LinkRead || self == Device::LinkWrite
     }
 }
@@ -114,7 +114,7 @@ fn before_open_end(text: &str) -> Option<&str> {
 }
 
 /// The bytes of lines of text. Each has that end but where a `\` ends it.
-pub fn text_bytes(alloc: Global, texts: &[&str], line_end: &str) -> Result<Vec<u8>, Fault> {
+pub(crate) fn text_bytes(alloc: Global, texts: &[&str], line_end: &str) -> Result<Vec<u8>, Fault> {
     let mut bytes = Vec::new(alloc);
     for text in texts {
         let (text, line_end) = match before_open_end(text) {
@@ -128,7 +128,7 @@ pub fn text_bytes(alloc: Global, texts: &[&str], line_end: &str) -> Result<Vec<u
 }
 
 /// A number.
-pub fn number_of<N: FromStr>(word: &str) -> Result<N, Fault>
+pub(crate) fn number_of<N: FromStr>(word: &str) -> Result<N, Fault>
 where
     N::Err: Drop,
 {
@@ -138,7 +138,7 @@ where
 
 impl<'a> Setup<'a> {
     /// What the fields of a case say.
-    pub fn of_case(alloc: Global, case: &Case<'a>) -> Result<Setup<'a>, Misread> {
+    pub(crate) fn of_case(alloc: Global, case: &Case<'a>) -> Result<Setup<'a>, Misread> {
         let mut setup = Setup {
             alloc,
             words: Vec::new(alloc),
@@ -267,12 +267,12 @@ impl<'a> Setup<'a> {
     }
 
     /// Whether the command is `pass`.
-    pub fn is_pass(&self) -> bool {
+    pub(crate) fn is_pass(&self) -> bool {
         self.words.first().copied() == Some("pass")
     }
 
     /// Whether the command can be run so: its links are read and written whole, and it has one configuration.
-    pub fn is_command(&self) -> bool {
+    pub(crate) fn is_command(&self) -> bool {
         let mut devices = self
             .cuts
             .iter()

@@ -57,7 +57,7 @@ fn sent_text(alloc: Global, words: &str, bytes: &[u8]) -> Result<Vec<u8>, Fault>
 
 impl<'a> Wants<'a> {
     /// What the fields of a case want. Where it doesn't say else, the status is 0 and the error output is empty.
-    pub fn of_case(
+    pub(crate) fn of_case(
         alloc: Global,
         case: &Case<'a>,
         setup: &Setup<'_>,
@@ -144,7 +144,7 @@ impl<'a> Wants<'a> {
     }
 
     /// The output that is wanted.
-    pub fn out(&self) -> &[u8] {
+    pub(crate) fn out(&self) -> &[u8] {
         for want in &self.whole {
             if want.key == Key::Out {
                 return want.bytes.as_slice();
@@ -154,7 +154,7 @@ impl<'a> Wants<'a> {
     }
 
     /// The first line that the case's own run doesn't meet.
-    pub fn difference<'d>(&'d self, seen: &'d Seen) -> Option<Difference<'d>> {
+    pub(crate) fn difference<'d>(&'d self, seen: &'d Seen) -> Option<Difference<'d>> {
         for want in &self.whole {
             if let Some(got) = seen.shown(want.key) {
                 if got != want.bytes.as_slice() {
@@ -170,7 +170,7 @@ impl<'a> Wants<'a> {
     }
 
     /// The first line `failed` that a run with one more failing call doesn't meet.
-    pub fn failed_difference<'d>(&'d self, seen: &'d Seen) -> Option<Difference<'d>> {
+    pub(crate) fn failed_difference<'d>(&'d self, seen: &'d Seen) -> Option<Difference<'d>> {
         for want in &self.failed {
             let (met, got) = match want.what {
                 "out" => (self.out().starts_with(seen.out()), seen.out()),
