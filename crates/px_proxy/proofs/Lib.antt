@@ -1,1 +1,1 @@
-pub mod ServingLemmas
+pub mod Crossing

@@ -1,0 +1,36 @@
+use Rattle.std.proofs.Common.{rules, List, ◌≡◌, ◌+◌, ◌++◌, ◌∷◌, [], Ok, length, arith, refl, sym, ap, subst, ◌∙◌}
+use Rattle.px_publish.specs.Published.{published}
+use Rattle.px_desk.specs.declared.outs.Out.{Out}
+use Rattle.px_doors.specs.Doors.{Accepts, accepted_as}
+use Rattle.px_desk.proofs.StandsLemmas.{hands_out, stays_closed, still_closed}
+use Rattle.px_desk.proofs.desks.Desk.next.Goals as goal
+
+pub invariant_of-self-in-Ok-Some : goal.invariant_of-self-in-Ok-Some
+invariant_of-self-in-Ok-Some g c =
+    let state = g.A.Doors.state in
+    let o : Out = record { number = c.self.inside.accepted; handed = c.snapshot-handed.result.number } in
+    let comes = subst (λ o. Accepts (state c.self.inside.doors) (state c.accept.new.self) (accepted_as g.A.In.Source.state g.A.Out.Sink.state (Ok o))) c.in-Ok-Some.field-0-is c.in-Ok-Some.ensures.accepts in
+    let goes = c.in-Ok-Some.ensures.goes_on in
+    let handed : length (published c.reload-reload.new.self.publisher) ≡ o.handed + 1 = sym (ap length c.reload-reload.ensures.told) ∙ c.snapshot-handed.ensures.number in (
+      hands_out _ _ _ _ _ o c.self.invariant.0 c.reload-reload.ensures.reloads goes comes
+          (c.push_reserved.ensures.items ∙ ap (λ (xs : List Out). xs ++ o ∷ []) c.reserve.ensures.items)
+          c.counted-self-inside.ensures c.self.invariant.1 handed (search rules),
+      omega (arith, c.self.invariant.1, comes.one_more),
+      search rules,
+    )
+
+pub invariant_of-self-in-Err-Failed : goal.invariant_of-self-in-Err-Failed
+invariant_of-self-in-Err-Failed g c =
+    let accepts = c.in-Err-Failed.ensures.accepts in (
+      stays_closed _ _ _ c.self.invariant.0 c.in-Err-Failed.ensures.goes_on accepts refl c.reserve.ensures.items refl,
+      c.self.invariant.1 ∙ sym accepts.accepted_same,
+      still_closed (g.A.Doors.state c.self.inside.made_doors.value) c.self.inside.most (g.A.Doors.state c.self.inside.doors) (g.A.Doors.state c.accept.new.self) c.self.inside.closing c.in-Err-Failed.ensures.goes_on accepts.accepted_same c.self.invariant.2,
+    )
+
+pub invariant_of-self-in-Err-Mem : goal.invariant_of-self-in-Err-Mem
+invariant_of-self-in-Err-Mem g c =
+    let accepts = c.in-Err-Mem.ensures.accepts in (
+      stays_closed _ _ _ c.self.invariant.0 c.in-Err-Mem.ensures.goes_on accepts refl c.reserve.ensures.items refl,
+      c.self.invariant.1 ∙ sym accepts.accepted_same,
+      still_closed (g.A.Doors.state c.self.inside.made_doors.value) c.self.inside.most (g.A.Doors.state c.self.inside.doors) (g.A.Doors.state c.accept.new.self) c.self.inside.closing c.in-Err-Mem.ensures.goes_on accepts.accepted_same c.self.invariant.2,
+    )
