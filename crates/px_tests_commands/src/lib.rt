@@ -10,3 +10,5 @@ mod passes;
 #[cfg(test)]
 mod proxies;
 mod rows;
+#[cfg(test)]
+mod workers;

@@ -9,10 +9,10 @@ pub invariant_of-self-in-Ok-Some : goal.invariant_of-self-in-Ok-Some
 invariant_of-self-in-Ok-Some g c =
     let state = g.A.Doors.state in
     let o : Out = record { number = c.self.inside.accepted; handed = c.snapshot-handed.result.number } in
-    let comes = subst (λ o. Accepts (state c.self.inside.doors) (state c.accept.new.self) (accepted_as g.A.In.Source.state g.A.Out.Sink.state (Ok o))) c.in-Ok-Some.field-0-is c.in-Ok-Some.ensures.accepts in
+    let comes = subst (λ o. Accepts (state c.self.inside.doors) (state c.accept.new.self) (accepted_as g.A.In.Source.state g.A.Out.Sink.state g.A.Dial.Dialer.state g.A.Time.Clock.state (Ok o))) c.in-Ok-Some.field-0-is c.in-Ok-Some.ensures.accepts in
     let goes = c.in-Ok-Some.ensures.goes_on in
     let handed : length (published c.reload-reload.new.self.publisher) ≡ o.handed + 1 = sym (ap length c.reload-reload.ensures.told) ∙ c.snapshot-handed.ensures.number in (
-      hands_out _ _ _ _ _ o c.self.invariant.0 c.reload-reload.ensures.reloads goes comes
+      hands_out _ _ _ _ _ o c.self.invariant.0 c.reload-reload.ensures.reloads goes c.in-Ok-Some.ensures.listens comes
           (c.push_reserved.ensures.items ∙ ap (λ (xs : List Out). xs ++ o ∷ []) c.reserve.ensures.items)
           c.counted-self-inside.ensures c.self.invariant.1 handed (search rules),
       omega (arith, c.self.invariant.1, comes.one_more),
