@@ -1,6 +1,7 @@
 -- What came of a reload, as a turn.
 use Rattle.std.proofs.Common.{Option, ◌≡◌, ◌≢◌, ℕ, ◌+◌, ◌-◌, ◌^◌, ◌≤◌, min, zero, suc, List, [], ◌∷◌, ◌++◌, length, IsTrue, fold, drop, refl, ap, sym, ◌∙◌, subst, arith, length-append, append-nil, inl, inr}
 use Rattle.px_base.specs.Contents.{Contents, FilesState, Unchanged, after_turn}
+use Rattle.px_desk.proofs.ReloadLemmas.{same_contents}
 use Rattle.px_desk.specs.Sets.{set_of, Spells, IsFaulty}
 use Rattle.px_desk.specs.Reloads.{LoaderState, Gives, TakesTurn, IsSame, IsPublished, IsKept, IsUnread, IsWanting, Keeps}
 use Rattle.px_desk.specs.Counts.{with_reload}
@@ -124,10 +125,6 @@ contents_more made old new n t tells later is rest = λ name.
 
 pub later_more : (made old new : FilesState) (n : ℕ) → TakesTurn old new → IsTrue old.tells_later → old.later ≡ drop n made.later → new.later ≡ drop (suc n) made.later
 later_more made old new n t later rest = t.later later ∙ (ap (drop 1) rest ∙ drop_suc n made.later)
-
--- contents that are the same at each name are the same
-same_contents : {c d : Contents} → Unchanged c d → d ≡ c
-same_contents u = λ i name. u name i
 
 pub set_same : (main : List ℕ) (c d : Contents) → Unchanged c d → set_of main c ≡ set_of main d
 set_same main c d u = ap (λ (k : Contents). set_of main k) (sym (same_contents u))

@@ -160,6 +160,7 @@ impl<F: Files, A: Doors, E: Sink> Desk<F, A, E> {
         ensures made { made_of F.state A.state E.state self.new ≡ made_of F.state A.state E.state self.old }
         ensures conn { IfSome (handed_as A.In.state A.Out.state A.Dial.state A.Time.state result) (λ h. HandsOut (made_of F.state A.state E.state self.old) (now_of F.state A.state E.state self.old) (now_of F.state A.state E.state self.new) h) }
         ensures closed { IfNone (handed_as A.In.state A.Out.state A.Dial.state A.Time.state result) (StaysBut (now_of F.state A.state E.state self.old) (now_of F.state A.state E.state self.new)) }
+        ensures listens { (A.state self.new.doors).listens_at ≡ (A.state self.old.doors).listens_at }
         ensures again { MatchOption self.old.closing (Unit {0}) (λ e. result ≡ Closed e) }
         ensures closing { ClosesBy result self.new.closing }
     {

@@ -7,6 +7,7 @@ use px_base::{Answer, FixedClock, List, Mem, MemDialer, MemFiles, Peer, TapeIn, 
 use px_commands::{Parts, Proxied, run_proxy};
 use px_doors::{Conn, MemConn, MemDoors};
 use std::alloc::Global;
+use std::sync::Wait;
 use std::test::Fail;
 use std::thread::Threads;
 
@@ -38,11 +39,12 @@ fn conn(alloc: Global) -> Result<MemConn, Mem>
     })
 }
 
-/// Runs `serve c 1 2` over three connections and an empty `c`, those calls of the doors failing.
-fn proxied<R: Threads + Sync>(
+/// Runs `serve c 1` and that number over three connections and an empty `c`, those calls of the doors failing.
+fn proxied<R: Threads + Wait + Sync>(
     alloc: Global,
     rt: &R,
     fails: &[u64],
+    most: &str,
 ) -> Result<Proxied<MemFiles, MemDoors, TapeOut>, Fail> {
     let mut state = List::new(alloc);
     state.add((Text::from_bytes(alloc, b"c")?, Text::new(alloc)))?;
@@ -55,7 +57,7 @@ fn proxied<R: Threads + Sync>(
         err: TapeOut::new(alloc, &[], &[])?,
     };
     let mut words = Vec::new(alloc);
-    for word in ["serve", "c", "1", "2"] {
+    for word in ["serve", "c", "1", most] {
         words.push(String::from_str(alloc, word)?)?;
     }
     Ok(run_proxy(alloc, rt, &words, parts))
@@ -63,7 +65,7 @@ fn proxied<R: Threads + Sync>(
 
 #[test]
 fn two_of_three_connections_are_served(rt: HostRuntime) -> Result<(), Fail> {
-    let proxied = proxied(rt.alloc(), &rt, &[])?;
+    let proxied = proxied(rt.alloc(), &rt, &[], "2")?;
     assert_eq!(rt; proxied.status, 0);
     let address = proxied.parts.doors.listens_at().expect(&rt, "an address");
     assert_eq!(rt; address.host.as_bytes(), b"127.0.0.1".as_slice());
@@ -79,9 +81,22 @@ fn two_of_three_connections_are_served(rt: HostRuntime) -> Result<(), Fail> {
 
 #[test]
 fn doors_that_fail_to_listen_are_status_7(rt: HostRuntime) -> Result<(), Fail> {
-    let proxied = proxied(rt.alloc(), &rt, &[0])?;
+    let proxied = proxied(rt.alloc(), &rt, &[0], "2")?;
     assert_eq!(rt; proxied.status, 7);
     assert!(rt; proxied.parts.doors.listens_at().is_none());
     assert!(rt; proxied.parts.doors.parted().is_empty());
+    Ok(())
+}
+
+/// The calls of the doors that fail, the status, and how many connections were served of nine at most.
+const ENDS: [(&[u64], u8, usize); 3] = [(&[], 0, 3), (&[2], 7, 1), (&[1], 7, 0)];
+
+#[test]
+fn serving_ends_with_the_connections_or_where_the_doors_fail(rt: HostRuntime) -> Result<(), Fail> {
+    for (fails, status, count) in ENDS {
+        let proxied = proxied(rt.alloc(), &rt, fails, "9")?;
+        assert_eq!(rt; (proxied.status, proxied.parts.doors.parted().len()), (status, count));
+        assert_eq!(rt; proxied.counts.same, count as u64);
+    }
     Ok(())
 }

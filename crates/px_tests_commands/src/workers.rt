@@ -189,8 +189,8 @@ impl<'c> WaitingDoors<'c> {
 
 /// A connection with that mark. The origin of connection 0 answers once connection 1 was answered, and that of another at once.
 fn row_conn<'c>(alloc: Global, seen: &'c Seen, mark: u64) -> Result<RowConn<'c>, Mem>
-    ensures { IfOk result (λ conn. IsFreshConn (conn_as ⟦<TapeIn as Source>⟧.state ⟦<Told<'c> as Sink>⟧.state ⟦<Origin<'c> as Dialer>⟧.state ⟦<FixedClock as Clock>⟧.state conn)) }
-    ensures { IfOk result (λ conn. HasMark mark (conn_as ⟦<TapeIn as Source>⟧.state ⟦<Told<'c> as Sink>⟧.state ⟦<Origin<'c> as Dialer>⟧.state ⟦<FixedClock as Clock>⟧.state conn)) }
+    ensures fresh { IfOk result (λ conn. IsFreshConn (conn_as ⟦<TapeIn as Source>⟧.state ⟦<Told<'c> as Sink>⟧.state ⟦<Origin<'c> as Dialer>⟧.state ⟦<FixedClock as Clock>⟧.state conn)) }
+    ensures mark { IfOk result (λ conn. HasMark mark (conn_as ⟦<TapeIn as Source>⟧.state ⟦<Told<'c> as Sink>⟧.state ⟦<Origin<'c> as Dialer>⟧.state ⟦<FixedClock as Clock>⟧.state conn)) }
 {
     let (requests, until) = match mark {
         0 => (TWO_REQUESTS, &seen.answered[1]),

@@ -12,8 +12,6 @@ mod exercise;
 #[cfg(test)]
 mod judging;
 #[cfg(test)]
-mod proxy;
-#[cfg(test)]
 mod pumps;
 mod rows;
 #[cfg(test)]
