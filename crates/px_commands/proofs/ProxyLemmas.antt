@@ -22,31 +22,17 @@ use Rattle.px_commands.specs.Loads.{ReportsOrWants, load_status}
 use Rattle.px_commands.specs.Passes.{ReportCause, ReportsOn}
 use Rattle.px_commands.specs.Proxies.{ProxyGoesOn, ProxyOutside, RunsServe, ServesBy, ServesLoaded, ServesPublished, Unserved, listen_address}
 use Rattle.px_commands.specs.Words.{IsServe}
+use Rattle.px_base.proofs.SinkLemmas.{sink_goes_on}
+use Rattle.px_config.proofs.GatherLemmas.{reads_twice}
+use Rattle.px_desk.proofs.ReloadLemmas.{files_trans}
+use Rattle.px_desk.proofs.StandsLemmas.{doors_trans}
 use Rattle.px_commands.proofs.LoadLemmas.{fails_by, gives_up, reports_by}
 
-files_trans : {a b c : FilesState} → FilesGoOn a b → FilesGoOn b c → FilesGoOn a c
-files_trans h k = search rules
-
-doors_trans : {a b c : DoorsState} → DoorsGoesOn a b → DoorsGoesOn b c → DoorsGoesOn a c
-doors_trans h k = search rules
-
-sink_trans : {a b c : SinkState} → SinkGoesOn a b → SinkGoesOn b c → SinkGoesOn a c
-sink_trans h k = search rules
-
 pub goes_on_on : {a b c : ProxyOutside} → ProxyGoesOn a b → ProxyGoesOn b c → ProxyGoesOn a c
-goes_on_on h k = record { files = files_trans h.files k.files; doors = doors_trans h.doors k.doors; errors = sink_trans h.errors k.errors }
+goes_on_on h k = record { files = files_trans h.files k.files; doors = doors_trans h.doors k.doors; errors = sink_goes_on h.errors k.errors }
 
 pub goes_on_same : (p : ProxyOutside) → ProxyGoesOn p p
 goes_on_same p = record { files = search rules; doors = search rules; errors = search rules }
-
-reads_twice : {a b c : FilesState} → OnlyReads a b → OnlyReads b c → OnlyReads a c
-reads_twice h k = record {
-  tells_same = k.tells_same ∙ h.tells_same;
-  tells_later_same = k.tells_later_same ∙ h.tells_later_same;
-  unchanged = λ t name. k.unchanged (h.tells_same ∙ t) name ∙ h.unchanged t name;
-  later_same = λ t. k.later_same (h.tells_later_same ∙ t) ∙ h.later_same t;
-  put_faults_same = k.put_faults_same ∙ h.put_faults_same;
-}
 
 reads_none : (f : FilesState) → OnlyReads f f
 reads_none f = record { tells_same = refl; tells_later_same = refl; unchanged = λ t name. refl; later_same = λ t. refl; put_faults_same = refl }

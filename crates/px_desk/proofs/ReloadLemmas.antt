@@ -16,7 +16,7 @@ use Rattle.px_desk.specs.declared.reloads.Reload.TheVariants as reload
 pub same_contents : {c d : Contents} → Unchanged c d → d ≡ c
 same_contents u = λ i name. u name i
 
-files_trans : {a b c : FilesState} → FilesGoOn a b → FilesGoOn b c → FilesGoOn a c
+pub files_trans : {a b c : FilesState} → FilesGoOn a b → FilesGoOn b c → FilesGoOn a c
 files_trans h k = search rules
 
 -- a turn, and then nothing but reads
@@ -40,9 +40,6 @@ named_behind main b c f reads is tells =
 
 -- what came of a set that was gathered
 module _ (old new : LoaderState) (f : FilesState) (set : FileSet) (calm : f.read_faults ≡ old.files.read_faults) (is : IsSet (record old { files = f }) set) where
-  mid : LoaderState
-  mid = record old { files = f }
-
   taken_gives : (r : Reload) → TakesSet set (record old { files = f }) new r → Gives old new r
   taken_gives reload.Same t = subst (λ (x : LoaderState). IsSame old x) (sym t.1) (record {
     keeps = record { list_same = refl; remembered_same = refl };
@@ -74,12 +71,12 @@ module _ (old new : LoaderState) (f : FilesState) (set : FileSet) (calm : f.read
     keeps = record { list_same = refl; remembered_same = refl };
     printed = inl refl;
   })
-  taken_gives reload.NoMemory (inr (fault.Spelled file line number, has, same, front)) = subst (λ (x : LoaderState). IsWanting old x) (sym same) (record {
+  taken_gives reload.NoMemory (inr (fault.Spelled file line number, has, shuns)) = subst (λ (x : LoaderState). IsWanting old x) (sym shuns.0) (record {
     keeps = record { list_same = refl; remembered_same = refl };
-    printed = inr (fault.Spelled file line number, λ tells. subst (λ (s : FileSet). HasFault s (fault.Spelled file line number)) (is tells) has, front);
+    printed = inr (fault.Spelled file line number, λ tells. subst (λ (s : FileSet). HasFault s (fault.Spelled file line number)) (is tells) has, shuns.1);
   })
-  taken_gives reload.NoMemory (inr (fault.Read file, has, rest)) = absurd has
-  taken_gives reload.NoMemory (inr (fault.Mem, has, rest)) = absurd has
+  taken_gives reload.NoMemory (inr (fault.Read file, has, shuns)) = absurd has
+  taken_gives reload.NoMemory (inr (fault.Mem, has, shuns)) = absurd has
 
 -- nothing else differs
 pub record Frame (old new : LoaderState) (f : FilesState) : Type 0 where
@@ -99,7 +96,7 @@ taken_frame old new f set reload.Same t = framed old new _ f t.1 refl refl refl
 taken_frame old new f set (reload.Published n) t = framed old new _ f t.1.2.0 refl refl refl
 taken_frame old new f set (reload.Kept g) t = framed old new _ f t.2.1 refl refl refl
 taken_frame old new f set reload.NoMemory (inl same) = framed old new _ f same refl refl refl
-taken_frame old new f set reload.NoMemory (inr (g, has, same, front)) = framed old new _ f same refl refl refl
+taken_frame old new f set reload.NoMemory (inr (g, has, shuns)) = framed old new _ f shuns.0 refl refl refl
 
 pub reloads_taken : (old new : LoaderState) (b f : FilesState) (set : FileSet) (r : Reload)
     → Turns old.files b → FilesGoOn old.files b → OnlyReads b f → FilesGoOn b f → f.read_faults ≡ b.read_faults → (IsTrue b.tells → set ≡ gathered b.contents old.main)

@@ -1,5 +1,5 @@
 -- A connection that is handed out keeps what is true of a desk.
-use Rattle.std.proofs.Common.{rules, ◌≡◌, ℕ, ◌+◌, ◌<◌, suc, cond, ◌==◌, Bool, List, [], ◌∷◌, ◌++◌, length, take, fold, IsTrue, refl, ap, sym, ◌∙◌, subst, arith, length-append, inl, inr, ⊎_elim, Option, Some, None}
+use Rattle.std.proofs.Common.{rules, ◌≡◌, ℕ, ◌+◌, ◌<◌, suc, cond, ◌==◌, Bool, List, [], ◌∷◌, ◌++◌, length, take, fold, IsTrue, refl, ap, sym, ◌∙◌, subst, arith, length-append, slice_get, inl, inr, ⊎_elim, Option, Some, None}
 use Rattle.std.proofs.lemmas.List.Sums.{fold-append}
 use Rattle.std.proofs.lemmas.List.Elements.{All-append}
 use Rattle.std.proofs.lemmas.List.{take-append-le, take_all, append_assoc}
@@ -7,12 +7,11 @@ use Rattle.std.proofs.lemmas.Bool.Decides.{nat_tests}
 use Rattle.std.proofs.lemmas.List.Edits.{length-remove}
 use mathlib.Core.List.{IsPrefix}
 use Rattle.px_doors.specs.Conns.{ConnState, PartedState}
-use Rattle.px_base.specs.Contents.{FilesState, FilesGoOn}
-use Rattle.px_base.specs.Sinks.{SinkState, SinkGoesOn}
-use Rattle.px_doors.specs.Doors.{DoorsState, DoorsGoesOn, Comes, Stays, Parts, left}
+use Rattle.px_base.proofs.SinkLemmas.{sink_goes_on}
+use Rattle.px_doors.specs.Doors.{DoorsState, DoorsGoesOn, Comes, Ends, Stays, Parts, left}
 use Rattle.px_desk.specs.Reloads.{Reloads}
 use Rattle.px_desk.specs.Counts.{with_reload}
-use Rattle.px_desk.specs.Sessions.{IsServed}
+use Rattle.px_desk.specs.Sessions.{IsNth, IsServed}
 use Rattle.px_desk.specs.Sets.{set_of, Spells}
 use Rattle.px_desk.specs.Turns.{Shelf, shelf, Turn, after, IsTurn, none, shelf_after, with_turn}
 use Rattle.px_desk.specs.Facts.{IsClosed, Begun, Made, Now, Stands, ConnsStand, ListStands, HandedStand, IsHanded, Loses, times, once_below}
@@ -22,17 +21,12 @@ use Rattle.px_desk.specs.declared.desks.ServeEnd.{ServeEnd}
 use Rattle.px_desk.specs.declared.desks.ServeEnd.TheVariants as end
 use Rattle.px_desk.specs.declared.outs.Out.{Out}
 use Rattle.px_desk.specs.declared.reloads.Reload.{Reload}
+use Rattle.px_desk.proofs.ReloadLemmas.{files_trans}
 use Rattle.px_desk.proofs.TurnLemmas.{Came, came, contents_more, later_more, set_same, turns_more}
 use Rattle.px_desk.proofs.ListLemmas.{all_one, all_removed, times_more, times_less, below_more, parted_more}
 
-doors_trans : {a b c : DoorsState} → DoorsGoesOn a b → DoorsGoesOn b c → DoorsGoesOn a c
+pub doors_trans : {a b c : DoorsState} → DoorsGoesOn a b → DoorsGoesOn b c → DoorsGoesOn a c
 doors_trans h k = search rules
-
-files_trans : {a b c : FilesState} → FilesGoOn a b → FilesGoOn b c → FilesGoOn a c
-files_trans h k = search rules
-
-sink_trans : {a b c : SinkState} → SinkGoesOn a b → SinkGoesOn b c → SinkGoesOn a c
-sink_trans h k = search rules
 
 prefix_trans : {X : Type 0} (a b c : List X) → IsPrefix a b → IsPrefix b c → IsPrefix a c
 prefix_trans a b c p q = (p.0 ++ q.0, sym (append_assoc a p.0 q.0) ∙ (ap (λ xs. xs ++ q.0) p.1 ∙ q.1))
@@ -68,7 +62,7 @@ list_stands made old new first turns r t k by came count =
       main_same = by.main_same ∙ k.main_same;
       pair_same = by.pair_same ∙ k.pair_same;
       goes_on = files_trans k.goes_on by.turn.go_on;
-      err_goes_on = sink_trans k.err_goes_on by.err_goes_on;
+      err_goes_on = sink_goes_on k.err_goes_on by.err_goes_on;
       contents = λ tells later. rw len (contents tells later);
       later = λ later. rw len (later_more made.files old.loader.files new.loader.files (length turns) by.turn (was_later later) (k.later later));
       first_spells = k.first_spells;
@@ -291,7 +285,18 @@ begins made now first begun spells files doors err main loaded pair list out cou
       added_up = sym begun.none_accepted;
     }))
 
+-- the connection that came is the next of the doors at the making
+pub is_nth : (made old new : DoorsState) (n : ℕ) (c : ConnState) → DoorsGoesOn made old → Comes old new c → n ≡ old.accepted → IsNth made.tells made.conns n c
+is_nth made old new n c goes comes number = record {
+  fresh = comes.fresh;
+  mark = rw number comes.mark;
+  nth = λ tells. subst (λ (cs : List ConnState). slice_get cs n ≡ Some c) goes.conns_same (rw number (comes.nth (subst IsTrue (sym goes.tells_same) tells)));
+}
+
 -- ---- why a desk is closed
+
+pub ends_close : (made : DoorsState) (most : ℕ) (old new : DoorsState) → old.faults ≡ made.faults → new.faults ≡ old.faults → DoorsGoesOn old new → Ends old new → IsClosed made most new (Some end.End)
+ends_close made most old new was calm goes ends = (calm ∙ was, inr (subst IsTrue (sym goes.tells_same) ends.told, rw (goes.conns_same, ends.stays.accepted_same) ends.none_left))
 
 pub still_closed : (made : DoorsState) (most : ℕ) (old new : DoorsState) (closing : Option ServeEnd) → DoorsGoesOn old new → new.accepted ≡ old.accepted → new.faults ≡ old.faults → IsClosed made most old closing → IsClosed made most new closing
 still_closed made most old new None goes same calm is = calm ∙ is

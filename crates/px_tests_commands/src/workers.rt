@@ -27,6 +27,7 @@ const ONE_REQUEST: &[u8] = b"GET http://a.test/x HTTP/1.1\r\nHost: a.test\r\n\r\
 const ANSWER: &[u8] = b"HTTP/1.1 200 OK\r\nContent-Length: 2\r\n\r\nhi";
 
 /// What the sides tell each other.
+#[derive(Drop)]
 struct Seen {
     /// How often an origin was dialled.
     dialled: AtomicU64,

@@ -2,7 +2,7 @@ use Rattle.std.proofs.Common.{rules, List, ◌≡◌, ◌+◌, ◌++◌, ◌∷�
 use Rattle.px_publish.specs.Published.{published}
 use Rattle.px_desk.specs.declared.outs.Out.{Out}
 use Rattle.px_doors.specs.Doors.{Accepts, accepted_as}
-use Rattle.px_desk.proofs.StandsLemmas.{hands_out, stays_closed, still_closed}
+use Rattle.px_desk.proofs.StandsLemmas.{ends_close, hands_out, is_nth, stays_closed}
 use Rattle.px_desk.proofs.desks.Desk.next.Goals as goal
 
 pub invariant_of-self-in-Ok-Some : goal.invariant_of-self-in-Ok-Some
@@ -19,18 +19,42 @@ invariant_of-self-in-Ok-Some g c =
       search rules,
     )
 
+pub returns-in-Ok-Some-clause-conn : goal.returns-in-Ok-Some-clause-conn
+returns-in-Ok-Some-clause-conn g c =
+    let state = g.A.Doors.state in
+    let o : Out = record { number = c.self.inside.accepted; handed = c.snapshot-handed.result.number } in
+    let comes = subst (λ o. Accepts (state c.self.inside.doors) (state c.accept.new.self) (accepted_as g.A.In.Source.state g.A.Out.Sink.state g.A.Dial.Dialer.state g.A.Time.Clock.state (Ok o))) c.in-Ok-Some.field-0-is c.in-Ok-Some.ensures.accepts in
+    record {
+      number = c.self.invariant.1;
+      reloads = c.reload-reload.ensures.reloads;
+      newest = c.reload-reload.ensures.told;
+      pair = c.reload-reload.ensures.pair ∙ c.reload-reload.ensures.reloads.pair_same;
+      conn = is_nth (state c.self.inside.made_doors.value) (state c.self.inside.doors) (state c.accept.new.self) _ _ c.self.invariant.0.conns.goes_on comes c.self.invariant.1;
+      out = (c.snapshot-handed.result.number, c.snapshot-handed.ensures.number, c.push_reserved.ensures.items ∙ ap (λ (xs : List Out). xs ++ o ∷ []) c.reserve.ensures.items);
+      counts = c.counted-self-inside.ensures;
+      accepted = comes.one_more;
+    }
+
+pub invariant_of-self-in-Ok-None : goal.invariant_of-self-in-Ok-None
+invariant_of-self-in-Ok-None g c =
+    let ends = c.in-Ok-None.ensures.accepts in (
+      stays_closed _ _ _ c.self.invariant.0 c.in-Ok-None.ensures.goes_on c.in-Ok-None.ensures.listens ends.stays refl c.reserve.ensures.items refl,
+      c.self.invariant.1 ∙ sym ends.stays.accepted_same,
+      search (rules, ends_close),
+    )
+
 pub invariant_of-self-in-Err-Failed : goal.invariant_of-self-in-Err-Failed
 invariant_of-self-in-Err-Failed g c =
     let accepts = c.in-Err-Failed.ensures.accepts in (
-      stays_closed _ _ _ c.self.invariant.0 c.in-Err-Failed.ensures.goes_on accepts refl c.reserve.ensures.items refl,
+      stays_closed _ _ _ c.self.invariant.0 c.in-Err-Failed.ensures.goes_on c.in-Err-Failed.ensures.listens accepts refl c.reserve.ensures.items refl,
       c.self.invariant.1 ∙ sym accepts.accepted_same,
-      still_closed (g.A.Doors.state c.self.inside.made_doors.value) c.self.inside.most (g.A.Doors.state c.self.inside.doors) (g.A.Doors.state c.accept.new.self) c.self.inside.closing c.in-Err-Failed.ensures.goes_on accepts.accepted_same c.self.invariant.2,
+      search rules,
     )
 
 pub invariant_of-self-in-Err-Mem : goal.invariant_of-self-in-Err-Mem
 invariant_of-self-in-Err-Mem g c =
     let accepts = c.in-Err-Mem.ensures.accepts in (
-      stays_closed _ _ _ c.self.invariant.0 c.in-Err-Mem.ensures.goes_on accepts refl c.reserve.ensures.items refl,
+      stays_closed _ _ _ c.self.invariant.0 c.in-Err-Mem.ensures.goes_on c.in-Err-Mem.ensures.listens accepts refl c.reserve.ensures.items refl,
       c.self.invariant.1 ∙ sym accepts.accepted_same,
-      still_closed (g.A.Doors.state c.self.inside.made_doors.value) c.self.inside.most (g.A.Doors.state c.self.inside.doors) (g.A.Doors.state c.accept.new.self) c.self.inside.closing c.in-Err-Mem.ensures.goes_on accepts.accepted_same c.self.invariant.2,
+      search rules,
     )
