@@ -15,7 +15,7 @@ CONF = os.path.join(HERE, "..", "conf")
 MANUAL = os.path.join(HERE, "..", "docs", "MANUAL.md")
 
 # The whole output of `check config`: no notes, and the counts.
-CHECKED = "ok: 3 action files, 31 sections, 287 patterns, 1 filter files, 28 filters\n"
+CHECKED = "ok: 3 action files, 31 sections, 287 patterns, 2 filter files, 29 filters\n"
 
 # What match-all.action switches on, in the order of `show`.
 EVERYWHERE = """
@@ -57,6 +57,13 @@ ROWS = [
     ("an image of an exchange", "http://ad.doubleclick.net/banner.gif", [AD, IMAGE], []),
     ("a script of an exchange", "http://pagead2.googlesyndication.com/pagead/js/adsbygoogle.js?v=1", [AD, EMPTY], []),
     ("an image in a folder of advertisements", "http://www.example.com/news/ads/top.png?w=1", [AD, IMAGE], []),
+    ("an image whose name has a size", "http://www.example.com/img/banner_468x60.gif", [AD, IMAGE], []),
+    ("a script of that name", "http://www.example.com/ads.js", [AD, EMPTY], []),
+    ("a site's own banner", "http://www.example.com/img/banner.png", [IMAGE], []),
+    ("a picture that is named ad", "http://www.example.com/gallery/ad.jpg", [IMAGE], []),
+    ("pictures that are named ads", "http://www.example.com/uploads/ads.jpg", [IMAGE], []),
+    ("a small advertisement", "http://www.example.com/ad/123-flat-for-rent", [], []),
+    ("a host that is named counter", "http://counter.example.com/", [], []),
     ("a window that opens by itself", "http://c1.popads.net/pop", [POPUP], []),
     ("a hit counter", "http://c.statcounter.com/t.php?u=1", [COUNTER, IMAGE], []),
     ("a hit counter's script", "http://www.statcounter.com/counter/counter.js", [COUNTER, EMPTY], []),

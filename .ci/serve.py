@@ -4,9 +4,11 @@
 The adapters over sockets tell no bytes to the proofs, so they are tried here: by Python's http.client, by raw sockets, and by curl where it
 is there. Usage: serve.py PROGRAM..  Says what failed and what was skipped, and ends with 1 where something failed.
 """
+import contextlib
 import http.client
 import http.server
 import os
+import resource
 import shutil
 import socket
 import subprocess
@@ -20,6 +22,13 @@ WAIT = 20
 
 # Half of an answer, and of a body, that comes in two steps.
 HALF = 40000
+
+# How many clients of each kind that ask for an answer of a megabyte, and its body.
+CLIENTS = 50
+MEGABYTE = LARGE[:1 << 20]
+
+# So many seconds one side of a tunnel is silent while the other sends.
+SILENT = 65
 
 # A page with an image that is there to count readers, and what conf/ makes of it.
 PAGE = b'<p>Hello<img src="/count.gif" width="1" height="1"></p>'
@@ -55,6 +64,8 @@ class Origin(http.server.BaseHTTPRequestHandler):
     def do_GET(self):
         if self.path == "/large":
             self.reply(LARGE)
+        elif self.path == "/megabyte":
+            self.reply(MEGABYTE)
         elif self.path == "/page":
             self.reply(PAGE, "text/html")
         elif self.path == "/reset":
@@ -113,6 +124,52 @@ class StepOrigin(threading.Thread):
                     link.sendall(b"b" * HALF)
 
 
+class Origin413(threading.Thread):
+    """An origin that refuses each request at its head, and then throws its body away."""
+
+    def __init__(self):
+        super().__init__(daemon=True)
+        self.listener = socket.create_server(("127.0.0.1", 0))
+        self.port = self.listener.getsockname()[1]
+
+    def run(self):
+        while True:
+            link, _ = self.listener.accept()
+            with link, link.makefile("rb") as lines:
+                while lines.readline() not in (b"\r\n", b""):
+                    pass
+                link.sendall(b"HTTP/1.1 413 Content Too Large\r\nContent-Length: 8\r\nConnection: close\r\n\r\ntoo long")
+                link.shutdown(socket.SHUT_WR)
+                while lines.read(65536):
+                    pass
+
+
+class SlowOrigin(threading.Thread):
+    """An origin of tunnels: with `down` it sends a piece each half second and reads nothing, else it reads to the end and tells how much came."""
+
+    def __init__(self, down):
+        super().__init__(daemon=True)
+        self.down = down
+        self.listener = socket.create_server(("127.0.0.1", 0))
+        self.port = self.listener.getsockname()[1]
+
+    def run(self):
+        link, _ = self.listener.accept()
+        with link:
+            if self.down:
+                send_slowly(link)
+            else:
+                link.sendall(b"%d" % len(read_all(link)))
+
+
+def send_slowly(link):
+    """Sends a piece each half second, for as long as the other side is silent, and then the end."""
+    for _ in range(2 * SILENT):
+        link.sendall(b"x" * 1000)
+        time.sleep(0.5)
+    link.shutdown(socket.SHUT_WR)
+
+
 def free_port():
     with socket.create_server(("127.0.0.1", 0)) as listener:
         return listener.getsockname()[1]
@@ -144,6 +201,170 @@ def raw(port, sent):
         link.sendall(sent)
         link.shutdown(socket.SHUT_WR)
         return read_all(link)
+
+
+@contextlib.contextmanager
+def running(program, main="", words=(), **options):
+    """A proxy of its own that listens, with its folder, port and process."""
+    with tempfile.TemporaryDirectory() as folder:
+        port = free_port()
+        with open(os.path.join(folder, "config"), "w") as file:
+            file.write("listen-address 127.0.0.1:%d\n%s" % (port, main))
+        with open(os.path.join(folder, "u.action"), "w") as file:
+            file.write("{+block{ads}}\nad.test\n")
+        proxy = subprocess.Popen([program, "serve", "config", *words], cwd=folder, **options)
+        try:
+            check("a proxy of its own listens", wait_for(port))
+            yield port, proxy
+        finally:
+            proxy.kill()
+            proxy.wait()
+
+
+def silent_client(program):
+    """A tunnel whose client is silent while its origin sends."""
+    origin = SlowOrigin(True)
+    origin.start()
+    with running(program) as (port, _):
+        with socket.create_connection(("127.0.0.1", port), timeout=SILENT) as link:
+            link.sendall(b"CONNECT 127.0.0.1:%d HTTP/1.1\r\n\r\n" % origin.port)
+            body = read_all(link).split(b"\r\n\r\n", 1)[1]
+            check("a tunnel with a silent client is whole", body == b"x" * (2000 * SILENT))
+
+
+def silent_origin(program):
+    """A tunnel whose origin is silent while its client sends, and then answers."""
+    origin = SlowOrigin(False)
+    origin.start()
+    with running(program) as (port, _):
+        with socket.create_connection(("127.0.0.1", port), timeout=WAIT) as link:
+            link.sendall(b"CONNECT 127.0.0.1:%d HTTP/1.1\r\n\r\n" % origin.port)
+            send_slowly(link)
+            body = read_all(link).split(b"\r\n\r\n", 1)[1]
+            check("a tunnel with a silent origin is whole", body == b"%d" % (2000 * SILENT))
+
+
+def ended_after(link, least, most, sent=b""):
+    """Whether a connection is ended by the proxy after so many seconds, while a byte is sent every four seconds."""
+    began = time.monotonic()
+    link.settimeout(4)
+    for at in range(int(most / 4) + 1):
+        try:
+            if link.recv(1) == b"":
+                break
+        except socket.timeout:
+            if sent:
+                link.sendall(sent[at:at + 1])
+        except ConnectionError:
+            break
+    return least <= time.monotonic() - began <= most
+
+
+def idle_clients(program):
+    """A client that sends nothing has 15 seconds, and one that sends its head byte by byte 60 in all."""
+    with running(program) as (port, _):
+        with socket.create_connection(("127.0.0.1", port)) as link:
+            check("a client that sends nothing is let go", ended_after(link, 14, 20))
+        with socket.create_connection(("127.0.0.1", port)) as link:
+            check("a client that sends byte by byte is let go", ended_after(link, 50, 70, b"GET http://127.0.0.1/ HTTP/1.1"))
+
+
+def without_descriptors(program):
+    """No descriptor is left for a connection: it is accepted once there is one. What lasts for ten seconds ends the proxy."""
+    asked = b"GET http://ad.test/ HTTP/1.1\r\nConnection: close\r\n\r\n"
+    with running(program, "actionsfile u.action\n", stderr=subprocess.DEVNULL) as (port, proxy):
+        raw(port, asked)
+        time.sleep(1)
+        used = len(os.listdir("/proc/%d/fd" % proxy.pid))
+        most = resource.prlimit(proxy.pid, resource.RLIMIT_NOFILE)
+        resource.prlimit(proxy.pid, resource.RLIMIT_NOFILE, (used, most[1]))
+        raw(port, asked)
+        with socket.create_connection(("127.0.0.1", port), timeout=WAIT) as link:
+            link.sendall(asked)
+            time.sleep(2)
+            resource.prlimit(proxy.pid, resource.RLIMIT_NOFILE, most)
+            check("a connection waits for a descriptor", read_all(link).startswith(b"HTTP/1.1 403"))
+        time.sleep(1)
+        resource.prlimit(proxy.pid, resource.RLIMIT_NOFILE, (used, most[1]))
+        raw(port, asked)
+        began = time.monotonic()
+        check("without descriptors the proxy ends", proxy.wait(timeout=WAIT) == 7)
+        check("but not at once", time.monotonic() - began > 8)
+
+
+def nobody_reads(program):
+    """A proxy whose error output nobody reads serves."""
+    reads, writes = os.pipe()
+    os.close(reads)
+    with running(program, "actionsfile u.action\n", stderr=writes) as (port, _):
+        os.close(writes)
+        got = raw(port, b"GET http://ad.test/ HTTP/1.1\r\nConnection: close\r\n\r\n")
+        check("a proxy whose error output nobody reads serves", got.startswith(b"HTTP/1.1 403"))
+
+
+def at_their_times(program):
+    """Starts what waits by the proxy's own times, each with a proxy of its own, side by side."""
+    tries = [silent_client, silent_origin, idle_clients, without_descriptors, nobody_reads]
+    threads = [threading.Thread(target=guarded, args=(it, program)) for it in tries]
+    for thread in threads:
+        thread.start()
+    return threads
+
+
+def guarded(run, *words):
+    """Runs it, and counts it as failed where it breaks off."""
+    try:
+        run(*words)
+    except Exception as fault:
+        check("%s: %r" % (run.__name__, fault), False)
+
+
+def end_of_answer(port, sent, late, wait):
+    """Whether an answer of a megabyte comes whole, and nothing behind it, for a client that sends more in the midst of it."""
+    with socket.create_connection(("127.0.0.1", port), timeout=WAIT) as link:
+        link.sendall(sent)
+        time.sleep(wait)
+        got = link.recv(65536)
+        link.sendall(late)
+        got += read_all(link)
+    return got.count(b"HTTP/1.1 200 OK\r\n") == 1 and got.endswith(b"\r\n\r\n" + MEGABYTE)
+
+
+def ends_of_answers(port, origin):
+    """The end of an answer isn't lost by what its client sends late: a line end, a request behind a close, anything while it reads late."""
+    asked = b"GET http://127.0.0.1:%d/megabyte HTTP/1.1\r\nConnection: close\r\n\r\n" % origin
+    kinds = (("a late line end", asked, b"\r\n", 0), ("a request behind a close", asked + asked, b"", 0), ("a late reader", asked + b"\r\n", b"\r\n", 0.3))
+    for name, sent, late, wait in kinds:
+        whole = []
+        clients = [threading.Thread(target=lambda: whole.append(end_of_answer(port, sent, late, wait))) for _ in range(CLIENTS)]
+        for at in range(0, CLIENTS, 10):
+            for client in clients[at:at + 10]:
+                client.start()
+            for client in clients[at:at + 10]:
+                client.join()
+        check("%s: %d of %d answers are whole" % (name, sum(whole), CLIENTS), sum(whole) == CLIENTS)
+
+
+def refused_uploads(port):
+    """A body of 10 MB that is refused at its head, by the origin and by the proxy itself, for a client that sends it to its end first."""
+    origin = Origin413()
+    origin.start()
+    for name, host, wanted in (
+        ("by its origin", b"127.0.0.1:%d" % origin.port, b"HTTP/1.1 413"),
+        ("by the proxy", b"ad.test", b"HTTP/1.1 403"),
+    ):
+        with socket.create_connection(("127.0.0.1", port), timeout=WAIT) as link:
+            try:
+                link.sendall(b"POST http://%s/ HTTP/1.1\r\nContent-Length: %d\r\n\r\n" % (host, len(LARGE)) + LARGE)
+            except ConnectionError:
+                pass
+            got = b""
+            try:
+                while piece := link.recv(65536):
+                    got += piece
+            except ConnectionError:
+                pass
+            check("an upload that is refused %s gets its page" % name, got.startswith(wanted) and len(got.split(b"\r\n\r\n", 1)[1]) > 0)
 
 
 def many_requests(port, origin):
@@ -250,19 +471,26 @@ def curl(port, origin, folder):
 
 
 def statuses(program, folder):
-    """Words, a configuration that doesn't load, and a port that is taken."""
+    """Words, configurations that don't load, a folder of templates that is a plain file, and a port that is taken."""
     with socket.create_server(("127.0.0.1", 0)) as taken:
         with open(os.path.join(folder, "taken"), "w") as file:
             file.write("listen-address 127.0.0.1:%d\n" % taken.getsockname()[1])
         with open(os.path.join(folder, "bad"), "w") as file:
             file.write("listen-address 0.0.0.0:8118\n")
+        with open(os.path.join(folder, "plain"), "w") as file:
+            file.write("listen-address 127.0.0.1:%d\ntempldir bad\n" % taken.getsockname()[1])
+        with open(os.path.join(folder, "below"), "w") as file:
+            file.write("actionsfile bad/u.action\n")
+        refusal = b"helmthread: can't listen at 127.0.0.1:%d: in use\n" % taken.getsockname()[1]
         for words, status, text in (
             (["serve"], 2, b"usage: "),
             (["serve", "taken", "0"], 2, b"usage: "),
             (["serve", "taken", "1", "0"], 2, b"usage: "),
             (["serve", "bad"], 1, b"bad:1: 30 NotLoopback\n"),
             (["serve", "missing"], 1, b"missing:0: 32 Missing\n"),
-            (["serve", "taken"], 7, b""),
+            (["serve", "below"], 1, b"bad/u.action:0: 32 Missing\n"),
+            (["serve", "plain"], 7, refusal),
+            (["serve", "taken"], 7, refusal),
         ):
             ran = subprocess.run([program] + words, cwd=folder, stdout=subprocess.PIPE, stderr=subprocess.PIPE, timeout=WAIT)
             check("status %d of %s" % (status, words), ran.returncode == status and ran.stderr.startswith(text) and ran.stdout == b"")
@@ -274,8 +502,9 @@ def served(program, folder, origin, echo):
         file.write("listen-address 127.0.0.1:%d\nactionsfile u.action\n" % port)
     with open(os.path.join(folder, "u.action"), "w") as file:
         file.write("{+block{ads}}\nad.test\n")
-    proxy = subprocess.Popen([program, "serve", "config"], cwd=folder)
+    proxy = subprocess.Popen([program, "serve", "config"], cwd=folder, stderr=subprocess.PIPE)
     try:
+        check("the proxy says where it listens", proxy.stderr.readline() == b"helmthread: listens at 127.0.0.1:%d\n" % port)
         check("the proxy listens", wait_for(port))
         many_requests(port, origin)
         pages(port, free_port())
@@ -283,6 +512,8 @@ def served(program, folder, origin, echo):
         resets(port)
         tunnel(port, echo)
         in_steps(port)
+        ends_of_answers(port, origin)
+        refused_uploads(port)
         curl(port, origin, folder)
         many_requests(port, origin)
         check("the proxy still runs", proxy.poll() is None)
@@ -338,12 +569,16 @@ def main():
     threading.Thread(target=server.serve_forever, daemon=True).start()
     echo = EchoHandler()
     echo.start()
-    for program in map(os.path.abspath, sys.argv[1:]):
+    programs = [os.path.abspath(it) for it in sys.argv[1:]]
+    waiting = [thread for program in programs for thread in at_their_times(program)]
+    for program in programs:
         with tempfile.TemporaryDirectory() as folder:
             statuses(program, folder)
             served(program, folder, server.server_address[1], echo.port)
             counted(program, folder, server.server_address[1])
             newcomer(program, folder, server.server_address[1])
+    for thread in waiting:
+        thread.join()
     print("serve: %d failed" % failed)
     sys.exit(1 if failed else 0)
 

@@ -29,9 +29,9 @@ module _ (F E : RattleType) where
   loader_send : IsSend F → IsSend E → IsSend (loader.the_row F E)
   loader_send sf se = declared_send (loader.the_type F E) (search (sendable, crosses) depth 40, (search (sendable, crosses) depth 40, (search (sendable, crosses) depth 40, (search (sendable, crosses) depth 40, (search (sendable, set_send) depth 40, (search (sendable, publisher_send, config_send, config_sync) depth 40, tt))))))
 
-module _ (F A E I O D LI LO T : RattleType) (f : files.Ghosts F.Denot) (a : doors.Ghosts A.Denot I.Denot O.Denot D.Denot T.Denot) (i : source.Ghosts I.Denot) (o : sink.Ghosts O.Denot) (d : dialer.Ghosts D.Denot LI.Denot LO.Denot) (li : source.Ghosts LI.Denot) (lo : sink.Ghosts LO.Denot) (t : clock.Ghosts T.Denot) (e : sink.Ghosts E.Denot) where
-  pub desk_send : IsSend F → IsSend A → IsSend E → IsSend I → IsSend O → IsSend D → IsSend T → IsSend (desk.the_row F A E I O D LI LO T f a i o d li lo t e)
-  desk_send sf sa se si so sd st = view_send (inside.the_row F A E I O D LI LO T f a i o d li lo t e) _ _ _ _ (declared_send (inside.the_type F A E I O D LI LO T f a i o d li lo t e) (
+module _ (F A E I O D T LI LO : RattleType) (f : files.Ghosts F.Denot) (a : doors.Ghosts A.Denot I.Denot O.Denot D.Denot T.Denot LI.Denot LO.Denot) (i : source.Ghosts I.Denot) (o : sink.Ghosts O.Denot) (d : dialer.Ghosts D.Denot LI.Denot LO.Denot) (li : source.Ghosts LI.Denot) (lo : sink.Ghosts LO.Denot) (t : clock.Ghosts T.Denot) (e : sink.Ghosts E.Denot) where
+  pub desk_send : IsSend F → IsSend A → IsSend E → IsSend I → IsSend O → IsSend D → IsSend T → IsSend (desk.the_row F A E I O D T LI LO f a i o d li lo t e)
+  desk_send sf sa se si so sd st = view_send (inside.the_row F A E I O D T LI LO f a i o d li lo t e) _ _ _ _ (declared_send (inside.the_type F A E I O D T LI LO f a i o d li lo t e) (
     search (sendable, loader_send) depth 40,
     (
       search (sendable, crosses) depth 40,

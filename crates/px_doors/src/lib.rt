@@ -11,4 +11,5 @@ pub use addresses::ListenAddress;
 pub use conns::{Conn, Parted};
 pub use doors::{AcceptFault, Doors};
 pub use mem_doors::{MemConn, MemDoors, MemParted};
+pub use px_sockets::Times;
 pub use socket_doors::{SocketConn, SocketDoors, SocketParted};

@@ -5,45 +5,52 @@ ghost use Rattle.px_doors.specs.Conns.{parted_as};
 ghost use Rattle.px_doors.specs.Doors.{DoorsGoesOn, Parts, untold_doors};
 
 use crate::{AcceptFault, Conn, Doors, ListenAddress, Parted};
-use px_base::{Clock, Dialer, Failed, Sink, Source, SystemClock};
-use px_sockets::{Caller, CallerFault, SocketDialer, SocketListener, SocketSink, SocketSource};
+use px_base::{Clock, Dialer, Failed, Sink, Source, SystemClock, as_text};
+use px_sockets::{
+    Caller, CallerFault, ListenFault, SocketDialer, SocketListener, SocketSink, SocketSource, Times,
+};
 use std::alloc::Global;
+use std::fmt;
+use std::fmt::{Display, Formatter, Write};
 
 /// A connection over TCP.
 pub type SocketConn<'r> = Conn<
-    SocketSource,
-    SocketSink,
-    SocketDialer<'r, HostRuntime>,
+    SocketSource<'r>,
+    SocketSink<'r>,
+    SocketDialer<'r>,
     SystemClock<'r, HostRuntime>,
 >;
 
 /// A connection over TCP that was served.
 pub type SocketParted<'r> = Parted<
-    SocketSource,
-    SocketSink,
-    SocketDialer<'r, HostRuntime>,
+    SocketSource<'r>,
+    SocketSink<'r>,
+    SocketDialer<'r>,
     SystemClock<'r, HostRuntime>,
 >;
 
-/// Takes connections over TCP from clients of this machine. Those that are parted are closed.
+/// Takes connections over TCP from clients of this machine, and says on the error output where it listens, or why it can't. What
+/// clients still send to connections that ended is thrown away for a while before they are closed.
 #[derive(Drop)]
 pub struct SocketDoors<'r> {
     alloc: Global,
     rt: &'r HostRuntime,
-    listener: Option<SocketListener>,
+    times: Times,
+    listener: Option<SocketListener<'r>>,
     listens_at: Option<ListenAddress>,
     accepted: u64,
     faults: u64,
 }
 
 impl<'r> SocketDoors<'r> {
-    /// Doors that don't listen yet.
-    pub fn new(alloc: Global, rt: &'r HostRuntime) -> SocketDoors<'r>
+    /// Doors that don't listen yet, whose connections wait by those times.
+    pub fn new(alloc: Global, rt: &'r HostRuntime, times: Times) -> SocketDoors<'r>
         ensures { ⟦<SocketDoors<'r> as Doors>⟧.state result ≡ untold_doors None 0 0 }
     {
         SocketDoors {
             alloc,
             rt,
+            times,
             listener: None,
             listens_at: None,
             accepted: 0,
@@ -60,41 +67,80 @@ impl<'r> SocketDoors<'r> {
             None => None,
         }
     }
+
+    /// Takes no more connections, and closes those that ended: what their clients still send is thrown away for a while.
+    pub fn close(self) {
+        if let Some(listener) = self.listener {
+            listener.close();
+        }
+    }
+}
+
+/// An address as it stands in a configuration: a host with colons in brackets.
+#[derive(Clone, Copy)]
+struct Shown<'a> {
+    address: &'a ListenAddress,
+}
+
+impl<'a> Display for Shown<'a> {
+    fn fmt<W: Write>(&self, f: &mut Formatter<W>) -> fmt::Result {
+        let host = as_text(self.address.host.as_bytes()).unwrap_or("?");
+        let port = self.address.port;
+        if host.contains(':') {
+            write!(f, "[{host}]:{port}")
+        } else {
+            write!(f, "{host}:{port}")
+        }
+    }
+}
+
+/// Says on the error output where the doors listen. Where nobody reads it, nothing is lost.
+fn tell_listening(rt: &HostRuntime, address: &ListenAddress) {
+    let shown = Shown { address };
+    let _told = eprintln!(rt; "helmthread: listens at {shown}");
+}
+
+/// Says on the error output why the doors can't listen.
+fn tell_refusal(rt: &HostRuntime, address: &ListenAddress, fault: ListenFault) {
+    let shown = Shown { address };
+    let _told = eprintln!(rt; "helmthread: can't listen at {shown}: {fault}");
 }
 
 /// The next connection of a listener, with that mark. Without a listener the call fails.
-fn next_caller(
-    alloc: Global,
-    listener: &Option<SocketListener>,
+fn next_caller<'r>(
+    listener: &mut Option<SocketListener<'r>>,
     mark: u64,
-) -> Result<Caller, CallerFault>
-    ensures { IfOk result (λ caller. AreNew mark (⟦<SocketSource as Source>⟧.state caller.client_in) (⟦<SocketSink as Sink>⟧.state caller.client_out)) }
+) -> Result<Caller<'r>, CallerFault>
+    ensures { IfOk result (λ caller. AreNew mark (⟦<SocketSource<'r> as Source>⟧.state caller.client_in) (⟦<SocketSink<'r> as Sink>⟧.state caller.client_out)) }
 {
     match listener {
-        Some(listener) => listener.accept(alloc, mark),
+        Some(listener) => listener.accept(mark),
         None => Err(CallerFault::Failed),
     }
 }
 
 impl<'r> Doors for SocketDoors<'r> {
-    type In = SocketSource;
+    type In = SocketSource<'r>;
 
-    type Out = SocketSink;
+    type Out = SocketSink<'r>;
 
-    type Dial = SocketDialer<'r, HostRuntime>;
+    type Dial = SocketDialer<'r>;
 
     type Time = SystemClock<'r, HostRuntime>;
 
     ghost state = { λ d. untold_doors d.listens_at d.accepted d.faults };
 
     fn listen(&mut self, address: ListenAddress) -> Result<(), Failed> {
-        match SocketListener::listen(self.rt, address.host.as_bytes(), address.port) {
+        let host = address.host.as_bytes();
+        match SocketListener::listen(self.alloc, self.rt, self.times, host, address.port) {
             Ok(listener) => {
+                tell_listening(self.rt, &address);
                 self.listener = Some(listener);
                 self.listens_at = Some(address);
                 Ok(())
             }
-            Err(_) => {
+            Err(fault) => {
+                tell_refusal(self.rt, &address, fault);
                 self.faults = self.faults.saturating_add(1);
                 Err(Failed)
             }
@@ -103,12 +149,19 @@ impl<'r> Doors for SocketDoors<'r> {
 
     /// Waits for a connection. Doors that don't listen fail.
     fn accept(&mut self) -> Result<Option<SocketConn<'r>>, AcceptFault> {
-        match next_caller(self.alloc, &self.listener, self.accepted) {
+        match next_caller(&mut self.listener, self.accepted) {
             Ok(caller) => {
+                let dialer = SocketDialer::of_client(
+                    self.alloc,
+                    self.rt,
+                    self.times,
+                    &caller.client_in,
+                    self.accepted,
+                );
                 let conn = Conn {
                     client_in: caller.client_in,
                     client_out: caller.client_out,
-                    dialer: SocketDialer::new(self.rt, self.accepted),
+                    dialer,
                     clock: SystemClock::new(self.rt),
                     peer: caller.peer,
                 };
@@ -124,7 +177,7 @@ impl<'r> Doors for SocketDoors<'r> {
     }
 
     fn part(&mut self, parted: SocketParted<'r>)
-        ensures parts { Parts (⟦<SocketDoors<'r> as Doors>⟧.state self.old) (⟦<SocketDoors<'r> as Doors>⟧.state self.new) (parted_as ⟦<SocketSource as Source>⟧.state ⟦<SocketSink as Sink>⟧.state ⟦<SocketDialer<'r, HostRuntime> as Dialer>⟧.state ⟦<SystemClock<'r, HostRuntime> as Clock>⟧.state parted.entry) }
+        ensures parts { Parts (⟦<SocketDoors<'r> as Doors>⟧.state self.old) (⟦<SocketDoors<'r> as Doors>⟧.state self.new) (parted_as ⟦<SocketSource<'r> as Source>⟧.state ⟦<SocketSink<'r> as Sink>⟧.state ⟦<SocketDialer<'r> as Dialer>⟧.state ⟦<SystemClock<'r, HostRuntime> as Clock>⟧.state parted.entry) }
         ensures listens { (⟦<SocketDoors<'r> as Doors>⟧.state self.new).listens_at ≡ (⟦<SocketDoors<'r> as Doors>⟧.state self.old).listens_at }
         ensures goes_on { DoorsGoesOn (⟦<SocketDoors<'r> as Doors>⟧.state self.old) (⟦<SocketDoors<'r> as Doors>⟧.state self.new) }
     {

@@ -1,9 +1,12 @@
 //! Helmthread: a filtering HTTP proxy. The program: a command over the files, the streams and the network of this machine.
 #![tactic(auto)]
 
+mod help;
+
+use help::asked_text;
 use px_base::{DiskFiles, ReaderSource, SystemClock, WriterSink};
 use px_commands::{Parts, Status, USAGE, report, run_proxy, run_tool};
-use px_doors::SocketDoors;
+use px_doors::{SocketDoors, Times};
 use px_ways::Way;
 use std::process::ExitCode;
 use std::rt::Env;
@@ -40,11 +43,17 @@ fn main(rt: HostRuntime) -> ExitCode {
             return ExitCode::from(status.code());
         }
     };
+    if let Some(text) = asked_text(&words) {
+        let mut out = WriterSink::new(rt.stdout(), 0);
+        return ExitCode::from(report(&mut out, text, Status::Done).code());
+    }
     let mut files = DiskFiles::new(alloc, &rt);
     if is_serve(&words) {
-        let doors = SocketDoors::new(alloc, &rt);
+        let doors = SocketDoors::new(alloc, &rt, Times::usual());
         let parts = Parts { files, doors, err };
-        return ExitCode::from(run_proxy(alloc, &rt, &words, parts).status);
+        let proxied = run_proxy(alloc, &rt, &words, parts);
+        proxied.parts.doors.close();
+        return ExitCode::from(proxied.status);
     }
     let mut input = ReaderSource::new(rt.stdin(), 0);
     let mut out = WriterSink::new(rt.stdout(), 0);

@@ -1,95 +1,172 @@
 // The two ends of a TCP stream.
 ghost use Rattle.std.specs.Prelude.{◌≡◌, ◌==◌, not, IfOk};
-ghost use Rattle.std.specs.Io.{ReadsAtMost};
+ghost use Rattle.std.specs.Io.{ReadsAtMost, WritesAtMost};
 ghost use Rattle.px_base.specs.Sources.{untold_source};
 ghost use Rattle.px_base.specs.Sinks.{untold_sink};
 ghost use Rattle.px_sockets.specs.Untold.{AreNew};
 
+use crate::Times;
+use crate::shared_sockets::SharedSocket;
+use crate::times::{LOOK_MILLIS, now_millis};
 use px_base::{Failed, Sink, SinkFault, Source};
+use std::alloc::Global;
 use std::io;
 use std::io::{ErrorKind, Read, Write};
-use std::net::{Shutdown, TcpStream};
+use std::net::TcpStream;
+use std::sync::Arc;
 use std::time::Duration;
 
-/// So many seconds a read waits for bytes before it fails.
-pub const READ_SECONDS: u64 = 60;
-
-/// A source over a TCP stream. A reset is a fault, and so is a read that waits for too long.
+/// Reads from a socket for as long as it may be waited for.
 #[derive(Drop)]
-pub struct SocketSource {
-    stream: TcpStream,
+struct SocketReader<'r> {
+    rt: &'r HostRuntime,
+    socket: Arc<SharedSocket>,
+    /// How long one read of the system waits, as it was last set.
+    wait: Option<Duration>,
+}
+
+/// A source over a TCP stream. A reset is a fault, and so is a read that waits for longer than its times say: while nothing
+/// moves on its socket, either way, or at a client without a link for a head.
+#[derive(Drop)]
+pub struct SocketSource<'r> {
+    reader: SocketReader<'r>,
     faults: u64,
     mark: u64,
 }
 
-/// A sink over a TCP stream. A piece of which nothing is taken is a fault.
+/// A sink over a TCP stream. A piece of which nothing is taken in time is a fault.
 #[derive(Drop)]
-pub struct SocketSink {
-    stream: TcpStream,
+pub struct SocketSink<'r> {
+    rt: &'r HostRuntime,
+    socket: Arc<SharedSocket>,
     faults: u64,
     mark: u64,
 }
 
-/// Both ends of a stream, as two handles of one socket. Bytes are sent at once, and reads wait for `READ_SECONDS`.
-/// A stream that can't be set so, or gets no second handle, is closed.
-pub fn both_ends(stream: TcpStream, mark: u64) -> Result<(SocketSource, SocketSink), Failed>
-    ensures { IfOk result (λ ends. AreNew mark (⟦<SocketSource as Source>⟧.state ends.0) (⟦<SocketSink as Sink>⟧.state ends.1)) }
+/// Why a stream has no ends: it can't be set up, or memory was wanting.
+#[derive(Clone, Copy, Debug, PartialEq, Eq)]
+pub enum EndsFault {
+    Failed,
+    Mem,
+}
+
+/// Whose stream it is: a client's, which is asked for heads, or a link's.
+#[derive(Clone, Copy, Debug, PartialEq, Eq)]
+pub enum Side {
+    Client,
+    Link,
+}
+
+/// Both ends of a stream, which share its socket. Bytes are sent at once, and reads and writes wait by those times. A stream that
+/// can't be set so is closed.
+pub fn both_ends<'r>(
+    alloc: Global,
+    rt: &'r HostRuntime,
+    times: Times,
+    side: Side,
+    stream: TcpStream,
+    mark: u64,
+) -> Result<(SocketSource<'r>, SocketSink<'r>), EndsFault>
+    ensures { IfOk result (λ ends. AreNew mark (⟦<SocketSource<'r> as Source>⟧.state ends.0) (⟦<SocketSink<'r> as Sink>⟧.state ends.1)) }
 {
-    match second_handle(&stream) {
-        Ok(second) => Ok((
-            SocketSource {
-                stream,
-                faults: 0,
-                mark,
+    let links = if side == Side::Link { 1 } else { 0 };
+    let Ok(socket) = SharedSocket::new(stream, times, links, now_millis(rt)) else {
+        return Err(EndsFault::Failed);
+    };
+    let Ok(socket) = Arc::new(alloc, socket) else {
+        return Err(EndsFault::Mem);
+    };
+    let Ok(second) = Arc::try_clone(&socket) else {
+        return Err(EndsFault::Mem);
+    };
+    Ok((
+        SocketSource {
+            reader: SocketReader {
+                rt,
+                socket,
+                wait: None,
             },
-            SocketSink {
-                stream: second,
-                faults: 0,
-                mark,
-            },
-        )),
-        Err(_) => Err(Failed),
-    }
+            faults: 0,
+            mark,
+        },
+        SocketSink {
+            rt,
+            socket: second,
+            faults: 0,
+            mark,
+        },
+    ))
 }
 
-/// Sets the options of a stream, and gives a second handle of its socket, which shares them.
-fn second_handle(stream: &TcpStream) -> io::Result<TcpStream> {
-    stream.set_nodelay(true)?;
-    stream.set_read_timeout(Some(Duration::from_secs(READ_SECONDS)))?;
-    stream.try_clone()
-}
-
-/// Reads, and again where the process was stopped in the wait.
-fn read_some(stream: &mut TcpStream, buf: &mut [u8]) -> io::Result<usize>
-    ensures { ReadsAtMost result buf.new }
-{
-    for _ in 0..u64::MAX {
-        match stream.read(buf) {
-            Ok(count) => return Ok(count),
-            Err(error) => {
-                if error.kind() != ErrorKind::Interrupted {
-                    return Err(error);
-                }
-            }
-        }
-    }
-    Err(io::Error::from(ErrorKind::Interrupted))
-}
-
-impl SocketSource {
+impl<'r> SocketSource<'r> {
     /// Whether a read has failed.
     pub fn has_failed(&self) -> bool
-        ensures { result ≡ not ((⟦<SocketSource as Source>⟧.state self.now).faults == 0) }
+        ensures { result ≡ not ((⟦<SocketSource<'r> as Source>⟧.state self.now).faults == 0) }
     {
         self.faults != 0
     }
+
+    /// One more owner of the socket, for whoever looks after its end.
+    pub(crate) fn shared(&self) -> Option<Arc<SharedSocket>> {
+        Arc::try_clone(&self.reader.socket).ok()
+    }
 }
 
-impl Source for SocketSource {
+impl<'r> SocketReader<'r> {
+    /// Lets one read of the system wait for so long.
+    fn wait_at_most(&mut self, wait: Duration) -> io::Result<()> {
+        if self.wait != Some(wait) {
+            self.socket.stream.set_read_timeout(Some(wait))?;
+            self.wait = Some(wait);
+        }
+        Ok(())
+    }
+
+    /// Reads, and again where the wait was cut short or the other half of the socket moved in it.
+    fn read_some(&mut self, buf: &mut [u8]) -> io::Result<usize>
+        ensures { ReadsAtMost result buf.new }
+    {
+        let began = now_millis(self.rt);
+        let mut now = began;
+        for _ in 0..u64::MAX {
+            let left = self.socket.left(began, now);
+            if left.is_zero() {
+                return Err(io::Error::from(ErrorKind::TimedOut));
+            }
+            self.wait_at_most(left.min(Duration::from_millis(LOOK_MILLIS)))?;
+            let mut stream = &self.socket.stream;
+            let read = stream.read(buf);
+            now = now_millis(self.rt);
+            match read {
+                Ok(count) => {
+                    self.socket.came(now);
+                    if count == 0 {
+                        self.socket.drained();
+                    }
+                    return Ok(count);
+                }
+                Err(error) => {
+                    if !is_short(error.kind()) {
+                        self.socket.drained();
+                        return Err(error);
+                    }
+                }
+            }
+        }
+        Err(io::Error::from(ErrorKind::TimedOut))
+    }
+}
+
+/// Whether a call of the system only ended before its time, or at its end without a byte.
+fn is_short(kind: ErrorKind) -> bool {
+    kind == ErrorKind::WouldBlock || kind == ErrorKind::Interrupted
+}
+
+impl<'r> Source for SocketSource<'r> {
     ghost state = { λ s. untold_source s.faults s.mark };
 
     fn read(&mut self, buf: &mut [u8]) -> Result<usize, Failed> {
-        match read_some(&mut self.stream, buf) {
+        match self.reader.read_some(buf) {
             Ok(count) => Ok(count),
             Err(_) => {
                 self.faults = self.faults.saturating_add(1);
@@ -99,20 +176,41 @@ impl Source for SocketSource {
     }
 }
 
-impl SocketSink {
+impl<'r> SocketSink<'r> {
     /// Whether a write has failed.
     pub fn has_failed(&self) -> bool
-        ensures { result ≡ not ((⟦<SocketSink as Sink>⟧.state self.now).faults == 0) }
+        ensures { result ≡ not ((⟦<SocketSink<'r> as Sink>⟧.state self.now).faults == 0) }
     {
         self.faults != 0
     }
+
+    /// Writes, and again where the process was stopped in the wait.
+    fn write_some(&self, bytes: &[u8]) -> io::Result<usize>
+        ensures { WritesAtMost result bytes.now }
+    {
+        for _ in 0..u64::MAX {
+            let mut stream = &self.socket.stream;
+            match stream.write(bytes) {
+                Ok(count) => {
+                    self.socket.went(now_millis(self.rt));
+                    return Ok(count);
+                }
+                Err(error) => {
+                    if error.kind() != ErrorKind::Interrupted {
+                        return Err(error);
+                    }
+                }
+            }
+        }
+        Err(io::Error::from(ErrorKind::TimedOut))
+    }
 }
 
-impl Sink for SocketSink {
+impl<'r> Sink for SocketSink<'r> {
     ghost state = { λ s. untold_sink s.faults s.mark };
 
     fn write(&mut self, bytes: &[u8]) -> Result<usize, SinkFault> {
-        match self.stream.write(bytes) {
+        match self.write_some(bytes) {
             Ok(count) if count > 0 || bytes.is_empty() => Ok(count),
             _ => {
                 self.faults = self.faults.saturating_add(1);
@@ -121,8 +219,8 @@ impl Sink for SocketSink {
         }
     }
 
-    /// Closes the outgoing side. A socket that is closed already stays so.
+    /// Closes the outgoing side. A socket that is closed already stays so. A client's connection that holds no link ends with it.
     fn finish(&mut self) {
-        let _closed = self.stream.shutdown(Shutdown::Write);
+        self.socket.finish(now_millis(self.rt));
     }
 }

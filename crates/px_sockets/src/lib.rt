@@ -3,9 +3,13 @@
 
 mod counts;
 mod ends;
+mod guests;
 mod listeners;
+mod shared_sockets;
 mod socket_dialers;
+mod times;
 
-pub use ends::{READ_SECONDS, SocketSink, SocketSource, both_ends};
-pub use listeners::{Caller, CallerFault, SocketListener};
-pub use socket_dialers::SocketDialer;
+pub use ends::{EndsFault, Side, SocketSink, SocketSource, both_ends};
+pub use listeners::{Caller, CallerFault, ListenFault, SocketListener};
+pub use socket_dialers::{SocketDialer, connect_in_turn};
+pub use times::Times;

@@ -4,17 +4,24 @@ ghost use Rattle.std.specs.Net.Text.{ip_text};
 ghost use Rattle.std.specs.Str.{is_utf8};
 ghost use Rattle.px_sockets.specs.Untold.{AreNew};
 
-use crate::{SocketSink, SocketSource, both_ends};
-use px_base::{Failed, Mem, Peer, Sink, Source, Text, as_text};
+use crate::ends::{EndsFault, Side};
+use crate::guests::Guests;
+use crate::times::{PAUSE_MILLIS, SWEEP_MILLIS, WATCH_MILLIS, between, now_millis};
+use crate::{SocketSink, SocketSource, Times, both_ends};
+use px_base::{Mem, Peer, Sink, Source, Text, as_text};
 use std::alloc::Global;
+use std::fmt::{Display, Formatter, Write};
 use std::io::ErrorKind;
 use std::net::{IpAddr, Net, TcpListener, TcpStream, ToSocketAddrs};
+use std::os::fd::OwnedFd;
+use std::time::Duration;
+use std::{fmt, io, thread};
 
 /// A connection that came: both its ends, and who called.
 #[derive(Drop)]
-pub struct Caller {
-    pub client_in: SocketSource,
-    pub client_out: SocketSink,
+pub struct Caller<'r> {
+    pub client_in: SocketSource<'r>,
+    pub client_out: SocketSink<'r>,
     pub peer: Peer,
 }
 
@@ -25,94 +32,235 @@ pub enum CallerFault {
     Mem,
 }
 
-/// Takes connections at an address of this machine.
+/// Why an address isn't listened at.
+#[derive(Clone, Copy, Debug, PartialEq, Eq)]
+pub enum ListenFault {
+    /// Somebody listens there already.
+    InUse,
+    /// The system doesn't allow it, as for ports below 1024.
+    NotAllowed,
+    /// The host isn't text, isn't found or has no address of this machine alone.
+    NoAddress,
+    /// The system refused for another reason.
+    Refused(ErrorKind),
+}
+
+impl Display for ListenFault {
+    fn fmt<W: Write>(&self, f: &mut Formatter<W>) -> fmt::Result {
+        match self {
+            ListenFault::InUse => f.write_str("in use"),
+            ListenFault::NotAllowed => f.write_str("not allowed"),
+            ListenFault::NoAddress => f.write_str("no such address"),
+            ListenFault::Refused(kind) => Display::fmt(kind, f),
+        }
+    }
+}
+
+/// Why a bind failed.
+fn listen_fault(error: &io::Error) -> ListenFault {
+    match error.kind() {
+        ErrorKind::AddrInUse => ListenFault::InUse,
+        ErrorKind::PermissionDenied => ListenFault::NotAllowed,
+        ErrorKind::AddrNotAvailable => ListenFault::NoAddress,
+        kind => ListenFault::Refused(kind),
+    }
+}
+
+/// Takes connections at an address of this machine, and looks after those that end.
 #[derive(Drop)]
-pub struct SocketListener {
+pub struct SocketListener<'r> {
+    alloc: Global,
+    rt: &'r HostRuntime,
+    times: Times,
     listener: TcpListener,
+    /// A second handle of the listener, by which its waits are bounded.
+    handle: TcpStream,
+    /// How long one accept of the system waits; none waits for good.
+    wait: Option<Duration>,
+    guests: Guests,
     /// The port at which it listens: for port 0 the one that was free.
     pub port: u16,
 }
 
-/// The listener with its port, which the system tells.
-fn with_port(listener: TcpListener) -> Result<SocketListener, Failed> {
-    match listener.local_addr() {
-        Ok(address) => Ok(SocketListener {
-            listener,
-            port: address.port(),
-        }),
-        Err(_) => Err(Failed),
+/// What becomes of an accept that failed.
+#[derive(Clone, Copy)]
+enum Outcome {
+    /// Nobody came in time, or a client gave up: the next is waited for.
+    Passed,
+    /// Descriptors, buffers or the network are wanting, which may pass.
+    Wanting,
+    Fault,
+}
+
+/// Linux's numbers of errors that have no kind of their own: too many open files, of the system and of the process; a protocol
+/// error, by which a client gave up; no buffers.
+const ENFILE: i32 = 23;
+
+const EMFILE: i32 = 24;
+
+const EPROTO: i32 = 71;
+
+const ENOBUFS: i32 = 105;
+
+/// What becomes of an accept that failed so.
+fn outcome_of(error: &io::Error) -> Outcome {
+    match error.kind() {
+        ErrorKind::WouldBlock | ErrorKind::Interrupted | ErrorKind::ConnectionAborted => {
+            Outcome::Passed
+        }
+        ErrorKind::OutOfMemory
+        | ErrorKind::NetworkDown
+        | ErrorKind::NetworkUnreachable
+        | ErrorKind::HostUnreachable => Outcome::Wanting,
+        _ => match error.raw_os_error() {
+            Some(EPROTO) => Outcome::Passed,
+            Some(ENFILE | EMFILE | ENOBUFS) => Outcome::Wanting,
+            _ => Outcome::Fault,
+        },
     }
 }
 
-impl SocketListener {
+impl<'r> SocketListener<'r> {
     /// Listens at the first loopback address of a host that can be bound; port 0 is any free port. A host that isn't UTF-8
     /// is refused, and so is one with no loopback address.
-    pub fn listen<R: Net<Listener = TcpListener, Stream = TcpStream>>(
-        net: &R,
+    pub fn listen(
+        alloc: Global,
+        rt: &'r HostRuntime,
+        times: Times,
         host: &[u8],
         port: u16,
-    ) -> Result<SocketListener, Failed>
+    ) -> Result<SocketListener<'r>, ListenFault>
         ensures { is_utf8 host.now ≡ false → IsErr result }
     {
         let Some(name) = as_text(host) else {
-            return Err(Failed);
+            return Err(ListenFault::NoAddress);
         };
-        let Ok(addresses) = (name, port).to_socket_addrs(net) else {
-            return Err(Failed);
+        let Ok(addresses) = (name, port).to_socket_addrs(rt) else {
+            return Err(ListenFault::NoAddress);
         };
+        let mut fault = ListenFault::NoAddress;
         for address in addresses {
             if address.ip().is_loopback() {
-                if let Ok(listener) = net.bind(address) {
-                    return with_port(listener);
+                match rt.bind(address) {
+                    Ok(listener) => return SocketListener::over(alloc, rt, times, listener),
+                    Err(error) => fault = listen_fault(&error),
                 }
             }
         }
-        Err(Failed)
+        Err(fault)
+    }
+
+    /// The listener with its port, which the system tells.
+    fn over(
+        alloc: Global,
+        rt: &'r HostRuntime,
+        times: Times,
+        listener: TcpListener,
+    ) -> Result<SocketListener<'r>, ListenFault> {
+        let second = listener.try_clone();
+        match (listener.local_addr(), second) {
+            (Ok(address), Ok(second)) => Ok(SocketListener {
+                alloc,
+                rt,
+                times,
+                listener,
+                handle: TcpStream::from(OwnedFd::from(second)),
+                wait: None,
+                guests: Guests::new(alloc),
+                port: address.port(),
+            }),
+            (Err(error), _) | (_, Err(error)) => Err(listen_fault(&error)),
+        }
     }
 
     /// Waits for a connection, and gives its ends that mark. One that its client gave up before it was accepted is passed
-    /// over, and so is one that can't be set up, as where its client is gone. At a refusal the connection is closed.
-    pub fn accept(&self, alloc: Global, mark: u64) -> Result<Caller, CallerFault>
-        ensures { IfOk result (λ caller. AreNew mark (⟦<SocketSource as Source>⟧.state caller.client_in) (⟦<SocketSink as Sink>⟧.state caller.client_out)) }
+    /// over, and so is one that can't be set up, as where its client is gone. Where descriptors or buffers are wanting it is tried
+    /// again, for as long as the times say. At a refusal the connection is closed. While it waits, it looks after connections that
+    /// ended: what their clients still send is thrown away before they are closed.
+    pub fn accept(&mut self, mark: u64) -> Result<Caller<'r>, CallerFault>
+        ensures { IfOk result (λ caller. AreNew mark (⟦<SocketSource<'r> as Source>⟧.state caller.client_in) (⟦<SocketSink<'r> as Sink>⟧.state caller.client_out)) }
     {
+        if self.guests.make_room().is_err() {
+            return Err(CallerFault::Mem);
+        }
+        let pause = Duration::from_millis(PAUSE_MILLIS);
+        let mut wanted = Duration::ZERO;
         for _ in 0..u64::MAX {
+            self.look_after_guests();
             match self.listener.accept() {
-                Ok((stream, address)) => match receive(alloc, stream, address.ip(), mark) {
+                Ok((stream, address)) => match self.receive(stream, address.ip(), mark) {
                     Ok(caller) => return Ok(caller),
                     Err(CallerFault::Mem) => return Err(CallerFault::Mem),
-                    Err(CallerFault::Failed) => {}
+                    Err(CallerFault::Failed) => wanted = Duration::ZERO,
                 },
-                Err(error) => {
-                    if error.kind() != ErrorKind::ConnectionAborted {
-                        return Err(CallerFault::Failed);
+                Err(error) => match outcome_of(&error) {
+                    Outcome::Passed => wanted = Duration::ZERO,
+                    Outcome::Wanting if wanted < self.times.accept => {
+                        thread::sleep(self.rt, pause);
+                        wanted = wanted.saturating_add(pause);
                     }
-                }
+                    _ => return Err(CallerFault::Failed),
+                },
             }
         }
         Err(CallerFault::Failed)
     }
-}
 
-/// The ends of a connection, and its client's address in text.
-fn receive(
-    alloc: Global,
-    stream: TcpStream,
-    address: IpAddr,
-    mark: u64,
-) -> Result<Caller, CallerFault>
-    ensures peer { IfOk result (λ caller. caller.peer.address ≡ ip_text address) }
-    ensures new { IfOk result (λ caller. AreNew mark (⟦<SocketSource as Source>⟧.state caller.client_in) (⟦<SocketSink as Sink>⟧.state caller.client_out)) }
-{
-    let Ok(address) = address_text(alloc, address) else {
-        return Err(CallerFault::Mem);
-    };
-    match both_ends(stream, mark) {
-        Ok((client_in, client_out)) => Ok(Caller {
-            client_in,
-            client_out,
-            peer: Peer { address },
-        }),
-        Err(_) => Err(CallerFault::Failed),
+    /// Looks after connections that ended, and lets the next accept wait for so long that it comes back to them in time.
+    fn look_after_guests(&mut self) {
+        self.guests.look_after(now_millis(self.rt));
+        let wait = if self.guests.is_empty() {
+            None
+        } else if self.guests.linger() {
+            Some(Duration::from_millis(SWEEP_MILLIS))
+        } else {
+            Some(Duration::from_millis(WATCH_MILLIS))
+        };
+        if self.wait != wait && self.handle.set_read_timeout(wait).is_ok() {
+            self.wait = wait;
+        }
+    }
+
+    /// Looks after the connections that ended, until all are closed.
+    pub fn close(mut self) {
+        let began = now_millis(self.rt);
+        'sweeps: for _ in 0..u64::MAX {
+            let now = now_millis(self.rt);
+            self.guests.sweep(now);
+            if !self.guests.linger() || between(began, now) >= self.times.linger {
+                return;
+            }
+            thread::sleep(self.rt, Duration::from_millis(SWEEP_MILLIS));
+        }
+    }
+
+    /// The ends of a connection, and its client's address in text.
+    fn receive(
+        &mut self,
+        stream: TcpStream,
+        address: IpAddr,
+        mark: u64,
+    ) -> Result<Caller<'r>, CallerFault>
+        ensures peer { IfOk result (λ caller. caller.peer.address ≡ ip_text address) }
+        ensures new { IfOk result (λ caller. AreNew mark (⟦<SocketSource<'r> as Source>⟧.state caller.client_in) (⟦<SocketSink<'r> as Sink>⟧.state caller.client_out)) }
+    {
+        let Ok(address) = address_text(self.alloc, address) else {
+            return Err(CallerFault::Mem);
+        };
+        match both_ends(self.alloc, self.rt, self.times, Side::Client, stream, mark) {
+            Ok((client_in, client_out)) => {
+                if let Some(socket) = client_in.shared() {
+                    self.guests.add(socket);
+                }
+                Ok(Caller {
+                    client_in,
+                    client_out,
+                    peer: Peer { address },
+                })
+            }
+            Err(EndsFault::Mem) => Err(CallerFault::Mem),
+            Err(EndsFault::Failed) => Err(CallerFault::Failed),
+        }
     }
 }
 

@@ -7,16 +7,26 @@ ghost use Rattle.std.specs.declared.net.ip_addr.IpAddr.{IpAddr};
 ghost use Rattle.px_sockets.specs.Untold.{untold_dialer, AreNew};
 
 use crate::counts::raised;
-use crate::{SocketSink, SocketSource, both_ends};
+use crate::ends::{EndsFault, Side};
+use crate::shared_sockets::SharedSocket;
+use crate::times::{between, now_millis};
+use crate::{SocketSink, SocketSource, Times, both_ends};
 use px_base::{DialFault, Dialer, Sink, Source, as_text};
-use std::io;
+use std::alloc::Global;
 use std::io::ErrorKind;
-use std::net::{Net, TcpListener, TcpStream, ToSocketAddrs};
+use std::net::{HostAddrs, Net, TcpListener, TcpStream, ToSocketAddrs};
+use std::sync::Arc;
+use std::time::Duration;
+use std::{io, rt};
 
 /// Dials hosts over TCP. The ends of its links have its own mark.
 #[derive(Drop)]
-pub struct SocketDialer<'r, R> {
-    net: &'r R,
+pub struct SocketDialer<'r> {
+    alloc: Global,
+    rt: &'r HostRuntime,
+    times: Times,
+    /// The socket of the client for whom it dials, which waits otherwise while there is a link.
+    client: Option<Arc<SharedSocket>>,
     names: u64,
     reach: u64,
     link_reads: u64,
@@ -24,19 +34,37 @@ pub struct SocketDialer<'r, R> {
     mark: u64,
 }
 
-impl<'r, R: Net<Listener = TcpListener, Stream = TcpStream> + Sync> SocketDialer<'r, R> {
+impl<'r> SocketDialer<'r> {
     /// A dialer over a network, with a mark and no faults.
-    pub fn new(net: &'r R, mark: u64) -> SocketDialer<'r, R>
-        ensures { ⟦<SocketDialer<'r, R> as Dialer>⟧.state result ≡ untold_dialer 0 0 0 0 mark }
+    pub fn new(alloc: Global, rt: &'r HostRuntime, times: Times, mark: u64) -> SocketDialer<'r>
+        ensures { ⟦<SocketDialer<'r> as Dialer>⟧.state result ≡ untold_dialer 0 0 0 0 mark }
     {
         SocketDialer {
-            net,
+            alloc,
+            rt,
+            times,
+            client: None,
             names: 0,
             reach: 0,
             link_reads: 0,
             link_writes: 0,
             mark,
         }
+    }
+
+    /// A dialer for a client, whose reads wait longer while it has a link.
+    pub fn of_client(
+        alloc: Global,
+        rt: &'r HostRuntime,
+        times: Times,
+        client: &SocketSource<'r>,
+        mark: u64,
+    ) -> SocketDialer<'r>
+        ensures { ⟦<SocketDialer<'r> as Dialer>⟧.state result ≡ untold_dialer 0 0 0 0 mark }
+    {
+        let mut dialer = SocketDialer::new(alloc, rt, times, mark);
+        dialer.client = client.shared();
+        dialer
     }
 }
 
@@ -52,52 +80,94 @@ fn name_fault(error: &io::Error) -> DialFault
     }
 }
 
-/// A link to the first address of a host that answers. An address in text isn't looked up, and a host that isn't UTF-8
+/// A stream to the first of these addresses that answers, within the time that is left. Each that others follow is tried for as
+/// long as the times grant one address.
+pub fn connect_in_turn<R: Net<Listener = TcpListener, Stream = TcpStream> + rt::Clock>(
+    rt: &R,
+    times: &Times,
+    left: Duration,
+    mut addresses: HostAddrs,
+) -> Option<TcpStream> {
+    let began = now_millis(rt);
+    let mut next = addresses.next();
+    for _ in 0..u64::MAX {
+        let address = next?;
+        next = addresses.next();
+        let left = left.saturating_sub(between(began, now_millis(rt)));
+        let wait = if next.is_some() {
+            left.min(times.address)
+        } else {
+            left
+        };
+        if wait.is_zero() {
+            return None;
+        }
+        if let Ok(stream) = rt.connect_timeout(address, wait) {
+            return Some(stream);
+        }
+    }
+    None
+}
+
+/// A link to the first address of a host that answers in time. An address in text isn't looked up, and a host that isn't UTF-8
 /// is no name.
-fn connect<R: Net<Listener = TcpListener, Stream = TcpStream>>(
-    net: &R,
+fn connect<'r>(
+    alloc: Global,
+    rt: &'r HostRuntime,
+    times: Times,
     host: &[u8],
     port: u16,
     mark: u64,
-) -> Result<(SocketSource, SocketSink), DialFault>
+) -> Result<(SocketSource<'r>, SocketSink<'r>), DialFault>
     ensures no_text { is_utf8 host.now ≡ false → result ≡ Err DialFault.NoName }
     ensures address { is_utf8 host.now ≡ true → (ip : IpAddr) → IsIpText host.now ip → result ≢ Err DialFault.NoName }
-    ensures new { IfOk result (λ ends. AreNew mark (⟦<SocketSource as Source>⟧.state ends.0) (⟦<SocketSink as Sink>⟧.state ends.1)) }
+    ensures new { IfOk result (λ ends. AreNew mark (⟦<SocketSource<'r> as Source>⟧.state ends.0) (⟦<SocketSink<'r> as Sink>⟧.state ends.1)) }
 {
+    let began = now_millis(rt);
     let Some(name) = as_text(host) else {
         return Err(DialFault::NoName);
     };
-    let addresses = match (name, port).to_socket_addrs(net) {
+    let addresses = match (name, port).to_socket_addrs(rt) {
         Ok(addresses) => addresses,
         Err(error) => return Err(name_fault(&error)),
     };
-    for address in addresses {
-        if let Ok(stream) = net.connect(address) {
-            return match both_ends(stream, mark) {
-                Ok(ends) => Ok(ends),
-                Err(_) => Err(DialFault::NotReached),
-            };
-        }
+    let left = times.dial.saturating_sub(between(began, now_millis(rt)));
+    let Some(stream) = connect_in_turn(rt, &times, left, addresses) else {
+        return Err(DialFault::NotReached);
+    };
+    match both_ends(alloc, rt, times, Side::Link, stream, mark) {
+        Ok(ends) => Ok(ends),
+        Err(EndsFault::Failed) => Err(DialFault::NotReached),
+        Err(EndsFault::Mem) => Err(DialFault::Mem),
     }
-    Err(DialFault::NotReached)
 }
 
-impl<'r, R: Net<Listener = TcpListener, Stream = TcpStream> + Sync> Dialer for SocketDialer<'r, R> {
-    type In = SocketSource;
+impl<'r> Dialer for SocketDialer<'r> {
+    type In = SocketSource<'r>;
 
-    type Out = SocketSink;
+    type Out = SocketSink<'r>;
 
     ghost state = { λ d. untold_dialer d.names d.reach d.link_reads d.link_writes d.mark };
 
-    fn dial(&mut self, host: &[u8], port: u16) -> Result<(SocketSource, SocketSink), DialFault> {
-        let link = connect(self.net, host, port, self.mark);
+    fn dial(
+        &mut self,
+        host: &[u8],
+        port: u16,
+    ) -> Result<(SocketSource<'r>, SocketSink<'r>), DialFault> {
+        let link = connect(self.alloc, self.rt, self.times, host, port, self.mark);
         self.names = raised(self.names, matches!(&link, Err(DialFault::NoName)));
         self.reach = raised(self.reach, matches!(&link, Err(DialFault::NotReached)));
+        if let (Some(client), Ok(_)) = (&self.client, &link) {
+            client.holds();
+        }
         link
     }
 
-    fn hang_up(&mut self, link_in: SocketSource, link_out: SocketSink) {
+    fn hang_up(&mut self, link_in: SocketSource<'r>, link_out: SocketSink<'r>) {
         self.link_reads = raised(self.link_reads, link_in.has_failed());
         self.link_writes = raised(self.link_writes, link_out.has_failed());
+        if let Some(client) = &self.client {
+            client.released(now_millis(self.rt));
+        }
     }
 }

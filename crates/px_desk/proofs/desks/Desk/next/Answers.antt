@@ -1,5 +1,6 @@
 use Rattle.std.proofs.Common.{rules, List, ◌≡◌, ◌+◌, ◌++◌, ◌∷◌, [], Ok, length, arith, refl, sym, ap, subst, ◌∙◌}
 use Rattle.px_publish.specs.Published.{published}
+use Rattle.px_desk.specs.Desks.{DeskState, HandsOut, made_of, now_of}
 use Rattle.px_desk.specs.declared.outs.Out.{Out}
 use Rattle.px_doors.specs.Doors.{Accepts, accepted_as}
 use Rattle.px_desk.proofs.StandsLemmas.{ends_close, hands_out, is_nth, stays_closed}
@@ -24,7 +25,7 @@ returns-in-Ok-Some-clause-conn g c =
     let state = g.A.Doors.state in
     let o : Out = record { number = c.self.inside.accepted; handed = c.snapshot-handed.result.number } in
     let comes = subst (λ o. Accepts (state c.self.inside.doors) (state c.accept.new.self) (accepted_as g.A.In.Source.state g.A.Out.Sink.state g.A.Dial.Dialer.state g.A.Time.Clock.state (Ok o))) c.in-Ok-Some.field-0-is c.in-Ok-Some.ensures.accepts in
-    record {
+    subst (λ (v : DeskState _ _ _). HandsOut (made_of g.F.Files.state g.A.Doors.state g.E.Sink.state v) (now_of g.F.Files.state g.A.Doors.state g.E.Sink.state v) _ _) c.self.view_is (record {
       number = c.self.invariant.1;
       reloads = c.reload-reload.ensures.reloads;
       newest = c.reload-reload.ensures.told;
@@ -33,14 +34,16 @@ returns-in-Ok-Some-clause-conn g c =
       out = (c.snapshot-handed.result.number, c.snapshot-handed.ensures.number, c.push_reserved.ensures.items ∙ ap (λ (xs : List Out). xs ++ o ∷ []) c.reserve.ensures.items);
       counts = c.counted-self-inside.ensures;
       accepted = comes.one_more;
-    }
+    })
 
 pub invariant_of-self-in-Ok-None : goal.invariant_of-self-in-Ok-None
 invariant_of-self-in-Ok-None g c =
-    let ends = c.in-Ok-None.ensures.accepts in (
+    let state = g.A.Doors.state in
+    let ends = subst (λ o. Accepts (state c.self.inside.doors) (state c.accept.new.self) (accepted_as g.A.In.Source.state g.A.Out.Sink.state g.A.Dial.Dialer.state g.A.Time.Clock.state (Ok o))) c.in-Ok-None.field-0-is c.in-Ok-None.ensures.accepts in
+    let closes = ends_close (state c.self.inside.made_doors.value) c.self.inside.most (state c.self.inside.doors) (state c.accept.new.self) (search rules) (search rules) c.in-Ok-None.ensures.goes_on ends in (
       stays_closed _ _ _ c.self.invariant.0 c.in-Ok-None.ensures.goes_on c.in-Ok-None.ensures.listens ends.stays refl c.reserve.ensures.items refl,
       c.self.invariant.1 ∙ sym ends.stays.accepted_same,
-      search (rules, ends_close),
+      search (rules, closes),
     )
 
 pub invariant_of-self-in-Err-Failed : goal.invariant_of-self-in-Err-Failed

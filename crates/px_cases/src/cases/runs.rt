@@ -1,0 +1,361 @@
+//! The runs of a case: its command over objects in memory, and its session by itself.
+use crate::cases::fields::Key;
+use crate::cases::setups::{Device, Failing, NamedFile, Origin, Setup};
+use crate::faults::Fault;
+use px_base::{
+    Answer, Content, Files, FixedClock, List, MemDialer, MemFiles, Peer, TapeIn, TapeOut, Text,
+};
+use px_commands::run_tool;
+use px_config::{Config, load};
+use px_publish::StepConfig;
+use px_serve::{Session, serve_connection};
+use px_ways::Way;
+use std::alloc::Global;
+use std::sync::Arc;
+use std::thread::Threads;
+
+/// How the streams of a run are cut.
+#[derive(Clone, Copy)]
+pub enum Cut {
+    /// As the case says.
+    Given,
+    /// Each in two, behind so many bytes.
+    At(usize),
+    /// Into single bytes.
+    Bytes,
+}
+
+/// How a run differs from that of the case itself.
+#[derive(Clone, Copy)]
+pub struct Plan {
+    pub cut: Cut,
+    pub failing: Option<Failing>,
+}
+
+impl Plan {
+    /// The run of the case itself.
+    pub const OWN: Plan = Plan {
+        cut: Cut::Given,
+        failing: None,
+    };
+}
+
+/// How many pieces of a stream are single bytes; what is behind them is one piece.
+const SINGLE_BYTES: usize = 4_096;
+
+/// What is shown of SENT where it isn't put.
+pub const UNTOUCHED: &[u8] = b"untouched";
+
+/// What a run shows, by key.
+#[derive(Drop)]
+pub struct Seen {
+    shown: Vec<(Key<'static>, Text)>,
+}
+
+impl Seen {
+    /// What it shows under a key.
+    pub fn shown(&self, key: Key<'_>) -> Option<&[u8]> {
+        for (shown, text) in &self.shown {
+            if *shown == key {
+                return Some(text.as_bytes());
+            }
+        }
+        None
+    }
+
+    pub fn out(&self) -> &[u8] {
+        self.shown(Key::Out).unwrap_or(&[])
+    }
+
+    /// How its session ended.
+    pub fn first_of_end(&self) -> Option<&[u8]> {
+        self.shown(Key::End)?.split(|byte| *byte == b' ').next()
+    }
+
+    /// How the last exchange of its session ended.
+    pub fn last_of_end(&self) -> Option<&[u8]> {
+        self.shown(Key::End)?.rsplit(|byte| *byte == b' ').next()
+    }
+}
+
+/// A run that is made ready: the case's setup, and how the run differs from the case's own.
+#[derive(Clone, Copy)]
+struct Run<'r, 's> {
+    alloc: Global,
+    setup: &'r Setup<'s>,
+    plan: &'r Plan,
+}
+
+impl Run<'_, '_> {
+    fn text(&self, bytes: &[u8]) -> Result<Text, Fault> {
+        Ok(Text::from_bytes(self.alloc, bytes)?)
+    }
+
+    /// The sizes of the first calls of a device.
+    fn sizes(&self, device: Device) -> Result<Vec<usize>, Fault> {
+        let mut sizes = Vec::new(self.alloc);
+        match self.plan.cut {
+            Cut::Given => {
+                for cuts in &self.setup.cuts {
+                    if cuts.device == device {
+                        sizes.extend_from_slice(cuts.sizes.as_slice())?;
+                    }
+                }
+            }
+            Cut::At(place) => sizes.push(place)?,
+            Cut::Bytes => return Ok(vec![in self.alloc; 1; SINGLE_BYTES]?),
+        }
+        Ok(sizes)
+    }
+
+    /// The calls of a device that fail; of a link, those of that dial's.
+    fn fails(&self, device: Device, dial: usize) -> Result<Vec<u64>, Fault> {
+        let mut calls = Vec::new(self.alloc);
+        for failing in self.setup.failing.iter().chain(self.plan.failing.iter()) {
+            if failing.device == device && failing.dial == dial {
+                calls.push(failing.call)?;
+            }
+        }
+        Ok(calls)
+    }
+
+    fn input(&self) -> Result<TapeIn, Fault> {
+        let sizes = self.sizes(Device::ClientRead)?;
+        let fails = self.fails(Device::ClientRead, 0)?;
+        let bytes = self.setup.input.as_slice();
+        Ok(TapeIn::new(self.alloc, bytes, sizes.as_slice(), fails.as_slice())?)
+    }
+
+    /// The client's sink, or the error output.
+    fn output(&self, device: Device) -> Result<TapeOut, Fault> {
+        let sizes = self.sizes(device)?;
+        let fails = self.fails(device, 0)?;
+        Ok(TapeOut::new(self.alloc, sizes.as_slice(), fails.as_slice())?)
+    }
+
+    fn clock(&self) -> Result<FixedClock, Fault> {
+        let moments = Vec::from_slice(self.alloc, self.setup.moments.as_slice())?;
+        Ok(FixedClock::new(List::from_vec(moments)))
+    }
+
+    /// What the dial with that number gives.
+    fn answer(&self, dial: usize, origin: &Origin) -> Result<Answer, Fault> {
+        if !self.fails(Device::NoName, dial)?.is_empty() {
+            return Ok(Answer::NoName);
+        }
+        if !self.fails(Device::NotReached, dial)?.is_empty() {
+            return Ok(Answer::NotReached);
+        }
+        match origin {
+            Origin::Link(bytes) => Ok(Answer::Link {
+                bytes: self.text(bytes.as_slice())?,
+                cuts: List::from_vec(self.sizes(Device::LinkRead)?),
+                read_fails: List::from_vec(self.fails(Device::LinkRead, dial)?),
+                write_fails: List::from_vec(self.fails(Device::LinkWrite, dial)?),
+            }),
+            Origin::NoName => Ok(Answer::NoName),
+            Origin::NotReached => Ok(Answer::NotReached),
+        }
+    }
+
+    fn dialer(&self) -> Result<MemDialer, Fault> {
+        let mut answers = List::new(self.alloc);
+        for (dial, origin) in self.setup.origins.iter().enumerate() {
+            answers.add(self.answer(dial, origin)?)?;
+        }
+        Ok(MemDialer::new(self.alloc, answers)?)
+    }
+
+    /// The text of ORIGIN.
+    fn origin_file(&self) -> Result<Text, Fault> {
+        let mut text = Text::new(self.alloc);
+        for origin in &self.setup.origins {
+            match origin {
+                Origin::Link(bytes) => {
+                    let length = bytes.len();
+                    text.push_all(format!(in self.alloc; "{length}\n")?.as_bytes())?;
+                    text.push_all(bytes.as_slice())?;
+                }
+                Origin::NoName => text.push_all(b"no-name\n")?,
+                Origin::NotReached => text.push_all(b"not-reached\n")?,
+            }
+        }
+        Ok(text)
+    }
+
+    /// The files of a configuration.
+    fn files(&self, named: &[NamedFile<'_>], fails: &[u64]) -> Result<MemFiles, Fault> {
+        let mut state = List::new(self.alloc);
+        for file in named {
+            let name = self.text(file.name.as_bytes())?;
+            state.add((name, self.text(file.bytes.as_slice())?))?;
+        }
+        if self.setup.has_origins {
+            state.add((self.text(b"o")?, self.origin_file()?))?;
+        }
+        let mut states = List::new(self.alloc);
+        states.add(state)?;
+        Ok(MemFiles::new(self.alloc, states, fails)?)
+    }
+
+    /// The words of the command.
+    fn words(&self) -> Result<Vec<String>, Fault> {
+        let mut words = Vec::new(self.alloc);
+        for word in &self.setup.words {
+            words.push(String::from_str(self.alloc, word)?)?;
+        }
+        Ok(words)
+    }
+
+    /// The client's tags, which stand behind the first four words of `pass`.
+    fn tags(&self) -> Result<Vec<Text>, Fault> {
+        let mut tags = Vec::new(self.alloc);
+        for tag in self.setup.words.iter().skip(4) {
+            tags.push(self.text(tag.as_bytes())?)?;
+        }
+        Ok(tags)
+    }
+
+    /// A source that gives the configurations in turn.
+    fn configs(&self, configs: &[Arc<Config>]) -> Result<StepConfig<Config>, Fault> {
+        let mut list = List::new(self.alloc);
+        for config in configs {
+            list.add(Arc::try_clone(config).map_err(|_| Fault::Mem)?)?;
+        }
+        if list.is_empty() {
+            return Err(Fault::Form("a session has a configuration"));
+        }
+        Ok(StepConfig::new(list))
+    }
+}
+
+/// The most bytes of SENT.
+const SENT_LIMIT: u64 = 1 << 26;
+
+/// The text of SENT, if it was put.
+fn sent_file(setup: &Setup<'_>, files: &mut MemFiles) -> Option<Text> {
+    let name = setup.words.get(3)?;
+    match files.read(name, SENT_LIMIT) {
+        Ok(Content::Found(text)) => Some(text),
+        Ok(Content::Missing) | Ok(Content::Over) | Err(_) => None,
+    }
+}
+
+/// Runs the command, the directions of a tunnel in turn.
+pub fn run_command<R: Threads + Sync>(
+    _rt: &R,
+    setup: &Setup<'_>,
+    plan: &Plan,
+) -> Result<Seen, Fault> {
+    let alloc = setup.alloc;
+    let run = Run { alloc, setup, plan };
+    let words = run.words()?;
+    let Some(named) = setup.states.first() else {
+        return Err(Fault::Form("a command has files"));
+    };
+    let fails = run.fails(Device::Files, 0)?;
+    let mut files = run.files(named.as_slice(), fails.as_slice())?;
+    let mut input = run.input()?;
+    let mut out = run.output(Device::ClientWrite)?;
+    let mut err = run.output(Device::ErrorWrite)?;
+    let mut clock = run.clock()?;
+    let way: Way<'_, R> = Way::InTurn;
+    let status = run_tool(
+        alloc, &way, &words, &mut files, &mut input, &mut out, &mut err, &mut clock,
+    );
+    let sent = match sent_file(setup, &mut files) {
+        Some(sent) => sent,
+        None => run.text(UNTOUCHED)?,
+    };
+    Ok(Seen {
+        shown: vec![in alloc;
+            (Key::Out, out.into_taken()),
+            (Key::Err, err.into_taken()),
+            (
+                Key::Status,
+                run.text(format!(in alloc; "{status}")?.as_bytes())?
+            ),
+            (Key::Sent, sent),
+        ]?,
+    })
+}
+
+/// The configurations of the files of a case.
+pub fn configs(setup: &Setup<'_>) -> Result<Vec<Arc<Config>>, Fault> {
+    let (alloc, plan) = (setup.alloc, &Plan::OWN);
+    let run = Run { alloc, setup, plan };
+    let mut configs = Vec::new(alloc);
+    for named in &setup.states {
+        let mut files = run.files(named.as_slice(), &[])?;
+        match load(alloc, &mut files, "c") {
+            Ok(config) => configs.push(Arc::new(alloc, config)?)?,
+            Err(_) => return Err(Fault::Form("the files of a session make a configuration")),
+        }
+    }
+    Ok(configs)
+}
+
+/// The text of SENT for what was sent.
+fn sent_over(alloc: Global, dialer: &MemDialer) -> Result<Text, Fault> {
+    let mut sent = Text::new(alloc);
+    for link in dialer.links() {
+        let (port, length) = (link.port, link.sent.len());
+        sent.push_all(link.host.as_bytes())?;
+        sent.push_all(format!(in alloc; ":{port} {length}\n")?.as_bytes())?;
+        sent.push_all(link.sent.as_bytes())?;
+    }
+    Ok(sent)
+}
+
+/// Runs the session by itself, both directions of a tunnel at once.
+pub fn run_session<R: Threads + Sync>(
+    rt: &R,
+    setup: &Setup<'_>,
+    configs: &[Arc<Config>],
+    plan: &Plan,
+) -> Result<Seen, Fault> {
+    let alloc = setup.alloc;
+    let run = Run { alloc, setup, plan };
+    let mut configs = run.configs(configs)?;
+    let mut input = run.input()?;
+    let mut out = run.output(Device::ClientWrite)?;
+    let mut dialer = run.dialer()?;
+    let mut clock = run.clock()?;
+    let tags = run.tags()?;
+    let peer = Peer {
+        address: run.text(b"127.0.0.1")?,
+    };
+    let session = serve_connection(
+        alloc,
+        &Way::AtOnce(rt),
+        &mut configs,
+        &mut input,
+        &mut out,
+        &mut dialer,
+        &mut clock,
+        &peer,
+        tags.as_slice(),
+    );
+    let (end, notes) = told_session(alloc, &session)?;
+    Ok(Seen {
+        shown: vec![in alloc;
+            (Key::Out, out.into_taken()),
+            (Key::Sent, sent_over(alloc, &dialer)?),
+            (Key::End, run.text(end.as_bytes())?),
+            (Key::Notes, run.text(notes.as_str().trim().as_bytes())?),
+        ]?,
+    })
+}
+
+/// How a session and its exchanges ended, and the configuration and the moment of each exchange as `NUMBER@MOMENT`.
+fn told_session(alloc: Global, session: &Session) -> Result<(String, String), Fault> {
+    let end = session.end;
+    let mut ends = format!(in alloc; "{end:?}")?;
+    let mut notes = String::new(alloc);
+    for note in session.exchanges.as_slice() {
+        let (ending, config, moment) = (note.ending, note.config, note.moment);
+        ends.push_str(format!(in alloc; " {ending:?}")?.as_str())?;
+        notes.push_str(format!(in alloc; " {config}@{moment}")?.as_str())?;
+    }
+    Ok((ends, notes))
+}

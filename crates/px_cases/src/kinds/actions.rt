@@ -1,0 +1,51 @@
+//! Words of actions, and sets.
+use crate::faults::Fault;
+use crate::kinds::made::{apply_words, push_item, push_lines, said, set_of};
+use crate::leaves::Row;
+use px_actions::{Change, Update};
+use px_base::Text;
+use std::alloc::Global;
+
+/// Adds the word of an update: its sign, the kind's own name, and the parameter that is kept.
+pub fn push_update(alloc: Global, out: &mut Text, update: &Update) -> Result<(), Fault> {
+    let (sign, parameter) = match &update.change {
+        Change::On => ('+', None),
+        Change::Set(text) => ('+', Some(text)),
+        Change::Add(text) => ('+', Some(text)),
+        Change::Remove(text) => ('-', Some(text)),
+        Change::Off => ('-', None),
+        Change::Clear => ('-', None),
+    };
+    let name = update.kind.name();
+    out.push_all(format!(in alloc; " {sign}{name}")?.as_bytes())?;
+    if let Some(text) = parameter {
+        out.push(b'{')?;
+        out.push_all(text.as_bytes())?;
+        out.push(b'}')?;
+    }
+    Ok(())
+}
+
+/// The number of a word's kind, and the word of the update that it is read as.
+pub fn words(row: &Row<'_>) -> Result<Text, Fault> {
+    let update = Update::read_bytes(row.alloc, row.bytes("word")?.as_slice())?;
+    let place = update.kind.place();
+    let mut out = said(row.alloc, format!(in row.alloc; "{place}")?.as_str())?;
+    push_update(row.alloc, &mut out, &update)?;
+    Ok(out)
+}
+
+/// The lines of a set to which words are applied in turn, and behind `then` those of its copy to which further ones are.
+pub fn sets(row: &Row<'_>) -> Result<Text, Fault> {
+    let set = set_of(row)?;
+    let mut copy = set.copy()?;
+    let further = row.items("further")?;
+    apply_words(row.alloc, &mut copy, further.as_slice())?;
+    let mut out = Text::new(row.alloc);
+    push_lines(&mut out, set.print()?.as_bytes())?;
+    if !further.is_empty() {
+        push_item(&mut out, b"then")?;
+        push_lines(&mut out, copy.print()?.as_bytes())?;
+    }
+    Ok(out)
+}

@@ -1,0 +1,99 @@
+//! Answers as they are returned: header actions, and bodies that are passed or filtered.
+use crate::faults::Fault;
+use crate::kinds::bodies::Cut;
+use crate::kinds::made::{filters_of, head_of, push_fields, set_of, vars_of, yes_or_no};
+use crate::leaves::Row;
+use px_answers::{BodyPlan, Framed, HeaderLines, Passage, Terms};
+use px_base::{List, Text};
+use px_filter_files::Filters;
+use px_framing::response_body;
+use px_head::{Field, ResponseHead, is_held_back_of_response};
+use px_headers::{is_text, server_headers};
+use std::alloc::Global;
+
+/// The status line and the fields of an answer, behind the actions of words at a moment.
+pub fn responses(row: &Row<'_>) -> Result<Text, Fault> {
+    let mut head = ResponseHead::read(row.alloc, head_of(row)?.as_bytes())?;
+    let (set, filters, vars) = (set_of(row)?, filters_of(row)?, vars_of(row.alloc, b"")?);
+    let moment = row.number("moment")?;
+    let mut warm = filters.warm(row.alloc)?;
+    let returned = server_headers(
+        row.alloc, &mut head, &set, &filters, &mut warm, &vars, moment,
+    )?;
+    let mut out = returned.first_line;
+    push_fields(row.alloc, &mut out, returned.fields.as_slice())?;
+    Ok(out)
+}
+
+/// Whether an answer is a text by the actions of words.
+pub fn texts(row: &Row<'_>) -> Result<Text, Fault> {
+    let head = ResponseHead::read(row.alloc, head_of(row)?.as_bytes())?;
+    yes_or_no(row.alloc, is_text(head.fields.as_slice(), &set_of(row)?))
+}
+
+/// The head as header actions that change nothing hand it on.
+fn lines(alloc: Global, head: &ResponseHead) -> Result<HeaderLines, Fault> {
+    let mut fields = List::new(alloc);
+    for field in head.fields.as_slice() {
+        if !is_held_back_of_response(field.name.as_bytes()) {
+            let name = Text::from_bytes(alloc, field.name.as_bytes())?;
+            let value = Text::from_bytes(alloc, field.value.as_bytes())?;
+            fields.add(Field { name, value })?;
+        }
+    }
+    Ok(HeaderLines {
+        first_line: head.first_line(alloc)?,
+        fields,
+    })
+}
+
+/// The head of an answer, its body's rule and what the request says of it, as they are framed.
+fn framed(row: &Row<'_>, files: &Filters) -> Result<Framed, Fault> {
+    let head = ResponseHead::read(row.alloc, head_of(row)?.as_bytes())?;
+    let rule = response_body(&head, row.word("method")?.as_bytes())?;
+    let terms = Terms {
+        minor: row.number("minor")?,
+        keep: row.is("keep")?,
+        text: row.is("text")?,
+        filters: row.items("names")?,
+        limit: row.number("limit")?,
+    };
+    let lines = lines(row.alloc, &head)?;
+    Ok(BodyPlan::new(row.alloc, files, &head, rule, terms)?.behind(lines))
+}
+
+/// What is returned of an answer whose body comes in pieces, and behind it how it was returned, and whether the connection is kept.
+fn returned(row: &Row<'_>, files: &Filters, pieces: &[&[u8]]) -> Result<Text, Fault> {
+    let mut warm = files.warm(row.alloc)?;
+    let mut out = Text::new(row.alloc);
+    let vars = vars_of(row.alloc, b"")?;
+    let mut passage = Passage::new(row.alloc, &mut warm, vars, framed(row, files)?, &mut out)?;
+    for piece in pieces {
+        passage.feed(&mut warm, piece, &mut out)?;
+    }
+    passage.end(&mut warm, row.is("fails")?, &mut out)?;
+    let end = match passage.ended() {
+        Some(outcome) => {
+            let keep = if outcome.keep { "keep" } else { "close" };
+            format!(in row.alloc; " | {:?} | {keep}", outcome.returned)?
+        }
+        None => format!(in row.alloc; " | not ended")?,
+    };
+    out.push_all(end.as_bytes())?;
+    Ok(out)
+}
+
+/// What is returned of an answer, if it is the same however its body is cut.
+pub fn answers(row: &Row<'_>) -> Result<Text, Fault> {
+    let files = filters_of(row)?;
+    let body = row.bytes("body")?;
+    let whole = returned(row, &files, &[body.as_slice()])?;
+    for cut in Cut::all(row.alloc, body.len())?.iter() {
+        let pieces = cut.pieces(row.alloc, body.as_slice())?;
+        let got = returned(row, &files, pieces.as_slice())?;
+        if got.as_bytes() != whole.as_bytes() {
+            return cut.said(row.alloc, &got);
+        }
+    }
+    Ok(whole)
+}

@@ -1,0 +1,115 @@
+//! The lines of files, and the sections, filters and jobs in them.
+use crate::faults::Fault;
+use crate::kinds::actions::push_update;
+use crate::kinds::made::{as_str, filter_file_of, lines_of, push_item, said, vars_of};
+use crate::leaves::Row;
+use px_action_files::{ActionFile, Pattern, refusal_name};
+use px_base::{List, Text};
+use px_subst::{Filter, Job, Outcome};
+
+/// The lines that a file's bytes stand for, each behind its number.
+pub fn lines(row: &Row<'_>) -> Result<Text, Fault> {
+    let lines = lines_of(row.alloc, row.bytes("file")?.as_slice())?;
+    let mut out = Text::new(row.alloc);
+    for line in lines.as_slice() {
+        push_item(
+            &mut out,
+            format!(in row.alloc; "{} ", line.number)?.as_bytes(),
+        )?;
+        out.push_all(line.text.as_bytes())?;
+    }
+    Ok(out)
+}
+
+/// The name of the refusal that a number names in an actions file.
+pub fn refusals(row: &Row<'_>) -> Result<Text, Fault> {
+    said(row.alloc, refusal_name(row.number("number")?))
+}
+
+/// The sections of an actions file: each its line, the updates of its words, and the lines and kinds of its patterns.
+pub fn actions(row: &Row<'_>) -> Result<Text, Fault> {
+    let lines = lines_of(row.alloc, row.file("file")?.as_bytes())?;
+    let file = ActionFile::read(row.alloc, lines.as_slice())?;
+    let mut out = Text::new(row.alloc);
+    let mut patterns = 0usize;
+    for section in file.sections.as_slice() {
+        push_item(
+            &mut out,
+            format!(in row.alloc; "{}", section.line)?.as_bytes(),
+        )?;
+        for update in section.updates.as_slice() {
+            push_update(row.alloc, &mut out, update)?;
+        }
+        for pattern in section.patterns.as_slice() {
+            let line = ActionFile::line_of_pattern(lines.as_slice(), patterns).unwrap_or(0);
+            let kind = kind_of(pattern);
+            out.push_all(format!(in row.alloc; ", {line} {kind}")?.as_bytes())?;
+            patterns = patterns.saturating_add(1);
+        }
+    }
+    Ok(out)
+}
+
+fn kind_of(pattern: &Pattern) -> &'static str {
+    match pattern {
+        Pattern::Url(_) => "URL",
+        Pattern::Tag(_) => "TAG",
+        Pattern::NoRequestTag(_) => "NO-REQUEST-TAG",
+        Pattern::NoResponseTag(_) => "NO-RESPONSE-TAG",
+        Pattern::ClientTag(_) => "CLIENT-TAG",
+    }
+}
+
+/// The filters of a file, each its line, kind and name, and the lines of the jobs that are left out.
+pub fn filters(row: &Row<'_>) -> Result<Text, Fault> {
+    let file = filter_file_of(row)?;
+    let mut out = Text::new(row.alloc);
+    for named in file.filters.as_slice() {
+        let kind = named.kind;
+        push_item(
+            &mut out,
+            format!(in row.alloc; "{} {kind:?} ", named.line)?.as_bytes(),
+        )?;
+        out.push_all(named.name.as_bytes())?;
+    }
+    for line in file.skipped.as_slice() {
+        push_item(
+            &mut out,
+            format!(in row.alloc; "{line} left out")?.as_bytes(),
+        )?;
+    }
+    Ok(out)
+}
+
+/// The hits of jobs on a text, and what they make of it.
+pub fn jobs(row: &Row<'_>) -> Result<Text, Fault> {
+    let mut jobs = List::new(row.alloc);
+    for text in row.items("jobs")?.as_slice() {
+        jobs.add(Job::read(row.alloc, as_str(text.as_bytes())?)?)?;
+    }
+    run(row, &Filter::new(jobs))
+}
+
+/// What a filter makes of a text, if each way to run it gives the same: afresh, or kept and run twice.
+fn run(row: &Row<'_>, filter: &Filter) -> Result<Text, Fault> {
+    let vars = vars_of(row.alloc, row.bytes("host")?.as_slice())?;
+    let text = row.bytes("text")?;
+    let afresh = filter.run(row.alloc, text.as_slice(), &vars)?;
+    let mut kept = filter.keep(row.alloc)?;
+    for _ in 0..2 {
+        let again = kept.run(row.alloc, text.as_slice(), &vars)?;
+        if !is_same(&again, &afresh) {
+            return said(row.alloc, "a kept filter gives something else");
+        }
+    }
+    let mut out = said(
+        row.alloc,
+        format!(in row.alloc; "{} ", afresh.hits)?.as_str(),
+    )?;
+    out.push_all(afresh.text.as_bytes())?;
+    Ok(out)
+}
+
+fn is_same(one: &Outcome, other: &Outcome) -> bool {
+    one.hits == other.hits && one.text.as_bytes() == other.text.as_bytes()
+}

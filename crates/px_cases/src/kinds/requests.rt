@@ -1,0 +1,54 @@
+//! Requests behind header actions and filters, and tags.
+use crate::faults::Fault;
+use crate::kinds::made::{
+    filters_of, head_of, push_fields, push_item, push_lines, said, sections_of, set_of, side_of,
+    vars_of,
+};
+use crate::leaves::Row;
+use px_base::{List, Peer, Text};
+use px_head::RequestHead;
+use px_headers::client_headers;
+use px_patterns::Url;
+use px_taggers::tag_headers;
+
+/// Where a request goes and its fields, behind the actions of words. The client's address is 127.0.0.1.
+pub fn requests(row: &Row<'_>) -> Result<Text, Fault> {
+    let mut head = RequestHead::read(row.alloc, head_of(row)?.as_bytes())?;
+    let url = Url::read(row.alloc, head.target.as_bytes())?;
+    let peer = Peer {
+        address: said(row.alloc, "127.0.0.1")?,
+    };
+    let (set, filters, vars) = (set_of(row)?, filters_of(row)?, vars_of(row.alloc, b"")?);
+    let mut warm = filters.warm(row.alloc)?;
+    let sent = client_headers(
+        row.alloc, &mut head, url, &set, &filters, &mut warm, &vars, &peer,
+    )?;
+    let mut out = sent.url.print(row.alloc)?;
+    push_fields(row.alloc, &mut out, sent.fields.as_slice())?;
+    Ok(out)
+}
+
+/// The tags that the lines of a message make, and behind `set` the lines of its set.
+pub fn taggers(row: &Row<'_>) -> Result<Text, Fault> {
+    let (sections, filters) = (sections_of(row)?, filters_of(row)?);
+    let (lines, side, vars) = (row.items("lines")?, side_of(row)?, vars_of(row.alloc, b"")?);
+    let mut set = set_of(row)?;
+    let mut tags = List::new(row.alloc);
+    tag_headers(
+        row.alloc,
+        &sections,
+        &filters,
+        &mut set,
+        &mut tags,
+        lines.as_slice(),
+        side,
+        &vars,
+    )?;
+    let mut out = Text::new(row.alloc);
+    for tag in tags.as_slice() {
+        push_item(&mut out, tag.as_bytes())?;
+    }
+    push_item(&mut out, b"set")?;
+    push_lines(&mut out, set.print()?.as_bytes())?;
+    Ok(out)
+}

@@ -1,0 +1,109 @@
+//! What sections set for URLs and tags, and what actions decide.
+ghost use Rattle.std.specs.Prelude.{◌≡◌, ◌<◌};
+
+use crate::faults::Fault;
+use crate::kinds::made::{
+    as_str, push_item, push_lines, said, sections_of, set_of, side_of, url_of, vars_of,
+};
+use crate::leaves::Row;
+use px_actions::ActionSet;
+use px_base::{Steps, Text};
+use px_decide::{Decision, Forwards, decide, route};
+use px_merge::Sections;
+use px_patterns::Url;
+use std::alloc::Global;
+use std::marker::Brand;
+use std::sync::ledger::{Blank, Ledger};
+
+fn lines_of_set(alloc: Global, set: &ActionSet) -> Result<Text, Fault> {
+    let mut out = Text::new(alloc);
+    push_lines(&mut out, set.print()?.as_bytes())?;
+    Ok(out)
+}
+
+/// The sections of files that match a URL and the tags of a client, each as FILE:LINE with the files numbered from 0, and
+/// the lines of the set that they make.
+pub fn sections(row: &Row<'_>) -> Result<Text, Fault> {
+    let sections = sections_of(row)?;
+    let url = url_of(row, false)?;
+    let tags = row.items("tags")?;
+    matched::<Brand>(row.alloc, &sections, &url, tags.as_slice(), Blank::new(1))
+}
+
+fn matched<L: Ledger>(
+    alloc: Global,
+    sections: &Sections,
+    url: &Url,
+    tags: &[Text],
+    blank: Blank,
+) -> Result<Text, Fault>
+    requires name { blank.name ≡ L.name }
+    requires parts { blank.parts ≡ L.parts }
+    requires some { 0 < L.parts }
+{
+    let mut steps: Steps<L> = Steps::begin(blank);
+    let places = sections.matched(alloc, url, tags, &mut steps)?;
+    let set = sections.url_actions(alloc, url, tags, &mut steps)?;
+    let mut out = Text::new(alloc);
+    for place in places.as_slice() {
+        push_item(
+            &mut out,
+            format!(in alloc; "{}:{}", place.file, place.line)?.as_bytes(),
+        )?;
+    }
+    push_lines(&mut out, set.print()?.as_bytes())?;
+    Ok(out)
+}
+
+/// The lines of an empty set to which the sections on a tag are applied.
+pub fn tagged(row: &Row<'_>) -> Result<Text, Fault> {
+    let sections = sections_of(row)?;
+    let mut set = ActionSet::empty(row.alloc);
+    sections.apply_tag(row.alloc, &mut set, row.bytes("tag")?.as_slice())?;
+    lines_of_set(row.alloc, &set)
+}
+
+/// The lines of an empty set to which the sections on tags are applied that are absent on a side.
+pub fn absent(row: &Row<'_>) -> Result<Text, Fault> {
+    let sections = sections_of(row)?;
+    let tags = row.items("tags")?;
+    let mut set = ActionSet::empty(row.alloc);
+    sections.apply_absent(row.alloc, &mut set, tags.as_slice(), side_of(row)?)?;
+    lines_of_set(row.alloc, &set)
+}
+
+/// What the words of actions decide on a request or a tunnel.
+pub fn decisions(row: &Row<'_>) -> Result<Text, Fault> {
+    let set = set_of(row)?;
+    let tunnel = row.is("tunnel")?;
+    let url = url_of(row, tunnel)?;
+    let vars = vars_of(row.alloc, b"")?;
+    let decision = decide(row.alloc, &url, tunnel, &set, &vars)?;
+    let (kind, text) = match &decision {
+        Decision::Pass => ("pass", None),
+        Decision::Blocked(reason) => ("blocked ", Some(reason)),
+        Decision::ImageBlank => ("blank image", None),
+        Decision::ImagePattern => ("pattern image", None),
+        Decision::Empty => ("empty document", None),
+        Decision::Redirect(target) => ("redirect ", Some(target)),
+        Decision::ConnectDenied => ("denied", None),
+    };
+    let mut out = said(row.alloc, kind)?;
+    if let Some(text) = text {
+        out.push_all(text.as_bytes())?;
+    }
+    Ok(out)
+}
+
+/// Where the request of a URL is sent by forward lines and the words of actions.
+pub fn routes(row: &Row<'_>) -> Result<Text, Fault> {
+    let mut forwards = Forwards::empty(row.alloc);
+    for line in row.items("lines")?.as_slice() {
+        forwards.add(as_str(line.as_bytes())?)?;
+    }
+    let route = route(row.alloc, &url_of(row, false)?, &set_of(row)?, &forwards)?;
+    let mut out = said(row.alloc, if route.parent { "parent " } else { "origin " })?;
+    out.push_all(route.host.as_bytes())?;
+    out.push_all(format!(in row.alloc; " {}", route.port)?.as_bytes())?;
+    Ok(out)
+}

@@ -1,0 +1,6 @@
+pub mod TagLemmas
+pub mod TagMapLemmas
+pub mod ChainLemmas
+pub mod StateLemmas
+pub mod SeatLemmas
+pub mod Crossing

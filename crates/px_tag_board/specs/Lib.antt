@@ -1,0 +1,11 @@
+pub mod Tags
+pub mod Wearing
+pub mod TagMaps
+pub mod States
+pub mod Chains
+pub mod Shown
+pub mod Answers
+pub mod Outcomes
+pub mod Seats
+pub mod Blanks
+pub mod Readers

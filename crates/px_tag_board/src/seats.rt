@@ -1,0 +1,189 @@
+// Seats at a board.
+ghost use Rattle.std.specs.Prelude.{◌≡◌, ◌+◌, ◌<◌, ◌≤◌, ◌∷◌, [], IfOk, IfErr, OnOk, OnErr, length, option_copied};
+ghost use Rattle.px_publish.specs.Published.{told, receipt_pair, seen_by, reader_pair};
+ghost use Rattle.px_publish.specs.Views.{GoesOn};
+ghost use Rattle.px_tag_board.specs.Chains.{IsChained};
+ghost use Rattle.px_tag_board.specs.Answers.{IsWorn, IsSettled};
+ghost use Rattle.px_tag_board.specs.Outcomes.{Comes, FullOnly, made_by};
+ghost use Rattle.px_tag_board.specs.Readers.{IsFresh};
+ghost use Rattle.px_tag_board.specs.Seats.{MadeAtMostOne};
+ghost use Rattle.px_tag_board.specs.declared.answers.TheConstants.{ENTRY_LIMIT};
+ghost use Rattle.px_tag_board.specs.declared.answers.Outcome.TheVariants.{Made};
+
+use crate::answers::{Answer, Outcome, WearFault, Worn};
+use crate::changes::TagChange;
+use crate::entries::PublishedState;
+use crate::names::BoardName;
+use crate::tag_boards::TagBoard;
+use px_base::Mem;
+use px_publish::{ConfigReader, Configs, Receipt};
+use std::alloc::Global;
+use std::marker::Model;
+use std::sync::ledger::Share;
+use std::sync::{Arc, Mutex, MutexGuard, Wait};
+
+/// A seat at the board that N names, seen as the states that it has seen and the number of changes that it made. It isn't
+/// dropped: `close` takes all seats of a board.
+pub struct Seat<N: BoardName> {
+    alloc: Global,
+    shared: Arc<Mutex<TagBoard<N>>>,
+    reader: ConfigReader<PublishedState>,
+    share: Share<N>,
+    made: u64,
+}
+
+impl<N: BoardName> Model for Seat<N> {
+    ghost use Rattle.std.specs.Prelude.{◌≡◌};
+    ghost use Rattle.px_publish.specs.Published.{seen_by, reader_pair};
+    ghost use Rattle.px_tag_board.specs.Chains.{IsChained};
+    ghost use Rattle.px_tag_board.specs.Seats.{SeatState};
+
+    ghost Value = { SeatState };
+
+    ghost view = { λ s. record { seen = seen_by s.reader; made = s.made } };
+
+    ghost invariant = { λ s. (reader_pair s.reader ≡ N.pair) × IsChained (seen_by s.reader) × (s.share.parts ≡ 1) × (s.share.amount ≡ s.made) };
+}
+
+/// Learns the receipt of a list that isn't shorter than what the reader has seen, which takes no memory. That list is then
+/// what it has seen.
+fn learn(reader: &mut ConfigReader<PublishedState>, receipt: Receipt<PublishedState>)
+    requires pair { receipt_pair receipt ≡ reader_pair reader.old }
+    requires no_shorter { length (seen_by reader.old) ≤ length (told receipt) }
+    ensures pair { reader_pair reader.new ≡ reader_pair reader.old }
+    ensures goes_on { GoesOn (seen_by reader.old) (seen_by reader.new) }
+    ensures seen { seen_by reader.new ≡ told receipt }
+{
+    reader.learn(receipt);
+}
+
+/// The board's answer, given under its lock once the board has all that the reader has seen.
+fn locked<N: BoardName, R: Wait>(
+    rt: &R,
+    alloc: Global,
+    shared: &Mutex<TagBoard<N>>,
+    reader: &ConfigReader<PublishedState>,
+    share: &mut Share<N>,
+    address: &[u8],
+    change: Option<&TagChange>,
+) -> Result<Answer, Mem>
+    requires pair { reader_pair reader.now ≡ N.pair }
+    requires part { 0 < share.old.parts }
+    ensures parts { share.new.parts ≡ share.old.parts }
+    ensures pair { IfOk result (λ a. receipt_pair a.receipt ≡ N.pair) }
+    ensures no_shorter { IfOk result (λ a. length (seen_by reader.now) ≤ length (told a.receipt)) }
+    ensures chained { IfOk result (λ a. IsChained (told a.receipt)) }
+    ensures worn { IfOk result (λ a. IsWorn (told a.receipt) address.now a.worn) }
+    ensures comes { IfOk result (λ a. Comes a.outcome (seen_by reader.now) (told a.receipt) address.now (option_copied change.entry) a.worn.tags) }
+    ensures amount { IfOk result (λ a. share.new.amount ≡ share.old.amount + made_by a.outcome) }
+    ensures few { IfOk result (λ a. a.outcome ≡ Made → share.new.amount ≤ ENTRY_LIMIT) }
+    ensures err { OnErr result (share.new.amount ≡ share.old.amount) }
+{
+    'again: for _ in rt.forever() {
+        let mut board = shared.lock(rt);
+        if board.covers(reader) {
+            let answer = board.answer(rt, alloc, share, address, change);
+            MutexGuard::unlock(board);
+            return answer;
+        }
+        MutexGuard::unlock(board);
+    }
+    unreachable!()
+}
+
+impl<N: BoardName> Seat<N> {
+    ghost use Rattle.std.specs.Prelude.{Err};
+
+    /// A seat whose reader has seen the empty state alone.
+    pub(crate) fn over(
+        alloc: Global,
+        shared: Arc<Mutex<TagBoard<N>>>,
+        reader: ConfigReader<PublishedState>,
+        share: Share<N>,
+    ) -> Seat<N>
+        requires fresh { IsFresh N.pair reader }
+        requires part { share.parts ≡ 1 }
+        requires amount { share.amount ≡ 0 }
+        ensures { result ≡ record { seen = [] ∷ []; made = 0 } }
+    {
+        Seat {
+            alloc,
+            shared,
+            reader,
+            share,
+            made: 0,
+        }
+    }
+
+    /// The shared board, and its part of the ledger with the changes that it made.
+    pub(crate) fn into_parts(self) -> (Arc<Mutex<TagBoard<N>>>, Share<N>)
+        ensures part { result.1.parts ≡ 1 }
+        ensures amount { result.1.amount ≡ self.made }
+    {
+        let Seat {
+            alloc: _alloc,
+            shared,
+            reader: _reader,
+            share,
+            made: _made,
+        } = self;
+        (shared, share)
+    }
+
+    /// The tags that an address wears in the newest state, once the change that is wanted is made. A change that would alter
+    /// nothing isn't made. After `Full` no change was made, and after `Mem` nothing has changed. It may wait for the board.
+    pub fn take<R: Wait>(
+        &mut self,
+        rt: &R,
+        address: &[u8],
+        change: Option<&TagChange>,
+    ) -> Result<Worn, WearFault>
+        ensures goes_on { GoesOn self.old.seen self.new.seen }
+        ensures chained { IsChained self.new.seen }
+        ensures worn { IfOk result (λ w. IsWorn self.new.seen address.now w) }
+        ensures settled { IfOk result (λ w. IsSettled (option_copied change.entry) w.tags) }
+        ensures made { OnOk result (MadeAtMostOne self.old self.new address.now (option_copied change.entry)) }
+        ensures full { IfErr result (λ f. FullOnly f self.new.seen address.now (option_copied change.entry)) }
+        ensures err { OnErr result (self.new.made ≡ self.old.made) }
+        ensures memory { result ≡ Err WearFault.Mem → self.new ≡ self.old }
+    {
+        let Seat {
+            alloc,
+            shared,
+            reader,
+            share,
+            made,
+        } = self;
+        let Ok(answer) = locked(rt, *alloc, shared, reader, share, address, change) else {
+            return Err(WearFault::Mem);
+        };
+        let Answer {
+            worn,
+            receipt,
+            outcome,
+        } = answer;
+        learn(reader, receipt);
+        match outcome {
+            Outcome::Stood => Ok(worn),
+            Outcome::Made => {
+                *made += 1;
+                Ok(worn)
+            }
+            Outcome::Full => Err(WearFault::Full(worn)),
+        }
+    }
+
+    /// The number of the newest state that it has seen. It takes no memory.
+    pub fn place(&self) -> u64
+        ensures { length self.now.seen ≡ result + 1 }
+    {
+        self.reader.current().number
+    }
+
+    /// How many changes it made. It takes no memory.
+    pub fn made(&self) -> u64
+        ensures { result ≡ self.now.made }
+    {
+        self.made
+    }
+}

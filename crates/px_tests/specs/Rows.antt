@@ -1,0 +1,41 @@
+-- Values that stand in rows: lines, fields, URLs, heads, symbols and a cap.
+use Rattle.std.specs.Prelude.{ℕ, List, codes}
+use Rattle.px_text.specs.declared.lines.Line.{Line}
+use Rattle.px_head.specs.declared.fields.Field.{Field}
+use Rattle.px_head.specs.declared.requests.RequestHead.{RequestHead}
+use Rattle.px_head.specs.declared.responses.ResponseHead.{ResponseHead}
+use Rattle.px_patterns.specs.declared.urls.Url.{Url}
+use Rattle.px_templates.specs.declared.symbols.Symbols.{Symbols}
+use Rattle.px_headers.specs.declared.cookies.Cap.{Cap}
+
+-- a line of a file
+abbrev pub line : ℕ → List ℕ → Line
+line number text = record { number = number; text = text }
+
+abbrev pub field : List ℕ → List ℕ → Field
+field name value = record { name = name; value = value }
+
+abbrev pub url_at : List ℕ → ℕ → List ℕ → Url
+url_at host port path = record { host = host; port = port; path = path }
+
+abbrev pub request : List ℕ → List ℕ → ℕ → List Field → RequestHead
+request method target minor fields = record { method = method; target = target; minor = minor; fields = fields }
+
+abbrev pub answer : ℕ → ℕ → List ℕ → List Field → ResponseHead
+answer minor status reason fields = record { minor = minor; status = status; reason = reason; fields = fields }
+
+-- the values of a page's symbols
+abbrev pub symbols : List ℕ → List ℕ → List ℕ → List ℕ → List ℕ → List ℕ → List ℕ → Symbols
+symbols hostname port path url block_reason error parent = record {
+  hostname = hostname;
+  port = port;
+  path = path;
+  url = url;
+  block_reason = block_reason;
+  error = error;
+  parent = parent;
+}
+
+-- a cap of an hour from the moment 1,000,000,000 on
+abbrev pub hour : Cap
+hour = record { latest = 1000003600; seconds = 3600; date = codes "Sun, 09 Sep 2001 02:46:40 GMT" }

@@ -1,0 +1,228 @@
+ghost use Rattle.std.specs.Prelude.{◌≡◌, ◌≤◌, ◌<◌, ◌+◌, ◌-◌, ◌^◌, IfOk, length};
+ghost use Rattle.px_doors.specs.Conns.{IsFreshConn};
+ghost use Rattle.px_doors.specs.MemConns.{mem_conn};
+
+use crate::common::same;
+use px_base::{
+    Clock, Dialer, Failed, FixedClock, List, Mem, MemDialer, Peer, Sink, Source, TapeIn, TapeOut,
+    Text, write_all,
+};
+use px_doors::*;
+use px_serve::{Session, SessionEnd};
+use px_sockets::{SocketDialer, SocketSource};
+use std::alloc::Global;
+use std::test::Fail;
+use std::time::Duration;
+
+/// A connection in memory whose client says those bytes.
+fn client(alloc: Global, bytes: &[u8]) -> Result<MemConn, Mem>
+    ensures { IfOk result (λ conn. IsFreshConn (mem_conn conn)) }
+{
+    Ok(Conn {
+        client_in: TapeIn::new(alloc, bytes, &[], &[])?,
+        client_out: TapeOut::new(alloc, &[], &[])?,
+        dialer: MemDialer::new(alloc, List::new(alloc))?,
+        clock: FixedClock::new(List::new(alloc)),
+        peer: Peer {
+            address: Text::from_bytes(alloc, b"127.0.0.1")?,
+        },
+    })
+}
+
+/// Doors with three connections, of which those calls fail.
+fn three_clients(alloc: Global, fails: &[u64]) -> Result<MemDoors, Mem>
+    ensures { IfOk result (λ doors. ((⟦<MemDoors as Doors>⟧.state doors).accepted ≡ 0) × (length (⟦<MemDoors as Doors>⟧.state doors).parted ≡ 0)) }
+{
+    let conns = vec![in alloc;
+        client(alloc, b"zero")?,
+        client(alloc, b"one")?,
+        client(alloc, b"two")?,
+    ]?;
+    MemDoors::new(alloc, List::from_vec(conns), fails)
+}
+
+/// Accepts a connection and parts it unserved, with the configuration 7. Tells whether one came.
+fn pass_by(alloc: Global, doors: &mut MemDoors, number: u64) -> Result<bool, AcceptFault>
+    requires below { (⟦<MemDoors as Doors>⟧.state doors.old).accepted < 2 ^ 64 - 1 }
+    requires all_parted { length (⟦<MemDoors as Doors>⟧.state doors.old).parted ≡ (⟦<MemDoors as Doors>⟧.state doors.old).accepted }
+    ensures at_most_one { (⟦<MemDoors as Doors>⟧.state doors.new).accepted ≤ (⟦<MemDoors as Doors>⟧.state doors.old).accepted + 1 }
+    ensures all_parted { length (⟦<MemDoors as Doors>⟧.state doors.new).parted ≡ (⟦<MemDoors as Doors>⟧.state doors.new).accepted }
+{
+    match doors.accept()? {
+        Some(conn) => {
+            let session = Session {
+                exchanges: List::new(alloc),
+                end: SessionEnd::Ended,
+            };
+            doors.part(Parted {
+                number,
+                handed: 7,
+                session,
+                conn,
+            });
+            Ok(true)
+        }
+        None => Ok(false),
+    }
+}
+
+/// The host and port at which doors were told to listen.
+fn told(doors: &MemDoors) -> Option<(&[u8], u16)> {
+    match doors.listens_at() {
+        Some(address) => Some((address.host.as_bytes(), address.port)),
+        None => None,
+    }
+}
+
+#[test]
+fn doors_in_memory_give_their_connections_in_order(rt: HostRuntime) -> Result<(), Fail> {
+    let alloc = rt.alloc();
+    let mut doors = three_clients(alloc, &[])?;
+    let address = ListenAddress::copied(alloc, b"127.0.0.1", 8118)?;
+    same(&rt, doors.listen(address), Ok(()));
+    same(&rt, told(&doors), Some(("127.0.0.1".as_bytes(), 8118)));
+    same(&rt, pass_by(alloc, &mut doors, 0), Ok(true));
+    same(&rt, pass_by(alloc, &mut doors, 1), Ok(true));
+    same(&rt, pass_by(alloc, &mut doors, 2), Ok(true));
+    same(&rt, pass_by(alloc, &mut doors, 3), Ok(false));
+    same(&rt, doors.parted().len(), 3);
+    for (parted, mark) in doors.parted().iter().zip(0..) {
+        let seen = (parted.number, parted.handed, parted.conn.client_in.mark());
+        same(&rt, seen, (mark, 7, mark));
+    }
+    Ok(())
+}
+
+#[test]
+fn the_calls_of_doors_in_memory_fail_by_their_numbers(rt: HostRuntime) -> Result<(), Fail> {
+    let alloc = rt.alloc();
+    let mut doors = three_clients(alloc, &[0, 2])?;
+    let address = ListenAddress::copied(alloc, b"127.0.0.1", 8118)?;
+    same(&rt, doors.listen(address), Err(Failed));
+    same(&rt, told(&doors), None);
+    same(&rt, pass_by(alloc, &mut doors, 0), Ok(true));
+    same(&rt, pass_by(alloc, &mut doors, 1), Err(AcceptFault::Failed));
+    same(&rt, pass_by(alloc, &mut doors, 1), Ok(true));
+    same(&rt, doors.parted().len(), 2);
+    for (parted, mark) in doors.parted().iter().zip(0..) {
+        same(&rt, parted.conn.client_in.mark(), mark);
+    }
+    Ok(())
+}
+
+/// Short times, so that nothing waits for long.
+fn short_times() -> Times {
+    Times {
+        idle: Duration::from_millis(2_000),
+        piece: Duration::from_millis(1_000),
+        linger: Duration::from_millis(400),
+        ..Times::usual()
+    }
+}
+
+/// Doors over TCP that listen on a free port, and the port.
+fn open_doors(rt: &HostRuntime) -> Option<(SocketDoors<'_>, u16)> {
+    let alloc = rt.alloc();
+    let mut doors = SocketDoors::new(alloc, rt, short_times());
+    let address = ListenAddress::copied(alloc, b"127.0.0.1", 0).ok()?;
+    if doors.listen(address).is_err() {
+        return None;
+    }
+    let port = doors.port()?;
+    Some((doors, port))
+}
+
+#[test]
+fn doors_that_do_not_listen_fail(rt: HostRuntime) {
+    let mut doors = SocketDoors::new(rt.alloc(), &rt, short_times());
+    same(
+        &rt,
+        matches!(doors.accept(), Err(AcceptFault::Failed)),
+        true,
+    );
+}
+
+#[test]
+fn doors_over_tcp_give_who_calls(rt: HostRuntime) {
+    let Some((mut doors, port)) = open_doors(&rt) else {
+        panic!(rt; "no doors");
+    };
+    let mut dialer = SocketDialer::new(rt.alloc(), &rt, short_times(), 0);
+    let Ok((_link_in, mut link_out)) = dialer.dial(b"127.0.0.1", port) else {
+        panic!(rt; "no link");
+    };
+    same(&rt, write_all(&mut link_out, b"call"), Ok(()));
+    let Ok(Some(mut conn)) = doors.accept() else {
+        panic!(rt; "no connection");
+    };
+    let mut piece = [0; 4];
+    same(&rt, conn.client_in.read(&mut piece), Ok(4));
+    same(&rt, piece, *b"call");
+    same(&rt, conn.peer.address.as_bytes(), "127.0.0.1".as_bytes());
+    same(&rt, conn.clock.now() > 1_700_000_000, true);
+}
+
+/// Answers a connection that was accepted with so many thousand bytes, and parts it.
+fn answer_and_part(alloc: Global, doors: &mut SocketDoors<'_>, thousands: u64) -> bool {
+    let Ok(Some(mut conn)) = doors.accept() else {
+        return false;
+    };
+    let piece = [b'a'; 1_000];
+    'pieces: for _ in 0..thousands {
+        if write_all(&mut conn.client_out, &piece).is_err() {
+            return false;
+        }
+    }
+    conn.client_out.finish();
+    doors.part(Parted {
+        number: 0,
+        handed: 0,
+        session: Session {
+            exchanges: List::new(alloc),
+            end: SessionEnd::Closed,
+        },
+        conn,
+    });
+    true
+}
+
+/// The bytes that come until the end; none where a read fails.
+fn count_to_end(source: &mut SocketSource<'_>) -> Option<u64> {
+    let mut piece = [0; 4_096];
+    let mut count = 0u64;
+    'pieces: for _ in 0..1_000_000u64 {
+        match source.read(&mut piece) {
+            Ok(0) => return Some(count),
+            Ok(more) => count = count.saturating_add(more as u64),
+            Err(Failed) => return None,
+        }
+    }
+    None
+}
+
+#[test]
+fn a_late_byte_does_not_take_the_end_of_an_answer(rt: HostRuntime) {
+    let Some((mut doors, port)) = open_doors(&rt) else {
+        panic!(rt; "no doors");
+    };
+    let mut dialer = SocketDialer::new(rt.alloc(), &rt, short_times(), 0);
+    let Ok((mut link_in, mut link_out)) = dialer.dial(b"127.0.0.1", port) else {
+        panic!(rt; "no link");
+    };
+    same(&rt, write_all(&mut link_out, b"\r\n"), Ok(()));
+    same(&rt, answer_and_part(rt.alloc(), &mut doors, 60), true);
+    doors.close();
+    same(&rt, count_to_end(&mut link_in), Some(60_000));
+}
+
+/// Takes what may go to another thread.
+fn sent<T: Send>(value: &T) {
+    let _ = value;
+}
+
+#[test]
+fn doors_in_memory_may_go_to_another_thread(rt: HostRuntime) -> Result<(), Fail> {
+    let doors = three_clients(rt.alloc(), &[])?;
+    sent(&doors);
+    Ok(())
+}

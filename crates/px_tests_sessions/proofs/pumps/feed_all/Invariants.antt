@@ -1,8 +1,0 @@
-use Rattle.std.proofs.Common.{◌≡◌}
-use Rattle.px_tests_sessions.proofs.pumps.feed_all.Given as goal
-
-abbrev pub invariant-pieces : goal.invariant-pieces
-invariant-pieces g l = record {
-  sections : l.warm.sections ≡ l.pump.config.sections;
-  filters : l.warm.filters ≡ l.pump.config.filters;
-}

@@ -1,0 +1,105 @@
+#!/usr/bin/env python3
+"""Counts what the program spends: instructions (valgrind's callgrind), allocations (memcheck) and time. docs/SPEED.md has the figures.
+
+Each figure is a difference of two runs of `pass` or `check` that differ in the number of one thing, so that what a start costs drops
+out. It counts the program's own instructions alone, and so gives the same on each machine.
+
+Run: docs/tools/speed.py PROGRAM     PROGRAM: crates/px_main/out/px_main
+"""
+import os
+import re
+import subprocess
+import sys
+import tempfile
+import time
+
+ROOT = os.path.dirname(os.path.dirname(os.path.dirname(os.path.abspath(__file__))))
+FIELDS = """Host: www.example.com
+User-Agent: Mozilla/5.0 (X11; Linux x86_64; rv:140.0) Gecko/20100101 Firefox/140.0
+Accept: text/html,application/xhtml+xml,application/xml;q=0.9,*/*;q=0.8
+Accept-Language: en-US,en;q=0.5
+Accept-Encoding: gzip, deflate
+Referer: http://www.example.net/page
+Connection: keep-alive
+Cookie: session=0123456789abcdef
+Upgrade-Insecure-Requests: 1
+Pragma: no-cache
+Cache-Control: no-cache""".splitlines()
+PLAIN = b"HTTP/1.1 200 OK\r\nContent-Type: application/json\r\nContent-Length: 100\r\nServer: x\r\n\r\n" + b"a" * 100
+
+
+def run(program, words, given, tool):
+    """What valgrind says of a run."""
+    call = ["valgrind", *tool, program, *words]
+    ran = subprocess.run(call, input=given, stdout=subprocess.PIPE, stderr=subprocess.PIPE)
+    if ran.returncode:
+        sys.exit(f"{words} ended with {ran.returncode}: {ran.stderr.decode()[-500:]}")
+    return ran.stderr.decode()
+
+
+def instructions(program, words, given=b""):
+    said = run(program, words, given, ["--tool=callgrind", "--callgrind-out-file=/dev/null"])
+    return int(re.search(r"Collected : (\d+)", said)[1])
+
+
+def allocations(program, words, given=b""):
+    said = run(program, words, given, ["--tool=memcheck"])
+    return int(re.search(r"total heap usage: ([\d,]+) allocs", said)[1].replace(",", ""))
+
+
+def session(folder, requests, answer=PLAIN, more=0):
+    """The words of `pass` and its input: so many requests on one connection, each with so many fields more."""
+    origin = os.path.join(folder, "origin")
+    with open(origin, "wb") as file:
+        file.write((b"%d\n" % len(answer) + answer) * requests)
+    fields = [*FIELDS, *(f"X-Field-{number}: a value of some length" for number in range(more))]
+    heads = ("\r\n".join([f"GET http://www.example.com/page/{number} HTTP/1.1", *fields, "", ""]) for number in range(requests))
+    return ["pass", os.path.join(ROOT, "conf", "config"), origin, os.path.join(folder, "sent")], "".join(heads).encode()
+
+
+def chunked(many):
+    chunk = b"64\r\n" + b"a" * 100 + b"\r\n"
+    return b"HTTP/1.1 200 OK\r\nContent-Type: application/json\r\nTransfer-Encoding: chunked\r\n\r\n" + chunk * many + b"0\r\n\r\n"
+
+
+def page(size):
+    line = b"<p>A line of a page, with a <a href=\"/x\">link</a> and no picture.</p>\n"
+    text = (line * (size // len(line) + 1))[:size]
+    return b"HTTP/1.1 200 OK\r\nContent-Type: text/html\r\nContent-Length: %d\r\n\r\n" % len(text) + text
+
+
+def patterns(folder, many):
+    with open(os.path.join(folder, "config"), "w") as file:
+        file.write("actionsfile many.action\n")
+    with open(os.path.join(folder, "many.action"), "w") as file:
+        file.write("{+block{ads}}\n" + "".join(f".host{number}.example\n" for number in range(many)))
+    return ["check", os.path.join(folder, "config")]
+
+
+def seconds(program, words):
+    begun = time.monotonic()
+    subprocess.run([program, *words], stdout=subprocess.DEVNULL, check=True)
+    return time.monotonic() - begun
+
+
+def each(count, one, other, step):
+    return (count(*other) - count(*one)) / step
+
+
+def main():
+    program = os.path.abspath(sys.argv[1])
+    with tempfile.TemporaryDirectory() as folder:
+        counted = lambda *given: instructions(program, *session(folder, *given))
+        allocated = lambda *given: allocations(program, *session(folder, *given))
+        print(f"a GET with eleven fields under conf/: {each(counted, (10,), (90,), 80):,.0f} instructions")
+        print(f"a GET with eleven fields under conf/: {each(allocated, (10,), (90,), 80):.1f} allocations")
+        print(f"a field more: {each(counted, (50, PLAIN, 0), (50, PLAIN, 20), 50 * 20):,.0f} instructions")
+        print(f"a chunk of 100 bytes: {each(counted, (1, chunked(1000)), (1, chunked(3000)), 2000):,.0f} instructions")
+        print(f"a byte of a page that conf/ filters: {each(counted, (1, page(20000)), (1, page(60000)), 40000):.1f} instructions")
+        check = lambda many: instructions(program, patterns(folder, many))
+        print(f"a host pattern, loaded: {(check(20000) - check(1000)) / 19000:,.0f} instructions")
+        print(f"check conf/config: {1000 * min(seconds(program, ['check', os.path.join(ROOT, 'conf', 'config')]) for _ in range(5)):.0f} ms")
+        print(f"check of 20,000 host patterns: {1000 * min(seconds(program, patterns(folder, 20000)) for _ in range(5)):.0f} ms")
+
+
+main()
