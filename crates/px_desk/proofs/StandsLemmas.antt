@@ -14,6 +14,7 @@ use Rattle.px_desk.specs.Counts.{with_reload}
 use Rattle.px_desk.specs.Sessions.{IsNth, IsServed}
 use Rattle.px_desk.specs.Sets.{set_of, Spells}
 use Rattle.px_desk.specs.Turns.{Shelf, shelf, Turn, after, IsTurn, none, shelf_after, with_turn}
+use Rattle.px_desk.specs.Desks.{HandedState, HandsOut}
 use Rattle.px_desk.specs.Facts.{IsClosed, Begun, Made, Now, Stands, ConnsStand, ListStands, HandedStand, IsHanded, Loses, times, once_below}
 use Rattle.px_config.specs.declared.configs.Config.{Config}
 use Rattle.px_config.specs.declared.sets.FileSet.{FileSet}
@@ -292,6 +293,10 @@ is_nth made old new n c goes comes number = record {
   mark = rw number comes.mark;
   nth = λ tells. subst (λ (cs : List ConnState). slice_get cs n ≡ Some c) goes.conns_same (rw number (comes.nth (subst IsTrue (sym goes.tells_same) tells)));
 }
+
+-- what is said of a desk by its fields is said of it by its value
+pub hands_out_as : {V : Type 0} (made : V → Made) (now : V → Now) (new : Now) (h : HandedState) (v w : V) → v ≡ w → HandsOut (made v) (now v) new h → HandsOut (made w) (now w) new h
+hands_out_as made now new h v w same is = subst (λ u. HandsOut (made u) (now u) new h) same is
 
 -- ---- why a desk is closed
 

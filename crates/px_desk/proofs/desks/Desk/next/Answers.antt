@@ -1,9 +1,9 @@
 use Rattle.std.proofs.Common.{rules, List, ◌≡◌, ◌+◌, ◌++◌, ◌∷◌, [], Ok, length, arith, refl, sym, ap, subst, ◌∙◌}
 use Rattle.px_publish.specs.Published.{published}
-use Rattle.px_desk.specs.Desks.{DeskState, HandsOut, made_of, now_of}
+use Rattle.px_desk.specs.Desks.{made_of, now_of}
 use Rattle.px_desk.specs.declared.outs.Out.{Out}
 use Rattle.px_doors.specs.Doors.{Accepts, accepted_as}
-use Rattle.px_desk.proofs.StandsLemmas.{ends_close, hands_out, is_nth, stays_closed}
+use Rattle.px_desk.proofs.StandsLemmas.{ends_close, hands_out, hands_out_as, is_nth, stays_closed}
 use Rattle.px_desk.proofs.desks.Desk.next.Goals as goal
 
 pub invariant_of-self-in-Ok-Some : goal.invariant_of-self-in-Ok-Some
@@ -25,7 +25,7 @@ returns-in-Ok-Some-clause-conn g c =
     let state = g.A.Doors.state in
     let o : Out = record { number = c.self.inside.accepted; handed = c.snapshot-handed.result.number } in
     let comes = subst (λ o. Accepts (state c.self.inside.doors) (state c.accept.new.self) (accepted_as g.A.In.Source.state g.A.Out.Sink.state g.A.Dial.Dialer.state g.A.Time.Clock.state (Ok o))) c.in-Ok-Some.field-0-is c.in-Ok-Some.ensures.accepts in
-    subst (λ (v : DeskState _ _ _). HandsOut (made_of g.F.Files.state g.A.Doors.state g.E.Sink.state v) (now_of g.F.Files.state g.A.Doors.state g.E.Sink.state v) _ _) c.self.view_is (record {
+    hands_out_as (made_of g.F.Files.state g.A.Doors.state g.E.Sink.state) (now_of g.F.Files.state g.A.Doors.state g.E.Sink.state) _ _ _ _ c.self.view_is (record {
       number = c.self.invariant.1;
       reloads = c.reload-reload.ensures.reloads;
       newest = c.reload-reload.ensures.told;
