@@ -13,24 +13,54 @@ SCRIPT = os.path.join(HERE, "..", "tools", "helmthread-from-hosts")
 
 # A list, the words before it, and the patterns that it becomes; worked out by hand.
 LISTS = [
-    ("hosts files", b"# c\r\n127.0.0.1 localhost\r\n0.0.0.0 ads.example.com # x\r\n0.0.0.0\tADS.example.com.\r\n:: b.example c.example\r\n"
-     b"::1 ip6-localhost\r\n192.168.1.4 nas.lan\r\n", [], ["ads.example.com", "b.example", "c.example"]),
-    ("all below", b"0.0.0.0 example.com\n0.0.0.0 a.example.com\n0.0.0.0 word\n", ["--below"], [".example.com"]),
-    ("rules of Adblock", b"[Adblock Plus 2.0]\n! c\n||wide.example^\n||a.wide.example^\n||third.example^$third-party\n||x.example^$script\n"
-     b"@@||ok.example^\nexample.com##.ad\n||h.example/path\n/banner/*\n", [], [".wide.example"]),
+    (
+        "hosts files",
+        b"# c\r\n127.0.0.1 localhost\r\n0.0.0.0 ads.example.com # x\r\n0.0.0.0\tADS.example.com.\r\n:: b.example c.example\r\n"
+        b"::1 ip6-localhost\r\n192.168.1.4 nas.lan\r\n",
+        [],
+        ["ads.example.com", "b.example", "c.example"],
+    ),
+    (
+        "all below",
+        b"0.0.0.0 example.com\n0.0.0.0 a.example.com\n0.0.0.0 word\n",
+        ["--below"],
+        [".example.com"],
+    ),
+    (
+        "rules of Adblock",
+        b"[Adblock Plus 2.0]\n! c\n||wide.example^\n||a.wide.example^\n||third.example^$third-party\n||x.example^$script\n"
+        b"@@||ok.example^\nexample.com##.ad\n||h.example/path\n/banner/*\n",
+        [],
+        [".wide.example"],
+    ),
     ("third parties", b"||third.example^$third-party\n", ["--third-party"], [".third.example"]),
-    ("names alone", b"\xef\xbb\xbfplain.example\n*.star.example\n0.0.0.0 2001:db8::1\n0.0.0.0 192.0.2.7\nb\xc3\xbccher.example\nnot a host\n-x.example\n",
-     [], ["plain.example", ".star.example", "<2001:db8::1>", "192.0.2.7", "xn--bcher-kva.example"]),
+    (
+        "names alone",
+        b"\xef\xbb\xbfplain.example\n*.star.example\n0.0.0.0 2001:db8::1\n0.0.0.0 192.0.2.7\nb\xc3\xbccher.example\nnot a host\n-x.example\n",
+        [],
+        ["plain.example", ".star.example", "<2001:db8::1>", "192.0.2.7", "xn--bcher-kva.example"],
+    ),
 ]
 # Addresses, and whether they are blocked by the list of 15,000 hosts.
-ASKED = [("http://h7.block.example/", True), ("http://h14999.block.example/x", True), ("http://a.h7.block.example/", False),
-         ("http://h15000.block.example/", False), ("http://www.example.com/", False)]
+ASKED = [
+    ("http://h7.block.example/", True),
+    ("http://h14999.block.example/x", True),
+    ("http://a.h7.block.example/", False),
+    ("http://h15000.block.example/", False),
+    ("http://www.example.com/", False),
+]
 
 
 def convert(folder, data, words, to="made.action"):
     with open(os.path.join(folder, "list"), "wb") as file:
         file.write(data)
-    return subprocess.run([sys.executable, SCRIPT, *words, "list", to], cwd=folder, capture_output=True, text=True, timeout=120)
+    return subprocess.run(
+        [sys.executable, SCRIPT, *words, "list", to],
+        cwd=folder,
+        capture_output=True,
+        text=True,
+        timeout=120,
+    )
 
 
 def rows(folder, fail):
@@ -43,7 +73,12 @@ def rows(folder, fail):
             fail(row, "status %d, %s %s" % (ran.returncode, got, ran.stderr))
     many = b"".join(b"0.0.0.0 h%d.block.example\n" % at for at in range(30000))
     ran = convert(folder, many, [])
-    if ran.returncode != 3 or "19000 of 30000" not in ran.stderr or "20000" not in ran.stderr or "1048576" not in ran.stderr:
+    if (
+        ran.returncode != 3
+        or "19000 of 30000" not in ran.stderr
+        or "20000" not in ran.stderr
+        or "1048576" not in ran.stderr
+    ):
         fail("over the limit of patterns", "status %d, %s" % (ran.returncode, ran.stderr))
     long = b"".join(b"0.0.0.0 h%d.%s.example\n" % (at, b"x" * 60) for at in range(18000))
     ran = convert(folder, long, [])
@@ -61,11 +96,23 @@ def ask(folder, program, fail):
     with open(os.path.join(folder, "config"), "w", encoding="utf-8") as file:
         file.write("actionsfile made.action\n")
     ran = convert(folder, many, ["--config", "config"])
-    checked = subprocess.run([program, "check", "config"], cwd=folder, capture_output=True, text=True, timeout=600)
-    if ran.returncode or checked.stdout != "ok: 1 action files, 1 sections, 15000 patterns, 0 filter files, 0 filters\n":
+    checked = subprocess.run(
+        [program, "check", "config"], cwd=folder, capture_output=True, text=True, timeout=600
+    )
+    if (
+        ran.returncode
+        or checked.stdout
+        != "ok: 1 action files, 1 sections, 15000 patterns, 0 filter files, 0 filters\n"
+    ):
         fail("15,000 hosts", ran.stderr + checked.stdout + checked.stderr)
     for url, blocked in ASKED:
-        shown = subprocess.run([program, "show", "config", url], cwd=folder, capture_output=True, text=True, timeout=600)
+        shown = subprocess.run(
+            [program, "show", "config", url],
+            cwd=folder,
+            capture_output=True,
+            text=True,
+            timeout=600,
+        )
         if shown.returncode or ("+block{Stands in the list list.}" in shown.stdout) != blocked:
             fail("show " + url, shown.stdout + shown.stderr)
 
@@ -85,8 +132,13 @@ def main():
         rows(folder, fail)
         for program in programs:
             ask(folder, program, fail)
-    print("from_hosts.py: %d rows, %s" % (len(LISTS) + 3 + (1 + len(ASKED)) * len(programs),
-                                        "%d failed" % len(failures) if failures else "all as expected"))
+    print(
+        "from_hosts.py: %d rows, %s"
+        % (
+            len(LISTS) + 3 + (1 + len(ASKED)) * len(programs),
+            "%d failed" % len(failures) if failures else "all as expected",
+        )
+    )
     return 1 if failures else 0
 
 

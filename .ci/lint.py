@@ -22,36 +22,120 @@ CONF = os.path.join(HERE, "..", "conf")
 A, F, C = "u.action", "f.filter", "config"
 MISTAKES = [
     (A, "{+blokc{ads}}\n/", "u.action:1:", "`+blokc{ads}`", "+block{ads}"),
-    (A, "{\\\n+handle-as-image \\\n+blok{ads} \\\n}\n/", "u.action:3:", "`+blok{ads}`", "+block{ads}"),
+    (
+        A,
+        "{\\\n+handle-as-image \\\n+blok{ads} \\\n}\n/",
+        "u.action:3:",
+        "`+blok{ads}`",
+        "+block{ads}",
+    ),
     (A, "{block{ads}}\n/", "u.action:1:", "`block{ads}`", "+block{ads}"),
     (A, "{+block{ads}\n/", "u.action:1:", "isn't closed", "{+block{ads}}"),
     (A, "{+block{ads}} a.test", "u.action:1:", "`a.test`", "a line of its own"),
-    (A, "{ \\ \n+block{ads} }\n/", "u.action:1:", "white space stands behind", "Take the white space away"),
+    (
+        A,
+        "{ \\ \n+block{ads} }\n/",
+        "u.action:1:",
+        "white space stands behind",
+        "Take the white space away",
+    ),
     (A, "{+block{Ad #1}}\n/", "u.action:1:", "`#`", "\\#"),
     (A, "+block{ads}\n/", "u.action:1:", "`+block{ads}`", "{+block{ads}}"),
     (A, "{+block ads}\n/", "u.action:1:", "`+block`", "+block{ads}"),
     (A, "{+limit-connect}\n/", "u.action:1:", "`+limit-connect`", "+limit-connect{443}"),
     (A, "{+handle-as-image{x}}\n/", "u.action:1:", "`+handle-as-image{x}`", "+handle-as-image"),
-    (A, "{+fast-redirects{simple}}\n/", "u.action:1:", "`+fast-redirects{simple}`", "+fast-redirects{simple-check}"),
-    (A, "{+limit-cookie-lifetime{60m}}\n/", "u.action:1:", "`+limit-cookie-lifetime{60m}`", "+limit-cookie-lifetime{60}"),
-    (A, "{+hide-referrer{blok}}\n/", "u.action:1:", "`+hide-referrer{blok}`", "+hide-referrer{block}"),
-    (A, "{+hide-referrer{Block}}\n/", "u.action:1:", "`Block` would be sent", "+hide-referrer{block}"),
-    (A, "{+set-image-blocker{blnk}}\n/", "u.action:1:", "`+set-image-blocker{blnk}`", "+set-image-blocker{blank}"),
-    (A, "{+redirect{www.example.com}}\n/", "u.action:1:", "`+redirect{www.example.com}`", "+redirect{http://www.example.com}"),
+    (
+        A,
+        "{+fast-redirects{simple}}\n/",
+        "u.action:1:",
+        "`+fast-redirects{simple}`",
+        "+fast-redirects{simple-check}",
+    ),
+    (
+        A,
+        "{+limit-cookie-lifetime{60m}}\n/",
+        "u.action:1:",
+        "`+limit-cookie-lifetime{60m}`",
+        "+limit-cookie-lifetime{60}",
+    ),
+    (
+        A,
+        "{+hide-referrer{blok}}\n/",
+        "u.action:1:",
+        "`+hide-referrer{blok}`",
+        "+hide-referrer{block}",
+    ),
+    (
+        A,
+        "{+hide-referrer{Block}}\n/",
+        "u.action:1:",
+        "`Block` would be sent",
+        "+hide-referrer{block}",
+    ),
+    (
+        A,
+        "{+set-image-blocker{blnk}}\n/",
+        "u.action:1:",
+        "`+set-image-blocker{blnk}`",
+        "+set-image-blocker{blank}",
+    ),
+    (
+        A,
+        "{+redirect{www.example.com}}\n/",
+        "u.action:1:",
+        "`+redirect{www.example.com}`",
+        "+redirect{http://www.example.com}",
+    ),
     (A, "{+filter{webbug}}\n/", "u.action:1:", "`+filter{webbug}`", "+filter{webbugs}"),
     (A, "{+filter{marks}}\n/", "u.action:1:", "`+filter{marks}`", "+client-header-filter{marks}"),
     (A, "{+filter{webbugs} -filter}\n/", "u.action:1:", "`-filter`", "{-filter ..}, first"),
-    (A, "{+crunch-client-header{X-A:} +crunch-client-header{X-B:}}\n/", "u.action:1:", "`+crunch-client-header{X-B:}`", "A header filter"),
+    (
+        A,
+        "{+crunch-client-header{X-A:} +crunch-client-header{X-B:}}\n/",
+        "u.action:1:",
+        "`+crunch-client-header{X-B:}`",
+        "A header filter",
+    ),
     (A, "{+add-header{Host: x}}\n/", "u.action:1:", "`+add-header{Host: x}`", "X-Note: hello"),
     (A, "{+block{x}}\nhttp://a.test/", "u.action:2:", "`http://a.test/`", "a.test/"),
-    (A, "{+block{x}}\na.test b.test", "u.action:2:", "two patterns stand on one line", "a.test and b.test"),
-    (A, "{+block{x}}\n||ads.test^", "u.action:2:", "`||ads.test^`", ".ads.test below {+block{Why}}"),
+    (
+        A,
+        "{+block{x}}\na.test b.test",
+        "u.action:2:",
+        "two patterns stand on one line",
+        "a.test and b.test",
+    ),
+    (
+        A,
+        "{+block{x}}\n||ads.test^",
+        "u.action:2:",
+        "`||ads.test^`",
+        ".ads.test below {+block{Why}}",
+    ),
     (A, "{+block{x}}\n@@||ads.test^", "u.action:2:", "`@@||ads.test^`", ".ads.test below {-block}"),
-    (A, "{+block{x}}\nads.test##.banner", "u.action:2:", "`ads.test##.banner`", "take the line away"),
+    (
+        A,
+        "{+block{x}}\nads.test##.banner",
+        "u.action:2:",
+        "`ads.test##.banner`",
+        "take the line away",
+    ),
     (A, "{+block{x}}\n0.0.0.0 ads.test", "u.action:2:", "hosts file", "helmthread-from-hosts"),
     (A, "{+block{x}}\n[2001:db8::1]/", "u.action:2:", "`[2001:db8::1]`", "<2001:db8::1>/"),
-    (A, "{+block{x}}\na.test/ads/(?!ok)", "u.action:2:", "`(?!ok)`: negative look-ahead", "a second section"),
-    (A, "{+block{x}}\na.test/(a)\\1", "u.action:2:", "`\\1`: a back reference", "one branch for each text"),
+    (
+        A,
+        "{+block{x}}\na.test/ads/(?!ok)",
+        "u.action:2:",
+        "`(?!ok)`: negative look-ahead",
+        "a second section",
+    ),
+    (
+        A,
+        "{+block{x}}\na.test/(a)\\1",
+        "u.action:2:",
+        "`\\1`: a back reference",
+        "one branch for each text",
+    ),
     (A, "{+block{x}}\na.test/(foo", "u.action:2:", "a `(` without `)`", "\\("),
     (A, "{+block{x}}\na.test/s?q=1/search?q=", "u.action:2:", "`s?q=`", "s\\?q="),
     (A, "{+block{x}}\na.test/*/ads", "u.action:2:", "any number of slashes", "a.test/.*/ads"),
@@ -59,11 +143,23 @@ MISTAKES = [
     (A, "{+block{x}}\ntag:^X$", "u.action:2:", "`tag:`", "TAG:^X$"),
     (A, "{{aliases}}\n{+block{x}}\n/", "u.action:1:", "`{{aliases}}`", "{{alias}}"),
     (A, "{{alias}}\nads = +block{x}\n{adds}\n/", "u.action:3:", "`adds`", "ads"),
-    (A, "{{alias}}\nads = +block{x}\nads = +block{y}\n{ads}\n/", "u.action:3:", "`ads`", "Another name"),
+    (
+        A,
+        "{{alias}}\nads = +block{x}\nads = +block{y}\n{ads}\n/",
+        "u.action:3:",
+        "`ads`",
+        "Another name",
+    ),
     (A, "{+block{caf\xe9}}\n/", "u.action:1:", "isn't UTF-8", "iconv -f windows-1252 -t utf-8"),
     (F, "FILTER: a\ns@x@y", "f.filter:2:", "the job is left out", "A third `@`"),
     (F, "FILTER: a\ns@x@y@q", "f.filter:2:", "`q` is no flag", "Of the flags g i m"),
-    (F, "FILTER: a\ns@(['\"])x\\1@y@", "f.filter:2:", "`\\1`: a back reference", "one branch for each text"),
+    (
+        F,
+        "FILTER: a\ns@(['\"])x\\1@y@",
+        "f.filter:2:",
+        "`\\1`: a back reference",
+        "one branch for each text",
+    ),
     (F, "FILTER: a\ns@x(?=y)@z@", "f.filter:2:", "`(?=y)`: look-ahead", "put it back with $1"),
     (F, "FILTER: a\ns@(?<=x)y@z@", "f.filter:2:", "`(?<=x)`: look-behind", "put it back with $1"),
     (F, "FILTER: a\ns@x@<b>$0</b>@", "f.filter:2:", "`$0`", "$&"),
@@ -72,20 +168,50 @@ MISTAKES = [
     (F, "s@x@y@", "f.filter:1:", "before the first filter", "FILTER: NAME"),
     (F, "FILTER: a\ns@x@y@\nFILTER: a\ns@x@y@", "f.filter:3:", "`a`", "Another name"),
     (C, "listen-adress 127.0.0.1:9000", "config:4:", "`listen-adress`", "listen-address"),
-    (C, "listen-address 192.168.1.1:8118", "config:4:", "`192.168.1.1:8118`", "listen-address 127.0.0.1:8118"),
-    (C, "listen-address 127.0.0.1:99999", "config:4:", "1 to 65535", "listen-address 127.0.0.1:8118"),
+    (
+        C,
+        "listen-address 192.168.1.1:8118",
+        "config:4:",
+        "`192.168.1.1:8118`",
+        "listen-address 127.0.0.1:8118",
+    ),
+    (
+        C,
+        "listen-address 127.0.0.1:99999",
+        "config:4:",
+        "1 to 65535",
+        "listen-address 127.0.0.1:8118",
+    ),
     (C, "buffer-limit 4M", "config:4:", "`4M`", "buffer-limit 4096"),
     (C, "toggle on", "config:4:", "`on`", "toggle 1"),
     (C, "toggle = 1", "config:4:", "`= 1`", "toggle 1"),
-    (C, "forward / http://p.test:3128", "config:4:", "`http://p.test:3128`", "forward / p.test:3128"),
+    (
+        C,
+        "forward / http://p.test:3128",
+        "config:4:",
+        "`http://p.test:3128`",
+        "forward / p.test:3128",
+    ),
     (C, "forward / me:secret@p.test:3128", "config:4:", "password", "HOST:PORT"),
-    (C, "actionsfile nosuch.action", "nosuch.action:0:", "looked for there", "line 4 of config (confdir is"),
-    (C, "actionsfile \"u.action\"", "config:4:", "quotes", "actionsfile u.action"),
+    (
+        C,
+        "actionsfile nosuch.action",
+        "nosuch.action:0:",
+        "looked for there",
+        "line 4 of config (confdir is",
+    ),
+    (C, 'actionsfile "u.action"', "config:4:", "quotes", "actionsfile u.action"),
     (C, "actionsfile ~/u.action", "config:4:", "`~` isn't replaced", "/home/you/u.action"),
     (C, "actionsfile g.filter", "config:4:", "`g.filter`", "filterfile g.filter"),
     (C, "templdir nowhere", "config:4:", "`nowhere`", "templdir"),
     (C, "confdir /nosuch", "config:4:", "`/nosuch`", "The folder of your files"),
-    (C, "client-specific-tag guest", "config:4:", "a description is missing", "client-specific-tag guest What it is for"),
+    (
+        C,
+        "client-specific-tag guest",
+        "config:4:",
+        "a description is missing",
+        "client-specific-tag guest What it is for",
+    ),
 ]
 FILTERS = "FILTER: webbugs\ns@x@y@g\nCLIENT-HEADER-FILTER: marks\ns@^X-Mark:.*@@i\n"
 
@@ -95,18 +221,27 @@ from helmthread_tools.linting import Linter  # noqa: E402
 
 
 def lint(config):
-    ran = subprocess.run([sys.executable, LINT, config], capture_output=True, text=True, timeout=120)
+    ran = subprocess.run(
+        [sys.executable, LINT, config], capture_output=True, text=True, timeout=120
+    )
     return ran.returncode, ran.stdout
 
 
 def mistake(folder, kind, text, place, word, write):
     """Whether the mistake is helped, and what was said."""
-    files = {A: "{+block{x}}\na.test/\n", F: "FILTER: other\ns@a@b@\n", C: "filterfile g.filter\nfilterfile f.filter\nactionsfile u.action\n", "g.filter": FILTERS}
+    files = {
+        A: "{+block{x}}\na.test/\n",
+        F: "FILTER: other\ns@a@b@\n",
+        C: "filterfile g.filter\nfilterfile f.filter\nactionsfile u.action\n",
+        "g.filter": FILTERS,
+    }
     files[kind] = files[C] + text + "\n" if kind == C else text + "\n"
     for name, content in files.items():
         with open(os.path.join(folder, name), "w", encoding="latin-1") as file:
             file.write(content)
-    shutil.copytree(os.path.join(CONF, "templates"), os.path.join(folder, "templates"), dirs_exist_ok=True)
+    shutil.copytree(
+        os.path.join(CONF, "templates"), os.path.join(folder, "templates"), dirs_exist_ok=True
+    )
     os.chdir(folder)
     said = Linter("config").run()
     helped = [line for line in said if line.startswith(place) and word in line and write in line]
@@ -132,17 +267,30 @@ def main():
     with tempfile.TemporaryDirectory() as work:
         sys.path.insert(0, HERE)
         from from_privoxy import privoxy_files
+
         if privoxy_files(work) is None:
             print("lint.py: Debian's files are skipped, since the package privoxy can't be had")
         else:
-            subprocess.run([sys.executable, FROM_PRIVOXY, os.path.join(work, "stock"), os.path.join(work, "made")], stdout=subprocess.DEVNULL, check=True)
+            subprocess.run(
+                [
+                    sys.executable,
+                    FROM_PRIVOXY,
+                    os.path.join(work, "stock"),
+                    os.path.join(work, "made"),
+                ],
+                stdout=subprocess.DEVNULL,
+                check=True,
+            )
             clean.append(os.path.join(work, "made", "config"))
         for config in clean:
             status, said = lint(config)
             if status or said != "nothing found\n":
                 failed += 1
                 print("lint.py: a complaint of %s:\n%s" % (config, said.rstrip()))
-    print("lint.py: %d mistakes, %d configurations without one, %s" % (len(MISTAKES), len(clean), "%d failed" % failed if failed else "all as expected"))
+    print(
+        "lint.py: %d mistakes, %d configurations without one, %s"
+        % (len(MISTAKES), len(clean), "%d failed" % failed if failed else "all as expected")
+    )
     return 1 if failed else 0
 
 

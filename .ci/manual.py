@@ -52,13 +52,22 @@ class Sandbox:
     """A folder like the top of the repository, a home, and the program on the PATH."""
 
     def __init__(self, folder, program, net):
-        self.top, self.home, self.port, self.proxy, self.serves = os.path.join(folder, "top"), os.path.join(folder, "home"), free_port(), None, None
+        self.top, self.home, self.port, self.proxy, self.serves = (
+            os.path.join(folder, "top"),
+            os.path.join(folder, "home"),
+            free_port(),
+            None,
+            None,
+        )
         os.makedirs(self.home)
         os.makedirs(os.path.join(folder, "bin"))
         shutil.copytree(os.path.join(TOP, "conf"), os.path.join(self.top, "conf"))
         for name in ("tools", ".ci"):
             os.symlink(os.path.realpath(os.path.join(TOP, name)), os.path.join(self.top, name))
-        for name in (os.path.join(self.top, "helmthread"), os.path.join(folder, "bin", "helmthread")):
+        for name in (
+            os.path.join(self.top, "helmthread"),
+            os.path.join(folder, "bin", "helmthread"),
+        ):
             os.symlink(program, name)
         main = os.path.join(self.top, "conf", "config")
         with open(main, encoding="utf-8") as file:
@@ -67,23 +76,53 @@ class Sandbox:
             file.write(text.replace("8118", str(self.port)) + "\nforward / 127.0.0.1:%d\n" % net)
         with open(os.path.join(self.top, "LIST"), "w", encoding="utf-8") as file:
             file.write("0.0.0.0 ads.list.example\n")
-        self.env = {**os.environ, "HOME": self.home, "PATH": os.path.join(folder, "bin") + ":" + os.environ["PATH"]}
-        for name in ("http_proxy", "https_proxy", "HTTP_PROXY", "HTTPS_PROXY", "no_proxy", "NO_PROXY"):
+        self.env = {
+            **os.environ,
+            "HOME": self.home,
+            "PATH": os.path.join(folder, "bin") + ":" + os.environ["PATH"],
+        }
+        for name in (
+            "http_proxy",
+            "https_proxy",
+            "HTTP_PROXY",
+            "HTTPS_PROXY",
+            "no_proxy",
+            "NO_PROXY",
+        ):
             self.env.pop(name, None)
 
-    def run(self, text):
-        """Runs one block; gives what went wrong, or None."""
-        text = text.replace("8118", str(self.port))
-        folder = self.top if re.search(r"conf/|tools/|~/", text) else os.path.join(self.top, "conf")
-        if " serve " in text:
-            self.serves = (text.strip(), folder)
-            return self.serve()
-        if "curl " in text:
-            failed = self.serve()
+    def run(self, block):
+        """Runs one block, line by line; gives what went wrong, or None. The proxy is started anew before each line that asks it."""
+        block = block.replace("8118", str(self.port))
+        folder = (
+            self.top if re.search(r"conf/|tools/|~/", block) else os.path.join(self.top, "conf")
+        )
+        for text in block.strip().splitlines():
+            failed = None
+            if " serve " in text:
+                self.serves = (text, folder)
+                failed = self.serve()
+            else:
+                failed = self.serve() if "curl " in text else None
+                failed = failed or self.line(text, folder)
             if failed:
-                return failed
-        ran = subprocess.run(["bash", "-euo", "pipefail", "-c", text], cwd=folder, env=self.env, capture_output=True, text=True, timeout=600)
-        return None if ran.returncode == 0 else "status %d\n%s%s" % (ran.returncode, ran.stdout[-500:], ran.stderr[-500:])
+                return text + "\n" + failed
+        return None
+
+    def line(self, text, folder):
+        ran = subprocess.run(
+            ["bash", "-euo", "pipefail", "-c", text],
+            cwd=folder,
+            env=self.env,
+            capture_output=True,
+            text=True,
+            timeout=600,
+        )
+        return (
+            None
+            if ran.returncode == 0
+            else "status %d\n%s%s" % (ran.returncode, ran.stdout[-500:], ran.stderr[-500:])
+        )
 
     def serve(self):
         """Starts the proxy that the last such command names, anew."""
@@ -91,7 +130,13 @@ class Sandbox:
         if self.serves is None:
             return "no proxy was started before"
         text, folder = self.serves
-        self.proxy = subprocess.Popen(["bash", "-c", "exec " + text], cwd=folder, env=self.env, stdout=subprocess.DEVNULL, stderr=subprocess.DEVNULL)
+        self.proxy = subprocess.Popen(
+            ["bash", "-c", "exec " + text],
+            cwd=folder,
+            env=self.env,
+            stdout=subprocess.DEVNULL,
+            stderr=subprocess.DEVNULL,
+        )
         for _ in range(600):
             try:
                 socket.create_connection(("127.0.0.1", self.port), 1).close()
@@ -112,25 +157,44 @@ class Sandbox:
         """Loads a piece of an actions file or a filter file; gives what went wrong, or None."""
         with tempfile.TemporaryDirectory() as folder:
             shutil.copytree(os.path.join(self.top, "conf"), os.path.join(folder, "conf"))
-            to = os.path.join(folder, "conf", "user.filter" if "FILTER:" in text or "TAGGER:" in text else "user.action")
+            to = os.path.join(
+                folder,
+                "conf",
+                "user.filter" if "FILTER:" in text or "TAGGER:" in text else "user.action",
+            )
             keep = "" if text.startswith("{{alias}}") else open(to, encoding="utf-8").read()
             with open(to, "w", encoding="utf-8") as file:
                 file.write(keep + "\n" + text)
-            ran = subprocess.run(["helmthread", "check", "config"], cwd=os.path.join(folder, "conf"), env=self.env, capture_output=True, text=True, timeout=600)
-        return None if ran.returncode == 0 and ran.stdout.startswith("ok:") else ran.stdout + ran.stderr
+            ran = subprocess.run(
+                ["helmthread", "check", "config"],
+                cwd=os.path.join(folder, "conf"),
+                env=self.env,
+                capture_output=True,
+                text=True,
+                timeout=600,
+            )
+        return (
+            None
+            if ran.returncode == 0 and ran.stdout.startswith("ok:")
+            else ran.stdout + ran.stderr
+        )
 
 
 def privoxy_folder(work):
     """A folder with Debian's configuration, or None."""
     sys.path.insert(0, HERE)
     from from_privoxy import privoxy_files
+
     return os.path.join(work, "stock") if privoxy_files(work) else None
 
 
 def pieces(text):
     """The rows of the table of lines that most people need, as pieces of an actions file."""
     table = text[text.index("### The lines that most people need") :].split("\n## ")[0]
-    return ["%s\n%s\n" % pair for pair in re.findall(r"^\| [^|]+ \| `(\{.*\})`, `([^`]+)` \|$", table, re.MULTILINE)]
+    return [
+        "%s\n%s\n" % pair
+        for pair in re.findall(r"^\| [^|]+ \| `(\{.*\})`, `([^`]+)` \|$", table, re.MULTILINE)
+    ]
 
 
 def main():
@@ -154,7 +218,10 @@ def main():
                 if "/etc/privoxy" in block:
                     stock = privoxy_folder(work)
                     if stock is None:
-                        print("manual.py: skipped, since Debian's package privoxy can't be had: " + block.splitlines()[0])
+                        print(
+                            "manual.py: skipped, since Debian's package privoxy can't be had: "
+                            + block.splitlines()[0]
+                        )
                         continue
                     block = block.replace("/etc/privoxy", stock)
                 counts[0] += 1
@@ -167,12 +234,24 @@ def main():
             if wrong:
                 failed += 1
                 print("manual.py: %s\n%s" % (block.rstrip(), wrong.rstrip()))
+        for told in (
+            "curl -s -x http://127.0.0.1:8118 http://www.travel.example/ | grep 'walks in the wood'",
+            "curl -s -x http://127.0.0.1:8118 http://www.far.example/ | grep parent.example.net:3128",
+        ):
+            counts[0] += 1
+            wrong = sandbox.run(told)
+            if wrong:
+                failed += 1
+                print("manual.py: what the manual tells of its tasks isn't so: " + wrong.rstrip())
         sandbox.stop()
     server.shutdown()
     if counts[0] < 10 or counts[1] < 10:
         failed += 1
         print("manual.py: only %d commands and %d pieces were found" % tuple(counts))
-    print("manual.py: %d blocks of commands and %d pieces of files, %s" % (*counts, "%d failed" % failed if failed else "all as the manual says"))
+    print(
+        "manual.py: %d blocks of commands and %d pieces of files, %s"
+        % (*counts, "%d failed" % failed if failed else "all as the manual says")
+    )
     return 1 if failed else 0
 
 

@@ -5,11 +5,19 @@ import os
 import re
 import sys
 
-SYNOPSIS = [r"\fBhelmthread serve\fR \fICONFIG\fR [\fIWORKERS\fR [\fICONNECTIONS\fR]]", r"\fBhelmthread check\fR \fICONFIG\fR",
-            r"\fBhelmthread show\fR \fICONFIG\fR \fIURL\fR [\fITAG\fR]...",
-            r"\fBhelmthread pass\fR \fICONFIG\fR \fIORIGIN\fR \fISENT\fR [\fITAG\fR]...", r"\fBhelmthread exercise\fR \fIN\fR"]
-FILES = [("/etc/helmthread/config", "the main file, which names the others"), ("/etc/helmthread/user.action", "what you want otherwise"),
-         ("/etc/helmthread/user.filter", "filters of your own"), ("/etc/helmthread/templates", "the pages that the proxy itself answers with")]
+SYNOPSIS = [
+    r"\fBhelmthread serve\fR \fICONFIG\fR [\fIWORKERS\fR [\fICONNECTIONS\fR]]",
+    r"\fBhelmthread check\fR \fICONFIG\fR",
+    r"\fBhelmthread show\fR \fICONFIG\fR \fIURL\fR [\fITAG\fR]...",
+    r"\fBhelmthread pass\fR \fICONFIG\fR \fIORIGIN\fR \fISENT\fR [\fITAG\fR]...",
+    r"\fBhelmthread exercise\fR \fIN\fR",
+]
+FILES = [
+    ("/etc/helmthread/config", "the main file, which names the others"),
+    ("/etc/helmthread/user.action", "what you want otherwise"),
+    ("/etc/helmthread/user.filter", "filters of your own"),
+    ("/etc/helmthread/templates", "the pages that the proxy itself answers with"),
+]
 
 
 def plain(text):
@@ -38,12 +46,19 @@ def body(text):
         line = lines[at]
         if line.startswith("```"):
             end = lines.index("```", at + 1)
-            out += [".PP", ".RS 4", ".nf"] + [plain(it) for it in lines[at + 1 : end]] + [".fi", ".RE"]
+            out += (
+                [".PP", ".RS 4", ".nf"] + [plain(it) for it in lines[at + 1 : end]] + [".fi", ".RE"]
+            )
             at = end
         elif line.startswith("|"):
             rows = []
             while at < len(lines) and lines[at].startswith("|"):
-                rows.append([cell.strip().replace("\\|", "|") for cell in re.split(r"(?<!\\)\|", lines[at].strip())[1:-1]])
+                rows.append(
+                    [
+                        cell.strip().replace("\\|", "|")
+                        for cell in re.split(r"(?<!\\)\|", lines[at].strip())[1:-1]
+                    ]
+                )
                 at += 1
             for row in rows[2:]:
                 out += [".TP", inline(row[0]), inline(". ".join(cell for cell in row[1:] if cell))]
@@ -57,7 +72,11 @@ def body(text):
 
 
 def head(name, section, version, said):
-    return ['.TH %s %d 2026 "Helmthread %s" "Helmthread"' % (name.upper(), section, version), ".SH NAME", "%s \\- %s" % (plain(name), plain(said))]
+    return [
+        '.TH %s %d 2026 "Helmthread %s" "Helmthread"' % (name.upper(), section, version),
+        ".SH NAME",
+        "%s \\- %s" % (plain(name), plain(said)),
+    ]
 
 
 def of_manual(manual, version):
@@ -68,14 +87,26 @@ def of_manual(manual, version):
     out = head("helmthread", 8, version, "filtering proxy for http") + [".SH SYNOPSIS"]
     for line in SYNOPSIS:
         out += [line, ".br"]
-    out += [".SH DESCRIPTION", "It stands between a browser and the net, and does with requests and pages what its configuration says. "
-            "/usr/share/doc/helmthread/MANUAL.md.gz is the whole manual."]
+    out += [
+        ".SH DESCRIPTION",
+        "It stands between a browser and the net, and does with requests and pages what its configuration says. "
+        "/usr/share/doc/helmthread/MANUAL.md.gz is the whole manual.",
+    ]
     for name in ("serve", "check", "show", "pass", "exercise"):
         out += [".SH " + name.upper()] + body(sections[name])
     out += [".SH EXIT STATUS"] + body(sections["Exit statuses"]) + [".SH FILES"]
     for name, said in FILES:
         out += [".TP", plain(name), plain(said)]
-    return "\n".join(out + [".SH SEE ALSO", "helmthread\\-lint(1), helmthread\\-from\\-privoxy(1), helmthread\\-from\\-hosts(1)"]) + "\n"
+    return (
+        "\n".join(
+            out
+            + [
+                ".SH SEE ALSO",
+                "helmthread\\-lint(1), helmthread\\-from\\-privoxy(1), helmthread\\-from\\-hosts(1)",
+            ]
+        )
+        + "\n"
+    )
 
 
 def of_script(path, version):
@@ -87,7 +118,15 @@ def of_script(path, version):
     first, usage, *rest = module.__doc__.strip("\n").split("\n\n")
     name = os.path.basename(path)
     said = first.rstrip(".")
-    out = head(name, 1, version, said[0].lower() + said[1:]) + [".SH SYNOPSIS", plain(usage.replace("usage: ", "")), ".SH DESCRIPTION"]
+    out = head(name, 1, version, said[0].lower() + said[1:]) + [
+        ".SH SYNOPSIS",
+        plain(usage.replace("usage: ", "")),
+        ".SH DESCRIPTION",
+    ]
     for part in rest:
-        out += [".PP", ".nf", plain(part), ".fi"] if part.startswith("  ") else [".PP", plain(part.replace("\n", " "))]
+        out += (
+            [".PP", ".nf", plain(part), ".fi"]
+            if part.startswith("  ")
+            else [".PP", plain(part.replace("\n", " "))]
+        )
     return "\n".join(out + [".SH SEE ALSO", "helmthread(8)"]) + "\n"

@@ -13,11 +13,20 @@ WORD = frozenset(b"ABCDEFGHIJKLMNOPQRSTUVWXYZabcdefghijklmnopqrstuvwxyz012345678
 BLANK = frozenset(b"\t \xa0")
 LINE_ENDS = frozenset(b"\n\v\f\r\x85")
 POSIX = {
-    "alnum": WORD - {95}, "alpha": WORD - DIGIT - {95}, "ascii": frozenset(range(128)), "blank": frozenset(b"\t "),
-    "cntrl": frozenset(range(32)) | {127}, "digit": DIGIT, "graph": frozenset(range(33, 127)),
-    "lower": frozenset(range(97, 123)), "print": frozenset(range(32, 127)),
-    "punct": frozenset(range(33, 127)) - (WORD - {95}), "space": SPACE, "upper": frozenset(range(65, 91)),
-    "word": WORD, "xdigit": frozenset(b"0123456789abcdefABCDEF"),
+    "alnum": WORD - {95},
+    "alpha": WORD - DIGIT - {95},
+    "ascii": frozenset(range(128)),
+    "blank": frozenset(b"\t "),
+    "cntrl": frozenset(range(32)) | {127},
+    "digit": DIGIT,
+    "graph": frozenset(range(33, 127)),
+    "lower": frozenset(range(97, 123)),
+    "print": frozenset(range(32, 127)),
+    "punct": frozenset(range(33, 127)) - (WORD - {95}),
+    "space": SPACE,
+    "upper": frozenset(range(65, 91)),
+    "word": WORD,
+    "xdigit": frozenset(b"0123456789abcdefABCDEF"),
 }
 CLASSES = {"d": DIGIT, "s": SPACE, "w": WORD, "h": BLANK, "v": LINE_ENDS, "N": ALL - {10}}
 CONTROLS = {"a": 7, "e": 27, "f": 12, "n": 10, "r": 13, "t": 9}
@@ -31,6 +40,7 @@ class Unread(Exception):
 @dataclass
 class Char:
     """One byte out of a set. `text` is how `regex` writes it."""
+
     bytes: frozenset
     text: str
 
@@ -38,6 +48,7 @@ class Char:
 @dataclass
 class Assertion:
     """`^`, `$`, `\\b` and the like, as `kind`; `text` is how `regex` writes it."""
+
     kind: str
     text: str
 
@@ -45,18 +56,21 @@ class Assertion:
 @dataclass
 class Back:
     """A back reference to the group of this number."""
+
     number: int
 
 
 @dataclass
 class Flags:
     """Flags in the middle, as `(?i)`."""
+
     text: str
 
 
 @dataclass
 class Group:
     """A group. `number` is 0 where it doesn't capture; `opener` is what stands behind `(`."""
+
     body: "Alt"
     number: int = 0
     opener: str = "?:"
@@ -65,6 +79,7 @@ class Group:
 @dataclass
 class Look:
     """Look-ahead or look-behind."""
+
     body: "Alt"
     ahead: bool
     negative: bool
@@ -78,6 +93,7 @@ class Keep:
 @dataclass
 class Repeat:
     """A node so many times; `high` is None where there is no bound. `lazy` says whether a `?` stands behind it."""
+
     node: object
     low: int
     high: object
@@ -87,12 +103,14 @@ class Repeat:
 @dataclass
 class Alt:
     """Branches between `|`, each a list of nodes."""
+
     branches: list
 
 
 @dataclass
 class Tree:
     """An expression that was read: its tree, how many groups capture, their names, and what is only nearly the same."""
+
     top: Alt
     groups: int
     names: dict
@@ -124,6 +142,7 @@ def byte_text(byte, in_class=False):
 
 def class_text(characters):
     """How `regex` writes a set of bytes; the shorter of the class and its complement."""
+
     def ranges(members):
         parts, members = [], sorted(members)
         while members:
@@ -137,14 +156,26 @@ def class_text(characters):
                 parts.append(byte_text(first, True) + "-" + byte_text(last, True))
             members = members[end + 1 :]
         return "".join(parts)
-    named = {DIGIT: "\\d", SPACE: "\\s", WORD: "\\w", ALL - DIGIT: "\\D", ALL - SPACE: "\\S", ALL - WORD: "\\W"}
+
+    named = {
+        DIGIT: "\\d",
+        SPACE: "\\s",
+        WORD: "\\w",
+        ALL - DIGIT: "\\D",
+        ALL - SPACE: "\\S",
+        ALL - WORD: "\\W",
+    }
     if characters in named:
         return named[characters]
     if len(characters) == 1:
         return byte_text(next(iter(characters)))
     if not characters:
         return "[^\\x00-\\xFF]"
-    return "[^" + ranges(ALL - characters) + "]" if 255 in characters else "[" + ranges(characters) + "]"
+    return (
+        "[^" + ranges(ALL - characters) + "]"
+        if 255 in characters
+        else "[" + ranges(characters) + "]"
+    )
 
 
 class Reader:
@@ -170,8 +201,12 @@ class Reader:
                 in_class = True
                 at += 1 if self.text[at + 1 : at + 2] == "^" else 0
                 at += 1 if self.text[at + 1 : at + 2] == "]" else 0
-            elif char == "(" and (self.text[at + 1 : at + 2] != "?" or self.text[at + 1 : at + 4] == "?P<"
-                                  or self.text[at + 1 : at + 3] in ("?<", "?'") and self.text[at + 3 : at + 4] not in ("=", "!")):
+            elif char == "(" and (
+                self.text[at + 1 : at + 2] != "?"
+                or self.text[at + 1 : at + 4] == "?P<"
+                or self.text[at + 1 : at + 3] in ("?<", "?'")
+                and self.text[at + 3 : at + 4] not in ("=", "!")
+            ):
                 total += 1
             at += 1
         return total
@@ -248,7 +283,11 @@ class Reader:
             low, comma, high = inner.partition(",")
             if not (low.isdigit() and (high == "" or high.isdigit())):
                 return None
-            self.at, low, high = end + 1, int(low), int(high) if high else None if comma else int(low)
+            self.at, low, high = (
+                end + 1,
+                int(low),
+                int(high) if high else None if comma else int(low),
+            )
         else:
             return None
         if self.take("+"):
@@ -355,12 +394,16 @@ class Reader:
         if char.lower() in "dsw" or char in "hHvV":
             found = CLASSES[char.lower()]
             found = ALL - found if char.isupper() else found
-            return found, "\\" + char if char.lower() in "dsw" else "".join(byte_text(b, True) for b in sorted(found))
+            return found, "\\" + char if char.lower() in "dsw" else "".join(
+                byte_text(b, True) for b in sorted(found)
+            )
         byte = self.number_escape(char, True)
         if byte is None:
             if char == "" or char.isalnum():
                 raise Unread("`\\%s` in a class isn't read" % char)
-            return ord(char), "\\" + char if char not in "<> " and ord(char) < 127 else byte_text(ord(char), True)
+            return ord(char), "\\" + char if char not in "<> " and ord(char) < 127 else byte_text(
+                ord(char), True
+            )
         return byte, byte_text(byte, True)
 
     def number_escape(self, char, in_class):
@@ -439,7 +482,11 @@ class Reader:
             return [self.literal(byte)]
         if char.isalnum():
             raise Unread("`\\%s` has no form here" % char)
-        return [self.literal(ord(char), "\\" + char if ord(char) < 127 and char not in "<> \t" else None)]
+        return [
+            self.literal(
+                ord(char), "\\" + char if ord(char) < 127 and char not in "<> \t" else None
+            )
+        ]
 
     def named_reference(self, char):
         """`\\g1`, `\\g{-1}`, `\\k<name>` and the like."""
@@ -466,7 +513,12 @@ class Reader:
         if self.take("?#"):
             self.until(")", "`(?#`")
             return []
-        looks = {"?=": (True, False), "?!": (True, True), "?<=": (False, False), "?<!": (False, True)}
+        looks = {
+            "?=": (True, False),
+            "?!": (True, True),
+            "?<=": (False, False),
+            "?<!": (False, True),
+        }
         for opener in ("?<=", "?<!", "?=", "?!"):
             if self.take(opener):
                 return [Look(self.inner(), *looks[opener])]
@@ -477,8 +529,13 @@ class Reader:
             if self.take(opener):
                 name = self.until(closer, "`(%s`" % opener)
                 return [self.capturing(name)]
-        if self.peek() == "*" or self.peek(2) in ("?|", "?(", "?R", "?&") or self.peek(3) == "?P>" or self.peek(2)[1:].isdigit() \
-                and self.peek() == "?":
+        if (
+            self.peek() == "*"
+            or self.peek(2) in ("?|", "?(", "?R", "?&")
+            or self.peek(3) == "?P>"
+            or self.peek(2)[1:].isdigit()
+            and self.peek() == "?"
+        ):
             raise Unread("`(%s` has no form here" % self.peek(2))
         if not self.take("?"):
             return [self.capturing(None)]
@@ -492,7 +549,12 @@ class Reader:
         text = self.text[start : self.at].replace("J", "")
         saved = self.caseless, self.dotall, self.extended, self.multiline
         on, _, off = text.partition("-")
-        for letter, name in (("i", "caseless"), ("s", "dotall"), ("x", "extended"), ("m", "multiline")):
+        for letter, name in (
+            ("i", "caseless"),
+            ("s", "dotall"),
+            ("x", "extended"),
+            ("m", "multiline"),
+        ):
             if letter in on:
                 setattr(self, name, True)
             if letter in off:
@@ -533,8 +595,11 @@ def parse(text, flags=""):
     return Tree(top, reader.groups, reader.names, reader.nearly)
 
 
-NOT_READ = re.compile(r"""\\[<>hHvVRNQEKegkcZ0-9] | \{(?!\d+(?:,\d*)?\}) | \(\?[#>'|=!]|\(\?<[=!] | [*+?}]\+
-                          | \[[^\]]*(?:\[(?!:)|&&|--|~~) | [^\x00-\x7e]""", re.VERBOSE)
+NOT_READ = re.compile(
+    r"""\\[<>hHvVRNQEKegkcZ0-9] | \{(?!\d+(?:,\d*)?\}) | \(\?[#>'|=!]|\(\?<[=!] | [*+?}]\+
+                          | \[[^\]]*(?:\[(?!:)|&&|--|~~) | [^\x00-\x7e]""",
+    re.VERBOSE,
+)
 
 
 def is_read_as_it_is(text):
@@ -567,7 +632,9 @@ def write_node(node):
         raise Unread("a back reference (`\\%d`) has no form here" % node.number)
     if isinstance(node, Look):
         name = "(?" + ("" if node.ahead else "<") + ("!" if node.negative else "=")
-        raise Unread("%s (`%s..)`) has no form here" % ("look-ahead" if node.ahead else "look-behind", name))
+        raise Unread(
+            "%s (`%s..)`) has no form here" % ("look-ahead" if node.ahead else "look-behind", name)
+        )
     raise Unread("`\\K` has no form here")
 
 
@@ -581,12 +648,18 @@ def joined(branch):
     out, at = [], 0
     while at < len(branch):
         run = []
-        while at + len(run) < len(branch) and isinstance(branch[at + len(run)], Char) and len(branch[at + len(run)].bytes) == 1 \
-                and min(branch[at + len(run)].bytes) > 127:
+        while (
+            at + len(run) < len(branch)
+            and isinstance(branch[at + len(run)], Char)
+            and len(branch[at + len(run)].bytes) == 1
+            and min(branch[at + len(run)].bytes) > 127
+        ):
             run.append(min(branch[at + len(run)].bytes))
         if run:
             try:
-                out.append(Char(frozenset(), bytes(run).decode("utf-8").encode("utf-8").decode("latin-1")))
+                out.append(
+                    Char(frozenset(), bytes(run).decode("utf-8").encode("utf-8").decode("latin-1"))
+                )
                 at += len(run)
                 continue
             except UnicodeDecodeError:

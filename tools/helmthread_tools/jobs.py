@@ -14,6 +14,7 @@ SHOWN_CHARS = {"\n": "\\n", "\r": "\\r", "\t": "\\t", "\f": "\\f"}
 @dataclass
 class Job:
     """A job as it is written."""
+
     delimiter: str
     pattern: str
     substitute: str
@@ -23,6 +24,7 @@ class Job:
 @dataclass
 class Made:
     """What a job became: the jobs that stand for it, what is only nearly the same, and whether its text changed."""
+
     jobs: list
     nearly: list = field(default_factory=list)
     changed: bool = False
@@ -60,7 +62,11 @@ def items(substitute, groups):
         char, after = substitute[at], substitute[at + 1 : at + 2]
         group = None
         if char == "\\" and after:
-            if after == "x" and len(substitute) >= at + 4 and all(c in "0123456789abcdefABCDEF" for c in substitute[at + 2 : at + 4]):
+            if (
+                after == "x"
+                and len(substitute) >= at + 4
+                and all(c in "0123456789abcdefABCDEF" for c in substitute[at + 2 : at + 4])
+            ):
                 text += chr(int(substitute[at + 2 : at + 4], 16))
                 at += 4
             else:
@@ -116,13 +122,19 @@ def substitute_text(found, places):
     return "".join(out)
 
 
-def is_plain_bytes(tree, flags):
+def is_plain_bytes(top, flags):
     """Whether the expression means the same in bytes and in characters."""
     if "i" in flags:
         return False
-    for node in rewriting.nodes(tree.top):
-        if isinstance(node, Char) and (len(node.bytes) > 1 and max(node.bytes) > 127 or node.text in ("\\d", "\\s", "\\w")
-                                       or node.text.startswith("[") or len(node.bytes) == 1 and min(node.bytes) > 127):
+    for node in rewriting.nodes(top):
+        if isinstance(node, Char) and (
+            len(node.bytes) > 1
+            and max(node.bytes) > 127
+            or node.text in ("\\d", "\\s", "\\w")
+            or node.text.startswith("[")
+            or len(node.bytes) == 1
+            and min(node.bytes) > 127
+        ):
             return False
         if isinstance(node, Assertion) and node.kind in "bB":
             return False
@@ -132,11 +144,19 @@ def is_plain_bytes(tree, flags):
 def wrap_whole(top):
     """Puts what `$0` stands for into a group, between what is put back."""
     for branch in top.branches:
+
         def kept(node):
             return isinstance(node, Group) and node.number in (rewriting.BEFORE, rewriting.AFTER)
+
         first = next((at for at, node in enumerate(branch) if not kept(node)), 0)
-        last = next((at for at in range(len(branch), 0, -1) if not kept(branch[at - 1]) and not
-                     (isinstance(branch[at - 1], Assertion))), 0)
+        last = next(
+            (
+                at
+                for at in range(len(branch), 0, -1)
+                if not kept(branch[at - 1]) and not (isinstance(branch[at - 1], Assertion))
+            ),
+            0,
+        )
         middle = branch[first:last]
         if any(kept(node) for node in rewriting.nodes(Alt([middle]))):
             raise Unread("`$0` beside look-around in the middle has no form here")
@@ -164,7 +184,9 @@ def convert_texts(job, flags, content, only):
     if content and "m" not in flags and not ("D" in flags and "$" in job.pattern):
         rewriting.line_end(top, flags, nearly)
     used = {item for item in found if isinstance(item, int)}
-    kept = {node.number for node in rewriting.nodes(top) if isinstance(node, Group) and node.number < 0}
+    kept = {
+        node.number for node in rewriting.nodes(top) if isinstance(node, Group) and node.number < 0
+    }
     if kept and 0 in used:
         wrap_whole(top)
         kept.add(WHOLE)
@@ -186,13 +208,18 @@ def convert_texts(job, flags, content, only):
         flags = flags.replace("T", "")
     as_it_is = not (rewritten or kept or "x" in flags) and is_read_as_it_is(job.pattern)
     pattern = job.pattern if as_it_is else write(top)
-    if not is_plain_bytes(tree, flags):
+    if not is_plain_bytes(top, flags):
         pattern = "(?-u)" + pattern
     substitute = job.substitute if "T" in flags else substitute_text(found, places)
     if not is_utf8(substitute):
         substitute = recoded(substitute)
         nearly.append("what is put in is UTF-8")
-    made = Job(job.delimiter, pattern, substitute, "".join(flag for flag in dict.fromkeys(flags) if flag != "x"))
+    made = Job(
+        job.delimiter,
+        pattern,
+        substitute,
+        "".join(flag for flag in dict.fromkeys(flags) if flag != "x"),
+    )
     return Made([made], nearly, rewritten)
 
 
@@ -204,7 +231,11 @@ def hides_matches(top):
             return True
         if isinstance(node, Group) and node.number == rewriting.AFTER:
             for inner in rewriting.nodes(node.body):
-                if isinstance(inner, Char) and inner.bytes & begins and inner.bytes != frozenset({10}):
+                if (
+                    isinstance(inner, Char)
+                    and inner.bytes & begins
+                    and inner.bytes != frozenset({10})
+                ):
                     return True
     return False
 

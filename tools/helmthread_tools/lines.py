@@ -8,6 +8,7 @@ FILE_LIMIT = 1048576
 @dataclass
 class Line:
     """A logical line: the number of its first physical line, its text without comments, and its physical lines as they stand."""
+
     number: int
     text: str
     raw: list = field(default_factory=list)

@@ -7,14 +7,20 @@ from .lines import FILE_LIMIT, LINE_LIMIT, escaped, logical, recoded, shown
 
 # What stands for a filter of Debian's that may have nothing left, among the filters of conf/default.filter.
 STANDS_FOR = {
-    "all-popups": "same-window and quiet-windows", "banners-by-size": "banner-sizes", "jumping-windows": "still-windows",
-    "no-ping": "no-pings", "refresh-tags": "no-reload", "unsolicited-popups": "quiet-windows", "webbugs": "tiny-images",
+    "all-popups": "same-window and quiet-windows",
+    "banners-by-size": "banner-sizes",
+    "jumping-windows": "still-windows",
+    "no-ping": "no-pings",
+    "refresh-tags": "no-reload",
+    "unsolicited-popups": "quiet-windows",
+    "webbugs": "tiny-images",
 }
 
 
 @dataclass
 class Told:
     """What is told of one filter: its kind and name, jobs of before and of now, what differs, what was left out."""
+
     kind: str
     name: str
     before: int = 0
@@ -26,6 +32,7 @@ class Told:
 @dataclass
 class Report:
     """What the whole conversion has to tell. `used` has the actions of all sections and the values that they were given."""
+
     filters: list = field(default_factory=list)
     notes: list = field(default_factory=list)
     left: list = field(default_factory=list)
@@ -55,6 +62,7 @@ def joined(lines):
 
 # Filter files.
 
+
 def filter_file(data, name, report):
     """The converted file's bytes."""
     out, told, seen, skipping = [], None, set(), False
@@ -67,7 +75,10 @@ def filter_file(data, name, report):
             unread = kind in tables.UNREAD_KINDS
             skipping = not words or not unread and key in seen
             if skipping:
-                report.leave(place, "a filter without a name" if not words else "a second filter %s" % words[0])
+                report.leave(
+                    place,
+                    "a filter without a name" if not words else "a second filter %s" % words[0],
+                )
                 out += out_of_use(line)
                 continue
             seen.add(key)
@@ -107,9 +118,11 @@ def filter_job(line, told):
 
 # Patterns.
 
+
 @dataclass
 class Patterns:
     """What a pattern became: patterns, and ones that take back a block where the first ones match too much."""
+
     patterns: list
     taken_back: list = field(default_factory=list)
 
@@ -120,12 +133,16 @@ def without_look(text, anchored):
     for number in rewriting.references(tree.top):
         rewriting.expand(tree.top, number, False)
     try:
-        made = rewriting.Resolver([], True, anchored).alt(rewriting.flattened(tree.top, set()), True, True)
+        made = rewriting.Resolver([], True, anchored).alt(
+            rewriting.flattened(tree.top, set()), True, True
+        )
         return write(rewriting.flattened(made, set())), None
     except Unread:
         tree = parse(text, "i")
     looks = [node for node in rewriting.nodes(tree.top) if isinstance(node, rewriting.Look)]
-    last = tree.top.branches[0][-1] if len(tree.top.branches) == 1 and tree.top.branches[0] else None
+    last = (
+        tree.top.branches[0][-1] if len(tree.top.branches) == 1 and tree.top.branches[0] else None
+    )
     if len(looks) != 1 or looks[0] is not last or not (last.ahead and last.negative):
         raise Unread("look-around in this place has no form here")
     front = write(rewriting.Alt([tree.top.branches[0][:-1]]))
@@ -162,6 +179,7 @@ def readable(expression):
 
 # Actions files.
 
+
 class ActionsFile:
     """Converts one actions file."""
 
@@ -188,7 +206,9 @@ class ActionsFile:
                 self.out += as_it_stands(line)
         if self.front:
             at = len(self.out) if self.front_at is None else self.front_at
-            head = ["# Patterns with look-around, each without it, and a section that takes back what it left out."]
+            head = [
+                "# Patterns with look-around, each without it, and a section that takes back what it left out."
+            ]
             self.out[at:at] = head + self.front + [""]
         return joined(self.out)
 
@@ -199,9 +219,15 @@ class ActionsFile:
         end = tables.heading_end(line.text)
         if end != len(line.text) - 1:
             if end > 0 and not line.text.startswith("{{"):
-                self.report.note(self.place(line), "what stood behind `}` is a pattern of its own line")
+                self.report.note(
+                    self.place(line), "what stood behind `}` is a pattern of its own line"
+                )
                 self.section(line, line.text[: end + 1])
-                self.pattern(type(line)(line.number, line.text[end + 1 :].strip(" \t"), [line.text[end + 1 :]]))
+                self.pattern(
+                    type(line)(
+                        line.number, line.text[end + 1 :].strip(" \t"), [line.text[end + 1 :]]
+                    )
+                )
                 return
             raise SystemExit("%s: braces don't balance" % self.place(line))
         inner = line.text[1:-1]
@@ -245,14 +271,25 @@ class ActionsFile:
     def alias(self, line):
         name, equals, rest = line.text.partition("=")
         name = name.strip(" \t")
-        if not equals or not name or any(c in " \t{}" for c in name) or name.lower() in self.aliases:
+        if (
+            not equals
+            or not name
+            or any(c in " \t{}" for c in name)
+            or name.lower() in self.aliases
+        ):
             self.report.leave(self.place(line), "an alias that can't be read, or stands twice")
             self.out += out_of_use(line)
             return
         words = tables.words_of(rest)
         made = [new for word in words for new in self.word(word, line, self.aliases)]
-        self.aliases[name.lower()] = [new for word in made for new in self.aliases.get(word.lower(), [word])]
-        self.out += as_it_stands(line) if made == words else [recoded(escaped("%s = %s" % (name, " ".join(made))))]
+        self.aliases[name.lower()] = [
+            new for word in made for new in self.aliases.get(word.lower(), [word])
+        ]
+        self.out += (
+            as_it_stands(line)
+            if made == words
+            else [recoded(escaped("%s = %s" % (name, " ".join(made))))]
+        )
 
     def word(self, word, line, aliases):
         """The words that stand for a word of a section or of an alias."""
@@ -280,14 +317,20 @@ class ActionsFile:
                 return ["+%s{simple-check}" % name]
             self.report.leave(place, "`%s` without a value" % shown(word))
             return []
-        if key in tables.FIXED_WORDS and value not in tables.FIXED_WORDS[key] and value.lower() in tables.FIXED_WORDS[key]:
+        if (
+            key in tables.FIXED_WORDS
+            and value not in tables.FIXED_WORDS[key]
+            and value.lower() in tables.FIXED_WORDS[key]
+        ):
             return ["+%s{%s}" % (name, value.lower())]
         if key == "redirect" and len(value) > 2 and value[0] == "s" and not value[1].isalnum():
             return self.redirect(word, name, value, place)
         if not tables.value_is_allowed(key, value):
             mended = {"fast-redirects": "simple-check"}.get(key)
             if rule == "ports":
-                mended = value.replace("0-", "-") if tables.is_ports(value.replace("0-", "-")) else None
+                mended = (
+                    value.replace("0-", "-") if tables.is_ports(value.replace("0-", "-")) else None
+                )
             if mended:
                 self.report.note(place, "`%s` became {%s}" % (shown(word), mended))
                 return ["+%s{%s}" % (name, mended)]
@@ -327,22 +370,47 @@ class ActionsFile:
 
     def pair(self, line, made):
         """The pattern without look-around and a section that takes it back, before all other sections."""
-        blocks = any(tables.parted(word)[:2] == ("+", "block") for word in self.effective(self.words))
+        blocks = any(
+            tables.parted(word)[:2] == ("+", "block") for word in self.effective(self.words)
+        )
         if not blocks:
-            self.report.leave(self.place(line), "the pattern `%s`: look-around in a section that doesn't block" % shown(line.text))
+            self.report.leave(
+                self.place(line),
+                "the pattern `%s`: look-around in a section that doesn't block" % shown(line.text),
+            )
         else:
-            self.front += [recoded(escaped(t)) for t in ["{%s}" % " ".join(self.words), *made.patterns, "{-block}", *made.taken_back]]
-            self.report.note(self.place(line), "the pattern `%s` stands in front of the file, with a section {-block} behind it" % shown(line.text))
+            self.front += [
+                recoded(escaped(t))
+                for t in [
+                    "{%s}" % " ".join(self.words),
+                    *made.patterns,
+                    "{-block}",
+                    *made.taken_back,
+                ]
+            ]
+            self.report.note(
+                self.place(line),
+                "the pattern `%s` stands in front of the file, with a section {-block} behind it"
+                % shown(line.text),
+            )
         self.out += out_of_use(line)
 
 
 # The main file.
 
+
 class MainFile:
     """Converts a main file. `files` gets (kind, name as written) for each file that it names."""
 
     def __init__(self, data, report):
-        self.lines, self.report, self.files, self.listens, self.tags, self.files_end = logical(data), report, [], False, set(), None
+        self.lines, self.report, self.files, self.listens, self.tags, self.files_end = (
+            logical(data),
+            report,
+            [],
+            False,
+            set(),
+            None,
+        )
         self.kept = {"actionsfile": [], "filterfile": []}
 
     def names(self):
@@ -361,7 +429,9 @@ class MainFile:
         an actions file that is read before all others."""
         out, done = [], False
         for line in self.lines:
-            directive, _, value = line.text.partition(" ") if " " in line.text else line.text.partition("\t")
+            directive, _, value = (
+                line.text.partition(" ") if " " in line.text else line.text.partition("\t")
+            )
             directive, value = directive.lower(), value.strip(" \t")
             if directive == "actionsfile" and not done:
                 out += ["# Read first: what holds for all pages.", "actionsfile %s" % first]
@@ -374,13 +444,20 @@ class MainFile:
                 out += self.directive(line, directive, value)
         if not done:
             out.append("actionsfile %s" % first)
-        out += ["", "# Where these files stand, and Helmthread's own pages.", "confdir " + folder, "templdir " + folder + "/templates"]
+        out += [
+            "",
+            "# Where these files stand, and Helmthread's own pages.",
+            "confdir " + folder,
+            "templdir " + folder + "/templates",
+        ]
         return joined(out)
 
     def file_line(self, line, directive, value, renamed):
         new = renamed.get(value)
         if new is None:
-            self.report.leave("config:%d" % line.number, "%s %s: the file isn't there" % (directive, shown(value)))
+            self.report.leave(
+                "config:%d" % line.number, "%s %s: the file isn't there" % (directive, shown(value))
+            )
             return out_of_use(line)
         return as_it_stands(line) if new == value else ["%s %s" % (directive, new)]
 
@@ -389,8 +466,12 @@ class MainFile:
         if name in ("confdir", "templdir"):
             return out_of_use(line)
         if name in tables.SOCKS:
-            self.report.note(place, "`%s %s` is kept. Where `check` refuses it (29), this program doesn't know SOCKS parents; "
-                             "requests would go another way without the line, so it wasn't taken out" % (name, shown(value)))
+            self.report.note(
+                place,
+                "`%s %s` is kept. Where `check` refuses it (29), this program doesn't know SOCKS parents; "
+                "requests would go another way without the line, so it wasn't taken out"
+                % (name, shown(value)),
+            )
             return as_it_stands(line)
         if name not in tables.DIRECTIVES:
             why = tables.ELSEWHERE.get(name, "no such directive")
@@ -401,14 +482,19 @@ class MainFile:
     def listen_address(self, line, value, place):
         right, here = tables.listens_here(value)
         if self.listens:
-            self.report.leave(place, "`listen-address %s`: it listens at one address" % shown(value))
+            self.report.leave(
+                place, "`listen-address %s`: it listens at one address" % shown(value)
+            )
             return out_of_use(line)
         self.listens = True
         if right and here:
             return as_it_stands(line)
         port = value.rpartition(":")[2]
         new = "127.0.0.1" + (":" + port if port.isdigit() and 0 < int(port) < 65536 else "")
-        self.report.note(place, "`listen-address %s` became %s: it serves this machine alone" % (shown(value), new))
+        self.report.note(
+            place,
+            "`listen-address %s` became %s: it serves this machine alone" % (shown(value), new),
+        )
         return ["listen-address " + new]
 
     def buffer_limit(self, line, value, place):
@@ -421,7 +507,10 @@ class MainFile:
         words = value.split()
         if len(words) == 2 and tables.is_parent(words[1]):
             return as_it_stands(line)
-        self.report.leave(place, "`forward %s`: a parent is a host, or host:port, without a password" % shown(value))
+        self.report.leave(
+            place,
+            "`forward %s`: a parent is a host, or host:port, without a password" % shown(value),
+        )
         return out_of_use(line)
 
     def switch(self, line, value, place):
@@ -439,7 +528,11 @@ class MainFile:
             self.report.leave(place, "`client-specific-tag %s` stands twice" % shown(value))
             return out_of_use(line)
         self.tags.add(words[0])
-        return as_it_stands(line) if len(words) == 2 else ["client-specific-tag %s %s" % (words[0], words[0])]
+        return (
+            as_it_stands(line)
+            if len(words) == 2
+            else ["client-specific-tag %s %s" % (words[0], words[0])]
+        )
 
 
 __all__ = ["ActionsFile", "FILE_LIMIT", "MainFile", "Report", "STANDS_FOR", "filter_file"]

@@ -5,7 +5,23 @@ stands beside it: `(?=\\D)[^>]*` is `(?:[^>\\d][^>]*)?`. At an expression's end 
 """
 import copy
 
-from .expressions import ALL, Alt, Assertion, Back, Char, Flags, Group, Keep, Look, Repeat, Unread, WORD, byte_text, class_text, write
+from .expressions import (
+    ALL,
+    Alt,
+    Assertion,
+    Back,
+    Char,
+    Flags,
+    Group,
+    Keep,
+    Look,
+    Repeat,
+    Unread,
+    WORD,
+    byte_text,
+    class_text,
+    write,
+)
 
 BEFORE, AFTER = -1, -2
 MOST_BRANCHES = 80
@@ -44,6 +60,7 @@ def has_look(alt):
 
 # Back references.
 
+
 def texts(alt, ungreedy):
     """The few texts of a group, in the order in which they are tried, each a list of nodes."""
     found = []
@@ -74,7 +91,11 @@ def texts_of(node, ungreedy):
 def always_there(node, number):
     """Whether each match of the node takes part in the group."""
     if isinstance(node, Group):
-        return node.number == number or len(node.body.branches) == 1 and any(always_there(n, number) for n in node.body.branches[0])
+        return (
+            node.number == number
+            or len(node.body.branches) == 1
+            and any(always_there(n, number) for n in node.body.branches[0])
+        )
     return isinstance(node, Repeat) and node.low > 0 and always_there(node.node, number)
 
 
@@ -85,14 +106,40 @@ def replaced(node, number, word):
     if isinstance(node, Group):
         if node.number == number:
             return [Group(Alt([list(word)]), number, node.opener)] if word else []
-        return [Group(Alt([[n for m in branch for n in replaced(m, number, word)] for branch in node.body.branches]), node.number, node.opener)]
+        return [
+            Group(
+                Alt(
+                    [
+                        [n for m in branch for n in replaced(m, number, word)]
+                        for branch in node.body.branches
+                    ]
+                ),
+                node.number,
+                node.opener,
+            )
+        ]
     if isinstance(node, Look):
-        return [Look(Alt([[n for m in branch for n in replaced(m, number, word)] for branch in node.body.branches]), node.ahead, node.negative)]
+        return [
+            Look(
+                Alt(
+                    [
+                        [n for m in branch for n in replaced(m, number, word)]
+                        for branch in node.body.branches
+                    ]
+                ),
+                node.ahead,
+                node.negative,
+            )
+        ]
     if isinstance(node, Repeat):
         inner = replaced(node.node, number, word)
         if not inner:
             return []
-        return [Repeat(inner[0] if len(inner) == 1 else Group(Alt([inner])), node.low, node.high, node.lazy)]
+        return [
+            Repeat(
+                inner[0] if len(inner) == 1 else Group(Alt([inner])), node.low, node.high, node.lazy
+            )
+        ]
     return [node]
 
 
@@ -113,12 +160,16 @@ def expand(alt, number, ungreedy, only=None):
         places = [at for at, node in enumerate(branch) if concerns(node, number)]
         if not places:
             continue
-        if not any(isinstance(n, Back) and n.number == number for at in places for n in below(branch[at])):
+        if not any(
+            isinstance(n, Back) and n.number == number for at in places for n in below(branch[at])
+        ):
             continue
         if len(places) == 1:
             node = branch[places[0]]
             inner = node.node if isinstance(node, Repeat) else node
-            if isinstance(inner, (Group, Look)) and not (isinstance(inner, Group) and inner.number == number):
+            if isinstance(inner, (Group, Look)) and not (
+                isinstance(inner, Group) and inner.number == number
+            ):
                 expand(inner.body, number, ungreedy, only)
                 if isinstance(node, Repeat) and node.high is None:
                     branch[places[0] : places[0] + 1] = last_apart(node)
@@ -129,13 +180,22 @@ def expand(alt, number, ungreedy, only=None):
             raise Unread("`\\%d` refers to a group that may be missing" % number)
         words = texts(definition(Alt([[branch[first]]]), number).body, ungreedy)
         words = words if only is None else [words[only]]
-        variants = [[n for node in branch[first : last + 1] for n in replaced(copy.deepcopy(node), number, word)] for word in words]
+        variants = [
+            [
+                n
+                for node in branch[first : last + 1]
+                for n in replaced(copy.deepcopy(node), number, word)
+            ]
+            for word in words
+        ]
         branch[first : last + 1] = [Group(Alt(variants))] if len(variants) > 1 else variants[0]
 
 
 def last_apart(node):
     """A repetition with its last turn apart, so that groups in it hold what that turn matched and nothing of turns before."""
-    plain = Repeat(flat_node(copy.deepcopy(node.node), set()), max(node.low - 1, 0), None, node.lazy)
+    plain = Repeat(
+        flat_node(copy.deepcopy(node.node), set()), max(node.low - 1, 0), None, node.lazy
+    )
     if node.low > 0:
         return [plain, node.node]
     return [Repeat(Group(Alt([[plain, node.node]])), 0, 1, node.lazy)]
@@ -143,11 +203,17 @@ def last_apart(node):
 
 # Look-around.
 
+
 class Restriction:
     """What must, or mustn't, stand at one place: words, each a tuple of sets of bytes."""
 
     def __init__(self, look, edge, notes):
-        self.positive, self.behind, self.edge, self.notes = not look.negative, not look.ahead, edge, notes
+        self.positive, self.behind, self.edge, self.notes = (
+            not look.negative,
+            not look.ahead,
+            edge,
+            notes,
+        )
 
     def order(self, sequence):
         return list(reversed(sequence)) if self.behind else list(sequence)
@@ -192,10 +258,18 @@ class Restriction:
 
     def over_group(self, node, rest, words, budget):
         if node.number == 0 and node.opener == "?:":
-            return [b for branch in node.body.branches for b in self.apply(self.order(branch) + rest, words, budget)]
+            return [
+                b
+                for branch in node.body.branches
+                for b in self.apply(self.order(branch) + rest, words, budget)
+            ]
         saved, self.edge = self.edge, "no"
         try:
-            inner = [self.order(b) for branch in node.body.branches for b in self.apply(self.order(branch), words, budget)]
+            inner = [
+                self.order(b)
+                for branch in node.body.branches
+                for b in self.apply(self.order(branch), words, budget)
+            ]
         finally:
             self.edge = saved
         return [[Group(Alt(inner), node.number, node.opener), *rest]] if inner else []
@@ -270,7 +344,12 @@ def any_length_negative(look):
     if len(look.body.branches) != 1 or not look.body.branches[0]:
         return None
     star, *rest = look.body.branches[0]
-    if not (isinstance(star, Repeat) and star.low == 0 and star.high is None and isinstance(star.node, Char)):
+    if not (
+        isinstance(star, Repeat)
+        and star.low == 0
+        and star.high is None
+        and isinstance(star.node, Char)
+    ):
         return None
     words = words_of(Alt([rest]))
     firsts = frozenset().union(*(word[0] for word in words if word)) if all(words) else ALL
@@ -290,16 +369,24 @@ def factored(alternatives, behind_context=()):
     if len(alternatives) == 1:
         return alternatives[0]
     front = 0
-    while all(len(a) > front for a in alternatives) and all(a[front] is alternatives[0][front] for a in alternatives):
+    while all(len(a) > front for a in alternatives) and all(
+        a[front] is alternatives[0][front] for a in alternatives
+    ):
         front += 1
     end = 0
-    while all(len(a) - front > end for a in alternatives) and all(a[-1 - end] is alternatives[0][-1 - end] for a in alternatives):
+    while all(len(a) - front > end for a in alternatives) and all(
+        a[-1 - end] is alternatives[0][-1 - end] for a in alternatives
+    ):
         end += 1
     middles = [a[front : len(a) - end] for a in alternatives]
     suffix = alternatives[0][len(alternatives[0]) - end :] if end else []
     if [] in middles and len(middles) == 2:
         other = middles[1] if middles[0] == [] else middles[0]
-        node = other[0] if len(other) == 1 and isinstance(other[0], (Char, Group)) else Group(Alt([other]))
+        node = (
+            other[0]
+            if len(other) == 1 and isinstance(other[0], (Char, Group))
+            else Group(Alt([other]))
+        )
         middle = Repeat(node, 0, 1, middles[0] == [])
     else:
         middle = Group(Alt(middles))
@@ -321,20 +408,38 @@ class Resolver:
     def branch(self, branch, front, end):
         """The branch without look-around."""
         for _ in range(60):
-            at = next((i for i, node in enumerate(branch) if isinstance(node, Look)
-                       or children(node) and any(has_look(child) for child in children(node))), None)
+            at = next(
+                (
+                    i
+                    for i, node in enumerate(branch)
+                    if isinstance(node, Look)
+                    or children(node)
+                    and any(has_look(child) for child in children(node))
+                ),
+                None,
+            )
             if at is None:
                 return branch
             node = branch[at]
             if isinstance(node, Look):
-                branch = self.ahead(branch, at, end) if node.ahead else self.behind(branch, at, front)
+                branch = (
+                    self.ahead(branch, at, end) if node.ahead else self.behind(branch, at, front)
+                )
             elif isinstance(node, Group):
                 branch = self.group(branch, at, front, end)
             else:
                 inner = node.node
-                made = self.alt(inner.body if isinstance(inner, Group) else Alt([[inner]]), False, False)
-                shell = Group(made, inner.number, inner.opener) if isinstance(inner, Group) else Group(made)
-                branch = branch[:at] + [Repeat(shell, node.low, node.high, node.lazy)] + branch[at + 1 :]
+                made = self.alt(
+                    inner.body if isinstance(inner, Group) else Alt([[inner]]), False, False
+                )
+                shell = (
+                    Group(made, inner.number, inner.opener)
+                    if isinstance(inner, Group)
+                    else Group(made)
+                )
+                branch = (
+                    branch[:at] + [Repeat(shell, node.low, node.high, node.lazy)] + branch[at + 1 :]
+                )
         raise Unread("more look-around than can be taken out")
 
     def group(self, branch, at, front, end):
@@ -343,7 +448,11 @@ class Resolver:
         first = [b for b in node.body.branches if b and isinstance(b[0], Look) and not b[0].ahead]
         if first and node.number == 0 and node.opener == "?:" and at > 0:
             others = [b for b in node.body.branches if b not in first]
-            made = [branch[:at] + ([Group(Alt(others))] if len(others) > 1 else others[0])] if others else []
+            made = (
+                [branch[:at] + ([Group(Alt(others))] if len(others) > 1 else others[0])]
+                if others
+                else []
+            )
             made += [self.branch(branch[:at] + b, front, False) for b in first]
             return factored(made) + branch[at + 1 :]
         open_front = front and at == 0 and node.number == 0
@@ -377,7 +486,9 @@ class Resolver:
             for look in negative:
                 restriction = Restriction(look, "keep", self.notes)
                 words = words_of(look.body)
-                sequences = [b for s in sequences for b in restriction.apply(s, words, [MOST_BRANCHES])]
+                sequences = [
+                    b for s in sequences for b in restriction.apply(s, words, [MOST_BRANCHES])
+                ]
             for sequence in sequences:
                 for node in below(Group(Alt([sequence]))):
                     if isinstance(node, Group) and node.number < 0:
@@ -397,7 +508,10 @@ class Resolver:
             return [Assertion("b", "\\b"), *branch[at + 1 :]]
         restriction = Restriction(look, self.edge(front, False), self.notes)
         words = [tuple(reversed(word)) for word in words_of(look.body)]
-        made = [list(reversed(b)) for b in restriction.apply(list(reversed(branch[:at])), words, [MOST_BRANCHES])]
+        made = [
+            list(reversed(b))
+            for b in restriction.apply(list(reversed(branch[:at])), words, [MOST_BRANCHES])
+        ]
         if not made:
             raise Unread("look-around that never holds")
         return factored(made) + branch[at + 1 :]
@@ -425,8 +539,14 @@ def firsts(sequence):
 def is_word_start(look, rest):
     """`(?<=\\W)` before a letter."""
     body = look.body.branches
-    return not look.negative and len(body) == 1 and len(body[0]) == 1 and isinstance(body[0][0], Char) \
-        and body[0][0].bytes == ALL - WORD and firsts(rest) <= WORD
+    return (
+        not look.negative
+        and len(body) == 1
+        and len(body[0]) == 1
+        and isinstance(body[0][0], Char)
+        and body[0][0].bytes == ALL - WORD
+        and firsts(rest) <= WORD
+    )
 
 
 def keep_front(alt):
@@ -444,10 +564,18 @@ def line_end(alt, flags, notes):
         if not branch or not (isinstance(branch[-1], Assertion) and branch[-1].kind in "$Z"):
             continue
         before = branch[-2] if len(branch) > 1 else None
-        if isinstance(before, Repeat) and isinstance(before.node, Char) and 10 in before.node.bytes and before.high is None \
-                and before.lazy == ("U" in flags):
+        if (
+            isinstance(before, Repeat)
+            and isinstance(before.node, Char)
+            and 10 in before.node.bytes
+            and before.high is None
+            and before.lazy == ("U" in flags)
+        ):
             continue
-        branch[-1:] = [Group(Alt([[Repeat(Char(frozenset({10}), "\\n"), 0, 1)]]), AFTER, ""), branch[-1]]
+        branch[-1:] = [
+            Group(Alt([[Repeat(Char(frozenset({10}), "\\n"), 0, 1)]]), AFTER, ""),
+            branch[-1],
+        ]
     for node in nodes(Alt([branch[:-1] for branch in alt.branches])):
         if isinstance(node, Assertion) and node.kind in "$Z":
             notes.append("`$` in the middle stands at the very end of a page alone")
@@ -461,7 +589,12 @@ def flattened(alt, keep):
         made = []
         for node in branch:
             node = flat_node(node, keep)
-            if isinstance(node, Group) and node.number == 0 and node.opener == "?:" and len(node.body.branches) == 1:
+            if (
+                isinstance(node, Group)
+                and node.number == 0
+                and node.opener == "?:"
+                and len(node.body.branches) == 1
+            ):
                 made += node.body.branches[0]
             else:
                 made.append(node)
@@ -473,11 +606,19 @@ def flat_node(node, keep):
     if isinstance(node, Group):
         number = node.number if node.number in keep else 0
         opener = node.opener if number or node.number == 0 else "?:"
-        return Group(flattened(node.body, keep), number, "" if number and opener == "?:" else opener)
+        return Group(
+            flattened(node.body, keep), number, "" if number and opener == "?:" else opener
+        )
     if isinstance(node, Repeat):
         inner = flat_node(node.node, keep)
-        if isinstance(inner, Group) and inner.number == 0 and inner.opener == "?:" and len(inner.body.branches) == 1 \
-                and len(inner.body.branches[0]) == 1 and isinstance(inner.body.branches[0][0], (Char, Group)):
+        if (
+            isinstance(inner, Group)
+            and inner.number == 0
+            and inner.opener == "?:"
+            and len(inner.body.branches) == 1
+            and len(inner.body.branches[0]) == 1
+            and isinstance(inner.body.branches[0][0], (Char, Group))
+        ):
             inner = inner.body.branches[0][0]
         return Repeat(inner, node.low, node.high, node.lazy)
     return node
@@ -497,5 +638,20 @@ def has_flags(alt):
     return any(isinstance(node, Flags) for node in nodes(alt))
 
 
-__all__ = ["AFTER", "BEFORE", "Resolver", "expand", "firsts", "flattened", "has_flags", "has_look", "keep_front", "line_end", "nodes", "numbers",
-           "references", "texts", "write"]
+__all__ = [
+    "AFTER",
+    "BEFORE",
+    "Resolver",
+    "expand",
+    "firsts",
+    "flattened",
+    "has_flags",
+    "has_look",
+    "keep_front",
+    "line_end",
+    "nodes",
+    "numbers",
+    "references",
+    "texts",
+    "write",
+]

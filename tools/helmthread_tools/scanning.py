@@ -3,17 +3,38 @@
 FLAGS = "imsUuxR-"
 LOOKS = {
     "(?=": ("look-ahead", "match what follows too, in a group, and put it back with $1"),
-    "(?!": ("negative look-ahead", "the expression without it, and a second section or job for what it left out"),
+    "(?!": (
+        "negative look-ahead",
+        "the expression without it, and a second section or job for what it left out",
+    ),
     "(?<=": ("look-behind", "match what stands before too, in a group, and put it back with $1"),
-    "(?<!": ("negative look-behind", "the expression without it, and a second section or job for what it left out"),
-    "(?>": ("an atomic group", "(?:"), "(?#": ("a comment", "nothing; comments stand behind a # of the file"),
+    "(?<!": (
+        "negative look-behind",
+        "the expression without it, and a second section or job for what it left out",
+    ),
+    "(?>": ("an atomic group", "(?:"),
+    "(?#": ("a comment", "nothing; comments stand behind a # of the file"),
     "(?|": ("a group that starts its numbers anew", "(?:, and numbers of its own for each group"),
-    "(?(": ("a condition", "two jobs"), "(*": ("a verb", "nothing"),
+    "(?(": ("a condition", "two jobs"),
+    "(*": ("a verb", "nothing"),
 }
 ESCAPES = {
-    "h": "[ \\t]", "H": "[^ \\t]", "R": "\\r?\\n", "V": "[^\\n\\r]", "N": "[^\\n]", "K": "a group, and put it back with $1",
-    "Q": "the text with a \\ before each sign", "E": "nothing", "Z": "\\n?\\z", "G": "nothing", "X": ".", "C": "(?-u:.)", "e": "\\x1B",
-    "c": "\\x and two digits", "g": "no back reference", "k": "no back reference",
+    "h": "[ \\t]",
+    "H": "[^ \\t]",
+    "R": "\\r?\\n",
+    "V": "[^\\n\\r]",
+    "N": "[^\\n]",
+    "K": "a group, and put it back with $1",
+    "Q": "the text with a \\ before each sign",
+    "E": "nothing",
+    "Z": "\\n?\\z",
+    "G": "nothing",
+    "X": ".",
+    "C": "(?-u:.)",
+    "e": "\\x1B",
+    "c": "\\x and two digits",
+    "g": "no back reference",
+    "k": "no back reference",
 }
 KNOWN = set("dDsSwWAzbBafntrvxuUpP")
 
@@ -28,7 +49,14 @@ def scan(text):
         elif char == "[":
             at = bracket(text, at, faults)
         elif char == "(":
-            opener = next((it for it in ("(?<=", "(?<!", "(?=", "(?!", "(?>", "(?#", "(?|", "(?(", "(*") if text.startswith(it, at)), None)
+            opener = next(
+                (
+                    it
+                    for it in ("(?<=", "(?<!", "(?=", "(?!", "(?>", "(?#", "(?|", "(?(", "(*")
+                    if text.startswith(it, at)
+                ),
+                None,
+            )
             if opener:
                 what, write = LOOKS[opener]
                 faults.append((group_at(text, at), what, write))
@@ -48,9 +76,23 @@ def scan(text):
             if not (low.strip().isdigit() and (high.strip() == "" or high.strip().isdigit())):
                 faults.append(("{", "a `{` that counts nothing", "\\{"))
             elif high.strip() and int(high) < int(low):
-                faults.append((text[at : close + 1], "a count that ends before it begins", "{%s,%s}" % (high.strip(), low.strip())))
-        elif char in "*+?" and (at == 0 or text[at - 1] in "(|" and not text.startswith("(?", at - 1)):
-            faults.append((char, "`%s` repeats what stands before it, and nothing does" % char, "." + char + " or \\" + char))
+                faults.append(
+                    (
+                        text[at : close + 1],
+                        "a count that ends before it begins",
+                        "{%s,%s}" % (high.strip(), low.strip()),
+                    )
+                )
+        elif char in "*+?" and (
+            at == 0 or text[at - 1] in "(|" and not text.startswith("(?", at - 1)
+        ):
+            faults.append(
+                (
+                    char,
+                    "`%s` repeats what stands before it, and nothing does" % char,
+                    "." + char + " or \\" + char,
+                )
+            )
         at += 1
     if depth > 0:
         faults.append(("(", "a `(` without `)`", "\\( or its )"))
@@ -80,7 +122,13 @@ def escape(text, at, faults):
         if after == "0":
             faults.append(("\\0", "an octal number", "\\x00"))
         else:
-            faults.append(("\\" + after, "a back reference", "one branch for each text: (?:\"[^\"]*\"|'[^']*')"))
+            faults.append(
+                (
+                    "\\" + after,
+                    "a back reference",
+                    "one branch for each text: (?:\"[^\"]*\"|'[^']*')",
+                )
+            )
     elif after.isalpha() and after not in KNOWN:
         faults.append(("\\" + after, "an escape that isn't known", ESCAPES.get(after, after)))
     return at + 1
@@ -104,13 +152,27 @@ def bracket(text, at, faults):
             last = None
         elif char == "\\":
             if text[at + 1 : at + 2].isdigit():
-                faults.append((text[at : at + 2], "a number in a class", "[^\"'>], the signs themselves"))
+                faults.append(
+                    (text[at : at + 2], "a number in a class", "[^\"'>], the signs themselves")
+                )
             elif text[at + 1 : at + 2].isalpha() and text[at + 1] not in KNOWN:
-                faults.append((text[at : at + 2], "an escape that isn't known", ESCAPES.get(text[at + 1], text[at + 1])))
+                faults.append(
+                    (
+                        text[at : at + 2],
+                        "an escape that isn't known",
+                        ESCAPES.get(text[at + 1], text[at + 1]),
+                    )
+                )
             at, last = at + 1, None
         elif char == "-" and last is not None and text[at + 1 : at + 2] not in ("]", "\\", "[", ""):
             if text[at + 1] < last:
-                faults.append((last + "-" + text[at + 1], "a range that ends before it begins", text[at + 1] + "-" + last))
+                faults.append(
+                    (
+                        last + "-" + text[at + 1],
+                        "a range that ends before it begins",
+                        text[at + 1] + "-" + last,
+                    )
+                )
             at, last = at + 1, None
         else:
             last = char

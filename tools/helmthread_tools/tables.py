@@ -5,72 +5,168 @@ FLAG, SINGLE, LIST = "flag", "single", "list"
 
 # An action's name, what it takes, and its rule for values.
 ACTIONS = {
-    "add-header": (LIST, "field"), "block": (SINGLE, "any"), "change-x-forwarded-for": (SINGLE, ("block", "add")),
-    "client-body-filter": (LIST, "text"), "client-body-tagger": (LIST, "text"), "client-header-filter": (LIST, "text"),
-    "client-header-tagger": (LIST, "text"), "content-type-overwrite": (SINGLE, "text"),
-    "crunch-client-header": (SINGLE, "text"), "crunch-if-none-match": (FLAG, None), "crunch-incoming-cookies": (FLAG, None),
-    "crunch-outgoing-cookies": (FLAG, None), "crunch-server-header": (SINGLE, "text"), "deanimate-gifs": (SINGLE, "text"),
-    "delay-response": (SINGLE, "text"), "downgrade-http-version": (FLAG, None), "external-filter": (LIST, "text"),
-    "fast-redirects": (SINGLE, ("simple-check", "check-decoded-url")), "filter": (LIST, "text"), "force-text-mode": (FLAG, None),
-    "forward-override": (SINGLE, "parent"), "handle-as-empty-document": (FLAG, None), "handle-as-image": (FLAG, None),
-    "hide-accept-language": (SINGLE, "text"), "hide-content-disposition": (SINGLE, "text"), "hide-from-header": (SINGLE, "text"),
-    "hide-if-modified-since": (SINGLE, "text"), "hide-referrer": (SINGLE, "text"), "hide-user-agent": (SINGLE, "text"),
-    "https-inspection": (FLAG, None), "ignore-certificate-errors": (FLAG, None), "limit-connect": (SINGLE, "ports"),
-    "limit-cookie-lifetime": (SINGLE, "minutes"), "overwrite-last-modified": (SINGLE, ("block", "reset-to-request-time", "randomize")),
-    "prevent-compression": (FLAG, None), "redirect": (SINGLE, "text"), "server-header-filter": (LIST, "text"),
-    "server-header-tagger": (LIST, "text"), "session-cookies-only": (FLAG, None), "set-image-blocker": (SINGLE, "text"),
+    "add-header": (LIST, "field"),
+    "block": (SINGLE, "any"),
+    "change-x-forwarded-for": (SINGLE, ("block", "add")),
+    "client-body-filter": (LIST, "text"),
+    "client-body-tagger": (LIST, "text"),
+    "client-header-filter": (LIST, "text"),
+    "client-header-tagger": (LIST, "text"),
+    "content-type-overwrite": (SINGLE, "text"),
+    "crunch-client-header": (SINGLE, "text"),
+    "crunch-if-none-match": (FLAG, None),
+    "crunch-incoming-cookies": (FLAG, None),
+    "crunch-outgoing-cookies": (FLAG, None),
+    "crunch-server-header": (SINGLE, "text"),
+    "deanimate-gifs": (SINGLE, "text"),
+    "delay-response": (SINGLE, "text"),
+    "downgrade-http-version": (FLAG, None),
+    "external-filter": (LIST, "text"),
+    "fast-redirects": (SINGLE, ("simple-check", "check-decoded-url")),
+    "filter": (LIST, "text"),
+    "force-text-mode": (FLAG, None),
+    "forward-override": (SINGLE, "parent"),
+    "handle-as-empty-document": (FLAG, None),
+    "handle-as-image": (FLAG, None),
+    "hide-accept-language": (SINGLE, "text"),
+    "hide-content-disposition": (SINGLE, "text"),
+    "hide-from-header": (SINGLE, "text"),
+    "hide-if-modified-since": (SINGLE, "text"),
+    "hide-referrer": (SINGLE, "text"),
+    "hide-user-agent": (SINGLE, "text"),
+    "https-inspection": (FLAG, None),
+    "ignore-certificate-errors": (FLAG, None),
+    "limit-connect": (SINGLE, "ports"),
+    "limit-cookie-lifetime": (SINGLE, "minutes"),
+    "overwrite-last-modified": (SINGLE, ("block", "reset-to-request-time", "randomize")),
+    "prevent-compression": (FLAG, None),
+    "redirect": (SINGLE, "text"),
+    "server-header-filter": (LIST, "text"),
+    "server-header-tagger": (LIST, "text"),
+    "session-cookies-only": (FLAG, None),
+    "set-image-blocker": (SINGLE, "text"),
     "suppress-tag": (LIST, "text"),
 }
-NO_EFFECT = {"client-body-filter", "client-body-tagger", "deanimate-gifs", "delay-response", "external-filter", "https-inspection",
-             "ignore-certificate-errors", "suppress-tag"}
+NO_EFFECT = {
+    "client-body-filter",
+    "client-body-tagger",
+    "deanimate-gifs",
+    "delay-response",
+    "external-filter",
+    "https-inspection",
+    "ignore-certificate-errors",
+    "suppress-tag",
+}
 
 # Values that mean something of their own; any other text is sent as it is.
 FIXED_WORDS = {
-    "hide-referrer": ("block", "forge", "conditional-block", "conditional-forge"), "hide-from-header": ("block",),
-    "hide-accept-language": ("block",), "hide-content-disposition": ("block",), "hide-if-modified-since": ("block",),
+    "hide-referrer": ("block", "forge", "conditional-block", "conditional-forge"),
+    "hide-from-header": ("block",),
+    "hide-accept-language": ("block",),
+    "hide-content-disposition": ("block",),
+    "hide-if-modified-since": ("block",),
     "set-image-blocker": ("blank", "pattern"),
 }
 FILTER_ACTIONS = {
-    "filter": "FILTER", "client-header-filter": "CLIENT-HEADER-FILTER", "server-header-filter": "SERVER-HEADER-FILTER",
-    "client-header-tagger": "CLIENT-HEADER-TAGGER", "server-header-tagger": "SERVER-HEADER-TAGGER",
+    "filter": "FILTER",
+    "client-header-filter": "CLIENT-HEADER-FILTER",
+    "server-header-filter": "SERVER-HEADER-FILTER",
+    "client-header-tagger": "CLIENT-HEADER-TAGGER",
+    "server-header-tagger": "SERVER-HEADER-TAGGER",
 }
-READ_KINDS = ("FILTER", "CLIENT-HEADER-FILTER", "SERVER-HEADER-FILTER", "CLIENT-HEADER-TAGGER", "SERVER-HEADER-TAGGER")
+READ_KINDS = (
+    "FILTER",
+    "CLIENT-HEADER-FILTER",
+    "SERVER-HEADER-FILTER",
+    "CLIENT-HEADER-TAGGER",
+    "SERVER-HEADER-TAGGER",
+)
 UNREAD_KINDS = ("EXTERNAL-FILTER", "CLIENT-BODY-FILTER", "CLIENT-BODY-TAGGER")
 TAG_WORDS = ("TAG:", "NO-REQUEST-TAG:", "NO-RESPONSE-TAG:", "CLIENT-TAG:")
 
-DIRECTIVES = ("actionsfile", "filterfile", "confdir", "templdir", "listen-address", "buffer-limit", "forward",
-              "handle-as-empty-doc-returns-ok", "toggle", "client-specific-tag")
+DIRECTIVES = (
+    "actionsfile",
+    "filterfile",
+    "confdir",
+    "templdir",
+    "listen-address",
+    "buffer-limit",
+    "forward",
+    "handle-as-empty-doc-returns-ok",
+    "toggle",
+    "client-specific-tag",
+)
 SOCKS = ("forward-socks4", "forward-socks4a", "forward-socks5", "forward-socks5t")
 
 # Directives of Privoxy's that aren't read here, each with what that means.
 ELSEWHERE = {
     "accept-intercepted-requests": "requests that were led here without the browser's knowledge aren't served",
-    "admin-address": "no page names it", "proxy-info-url": "no page names it", "user-manual": "no page names it",
-    "allow-cgi-request-crunching": "there are no such pages", "enable-edit-actions": "files are edited with an editor",
-    "enable-remote-toggle": "nothing can be switched from a browser", "enable-remote-http-toggle": "nothing can be switched from a request",
-    "enable-compression": "answers to the browser aren't compressed", "compression-level": "answers to the browser aren't compressed",
-    "enable-proxy-authentication-forwarding": "Proxy-Authorization isn't sent on", "enforce-blocks": "blocks always hold",
-    "forwarded-connect-retries": "a parent is asked once", "keep-alive-timeout": "times are fixed",
-    "default-server-timeout": "times are fixed", "socket-timeout": "times are fixed", "connection-sharing": "links aren't shared",
-    "logdir": "there is no log", "logfile": "there is no log", "debug": "there is no log", "hostname": "pages name the host asked for",
-    "max-client-connections": "`serve` has a number of its own behind the file", "listen-backlog": "the system's own is taken",
-    "permit-access": "only this machine is served", "deny-access": "only this machine is served",
-    "single-threaded": "`serve` has a number of its own behind the file", "split-large-forms": "there are no such pages",
-    "tolerate-pipelining": "requests that come early wait", "trustfile": "there is no list of trusted sites: pages that it kept away are seen",
-    "trust-info-url": "there is no list of trusted sites", "temporary-directory": "none is needed",
-    "client-tag-lifetime": "tags don't end", "trust-x-forwarded-for": "clients are told by their address",
-    "trusted-cgi-referer": "there are no such pages", "cors-allowed-origin": "there are no such pages",
-    "delay-response": "there are no delays", "ca-directory": "https isn't looked into", "ca-cert-file": "https isn't looked into",
-    "ca-key-file": "https isn't looked into", "ca-password": "https isn't looked into", "certificate-directory": "https isn't looked into",
-    "cipher-list": "https isn't looked into", "trusted-cas-file": "https isn't looked into", "activity-animation": "there is no window",
-    "log-messages": "there is no window", "log-buffer-size": "there is no window", "show-on-task-bar": "there is no window",
-    "close-button-minimizes": "there is no window", "hide-console": "there is no window", "receive-buffer-size": "the size is fixed",
+    "admin-address": "no page names it",
+    "proxy-info-url": "no page names it",
+    "user-manual": "no page names it",
+    "allow-cgi-request-crunching": "there are no such pages",
+    "enable-edit-actions": "files are edited with an editor",
+    "enable-remote-toggle": "nothing can be switched from a browser",
+    "enable-remote-http-toggle": "nothing can be switched from a request",
+    "enable-compression": "answers to the browser aren't compressed",
+    "compression-level": "answers to the browser aren't compressed",
+    "enable-proxy-authentication-forwarding": "Proxy-Authorization isn't sent on",
+    "enforce-blocks": "blocks always hold",
+    "forwarded-connect-retries": "a parent is asked once",
+    "keep-alive-timeout": "times are fixed",
+    "default-server-timeout": "times are fixed",
+    "socket-timeout": "times are fixed",
+    "connection-sharing": "links aren't shared",
+    "logdir": "there is no log",
+    "logfile": "there is no log",
+    "debug": "there is no log",
+    "hostname": "pages name the host asked for",
+    "max-client-connections": "`serve` has a number of its own behind the file",
+    "listen-backlog": "the system's own is taken",
+    "permit-access": "only this machine is served",
+    "deny-access": "only this machine is served",
+    "single-threaded": "`serve` has a number of its own behind the file",
+    "split-large-forms": "there are no such pages",
+    "tolerate-pipelining": "requests that come early wait",
+    "trustfile": "there is no list of trusted sites: pages that it kept away are seen",
+    "trust-info-url": "there is no list of trusted sites",
+    "temporary-directory": "none is needed",
+    "client-tag-lifetime": "tags don't end",
+    "trust-x-forwarded-for": "clients are told by their address",
+    "trusted-cgi-referer": "there are no such pages",
+    "cors-allowed-origin": "there are no such pages",
+    "delay-response": "there are no delays",
+    "ca-directory": "https isn't looked into",
+    "ca-cert-file": "https isn't looked into",
+    "ca-key-file": "https isn't looked into",
+    "ca-password": "https isn't looked into",
+    "certificate-directory": "https isn't looked into",
+    "cipher-list": "https isn't looked into",
+    "trusted-cas-file": "https isn't looked into",
+    "activity-animation": "there is no window",
+    "log-messages": "there is no window",
+    "log-buffer-size": "there is no window",
+    "show-on-task-bar": "there is no window",
+    "close-button-minimizes": "there is no window",
+    "hide-console": "there is no window",
+    "receive-buffer-size": "the size is fixed",
     "client-specific-tag-lifetime": "tags don't end",
 }
 
 HOST = re.compile(r"(?:[A-Za-z0-9._-]+|\[[0-9A-Fa-f:.]+\])(?::(\d{1,5}))?\Z")
-HELD_BACK = {"connection", "proxy-connection", "keep-alive", "te", "trailer", "transfer-encoding", "upgrade", "content-length", "host",
-             "expect", "proxy-authorization"}
+HELD_BACK = {
+    "connection",
+    "proxy-connection",
+    "keep-alive",
+    "te",
+    "trailer",
+    "transfer-encoding",
+    "upgrade",
+    "content-length",
+    "host",
+    "expect",
+    "proxy-authorization",
+}
 
 
 def is_parent(text):
@@ -90,7 +186,13 @@ def is_ports(text):
             return False
         low, dash, high = found.groups()
         values = [int(value) for value in (low, high) if value]
-        if any(not 0 < value < 65536 for value in values) or dash and low and high and int(low) > int(high):
+        if (
+            any(not 0 < value < 65536 for value in values)
+            or dash
+            and low
+            and high
+            and int(low) > int(high)
+        ):
             return False
     return text != ""
 
@@ -107,7 +209,12 @@ def listens_here(value):
     if rest and not (re.fullmatch(r":\d{1,5}", rest) and 0 < int(rest[1:]) < 65536):
         return False, False
     found = re.fullmatch(r"127\.(\d{1,3})\.(\d{1,3})\.(\d{1,3})", host)
-    here = value.startswith("[") and host == "::1" or host == "localhost" or bool(found and all(int(part) < 256 for part in found.groups()))
+    here = (
+        value.startswith("[")
+        and host == "::1"
+        or host == "localhost"
+        or bool(found and all(int(part) < 256 for part in found.groups()))
+    )
     return True, here
 
 
@@ -125,8 +232,13 @@ def value_is_allowed(name, value):
     if rule == "parent":
         words = value.split()
         return len(words) == 2 and words[0] == "forward" and is_parent(words[1])
-    return {"any": lambda: True, "text": lambda: value != "", "ports": lambda: is_ports(value), "field": lambda: is_field(value),
-            "minutes": lambda: bool(re.fullmatch(r"\d{1,9}", value)) and int(value) <= 100000000}[rule]()
+    return {
+        "any": lambda: True,
+        "text": lambda: value != "",
+        "ports": lambda: is_ports(value),
+        "field": lambda: is_field(value),
+        "minutes": lambda: bool(re.fullmatch(r"\d{1,9}", value)) and int(value) <= 100000000,
+    }[rule]()
 
 
 def balanced(text):

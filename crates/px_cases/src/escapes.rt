@@ -164,7 +164,7 @@ fn digit(byte: u8) -> Result<u8, Fault> {
 }
 
 /// The bytes that a text with escapes stands for.
-pub fn decoded(alloc: Global, text: &str) -> Result<Vec<u8>, Fault> {
+pub(crate) fn decoded(alloc: Global, text: &str) -> Result<Vec<u8>, Fault> {
     let mut decoder = Decoder {
         alloc,
         bytes: Vec::new(alloc),
@@ -179,7 +179,7 @@ pub fn decoded(alloc: Global, text: &str) -> Result<Vec<u8>, Fault> {
 }
 
 /// A text with escapes that stands for the bytes, in one line.
-pub fn encoded(alloc: Global, bytes: &[u8]) -> Result<String, AllocError> {
+pub(crate) fn encoded(alloc: Global, bytes: &[u8]) -> Result<String, AllocError> {
     let mut text = String::new(alloc);
     for byte in bytes {
         match *byte {

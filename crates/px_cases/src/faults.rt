@@ -30,12 +30,12 @@ pub enum Fault {
 
 impl Fault {
     /// The fault at a line of a file of rows.
-    pub fn at(self, line: usize) -> Misread {
+    pub(crate) fn at(self, line: usize) -> Misread {
         Misread { line, fault: self }
     }
 
     /// The text of a refusal, which is what its row gives.
-    pub fn refusal(self, alloc: Global) -> Result<String, Fault> {
+    pub(crate) fn refusal(self, alloc: Global) -> Result<String, Fault> {
         match self {
             Fault::Refused {
                 number,

@@ -15,7 +15,7 @@ use crate::leaves::Row;
 use px_base::Text;
 
 /// What a row of a kind gives.
-pub fn gives(kind: &str, row: &Row<'_>) -> Result<Text, Fault> {
+pub(crate) fn gives(kind: &str, row: &Row<'_>) -> Result<Text, Fault> {
     match kind {
         "ports" => patterns::ports(row),
         "urls" => patterns::urls(row),

@@ -33,7 +33,7 @@ impl<'a> Row<'a> {
     }
 
     /// A value as it stands.
-    pub fn word(&self, name: &str) -> Result<&'a str, Fault> {
+    pub(crate) fn word(&self, name: &str) -> Result<&'a str, Fault> {
         for (column, cell) in self.names.iter().zip(&self.cells) {
             if *column == name {
                 return Ok(*cell);
@@ -43,7 +43,7 @@ impl<'a> Row<'a> {
     }
 
     /// Whether a value is `yes`, and not `no`.
-    pub fn is(&self, name: &str) -> Result<bool, Fault> {
+    pub(crate) fn is(&self, name: &str) -> Result<bool, Fault> {
         match self.word(name)? {
             "yes" => Ok(true),
             "no" => Ok(false),
@@ -52,7 +52,7 @@ impl<'a> Row<'a> {
     }
 
     /// A value that is a number.
-    pub fn number<N: FromStr>(&self, name: &str) -> Result<N, Fault>
+    pub(crate) fn number<N: FromStr>(&self, name: &str) -> Result<N, Fault>
     where
         N::Err: Drop,
     {
@@ -60,7 +60,7 @@ impl<'a> Row<'a> {
     }
 
     /// A value that is numbers between spaces.
-    pub fn numbers<N: FromStr + Drop>(&self, name: &str) -> Result<Vec<N>, Fault>
+    pub(crate) fn numbers<N: FromStr + Drop>(&self, name: &str) -> Result<Vec<N>, Fault>
     where
         N::Err: Drop,
     {
@@ -72,22 +72,22 @@ impl<'a> Row<'a> {
     }
 
     /// A value that is text.
-    pub fn string(&self, name: &str) -> Result<String, Fault> {
+    pub(crate) fn string(&self, name: &str) -> Result<String, Fault> {
         String::from_utf8(self.bytes(name)?).map_err(|_| Fault::Form("UTF-8 is wanted"))
     }
 
     /// A value's bytes.
-    pub fn bytes(&self, name: &str) -> Result<Vec<u8>, Fault> {
+    pub(crate) fn bytes(&self, name: &str) -> Result<Vec<u8>, Fault> {
         decoded(self.alloc, self.word(name)?)
     }
 
     /// A value's bytes.
-    pub fn text(&self, name: &str) -> Result<Text, Fault> {
+    pub(crate) fn text(&self, name: &str) -> Result<Text, Fault> {
         Ok(Text::from_vec(self.bytes(name)?))
     }
 
     /// A file's bytes by a value that has its lines between ` | `.
-    pub fn file(&self, name: &str) -> Result<Text, Fault> {
+    pub(crate) fn file(&self, name: &str) -> Result<Text, Fault> {
         let mut file = Text::new(self.alloc);
         for line in self.items(name)?.as_slice() {
             file.push_all(line.as_bytes())?;
@@ -97,7 +97,7 @@ impl<'a> Row<'a> {
     }
 
     /// The items of a value that has some between ` | `. An empty value has none.
-    pub fn items(&self, name: &str) -> Result<List<Text>, Fault> {
+    pub(crate) fn items(&self, name: &str) -> Result<List<Text>, Fault> {
         let mut items = List::new(self.alloc);
         let word = self.word(name)?;
         if !word.is_empty() {
@@ -135,7 +135,12 @@ fn run_row(kind: &str, row: &Row<'_>, line: usize, report: &mut Report) -> Resul
 }
 
 /// Runs the rows of a file that is named for a kind. A line that begins with `#` is a remark.
-pub fn run(alloc: Global, kind: &str, text: &str, report: &mut Report) -> Result<(), Misread> {
+pub(crate) fn run(
+    alloc: Global,
+    kind: &str,
+    text: &str,
+    report: &mut Report,
+) -> Result<(), Misread> {
     let mut names = Vec::new(alloc);
     for (place, line) in text.lines().enumerate() {
         let number = place.saturating_add(1);

@@ -21,7 +21,7 @@ pub struct Report {
 }
 
 impl Report {
-    pub fn new(alloc: Global) -> Report {
+    pub(crate) fn new(alloc: Global) -> Report {
         Report {
             alloc,
             rows: 0,
@@ -30,7 +30,7 @@ impl Report {
     }
 
     /// Counts a row, and keeps it where it gave something else than it wants.
-    pub fn add(&mut self, line: usize, want: &[u8], got: &[u8]) -> Result<(), Fault> {
+    pub(crate) fn add(&mut self, line: usize, want: &[u8], got: &[u8]) -> Result<(), Fault> {
         self.count();
         if want != got {
             self.differ(line, want, got, "")?;
@@ -39,12 +39,18 @@ impl Report {
     }
 
     /// Counts a row.
-    pub fn count(&mut self) {
+    pub(crate) fn count(&mut self) {
         self.rows = self.rows.saturating_add(1);
     }
 
     /// Keeps that a row gave something else than the line wants, and of which run of it that is.
-    pub fn differ(&mut self, line: usize, want: &[u8], got: &[u8], run: &str) -> Result<(), Fault> {
+    pub(crate) fn differ(
+        &mut self,
+        line: usize,
+        want: &[u8],
+        got: &[u8],
+        run: &str,
+    ) -> Result<(), Fault> {
         let want = encoded(self.alloc, want)?;
         let mut got = encoded(self.alloc, got)?;
         got.push_str(run)?;
@@ -53,7 +59,12 @@ impl Report {
     }
 
     /// Prints the differences, then the fault that ended the run or the number of rows. Whether all is as it should be.
-    pub fn print(&self, rt: &impl Print, name: &str, ran: Result<(), Misread>) -> io::Result<bool> {
+    pub(crate) fn print(
+        &self,
+        rt: &impl Print,
+        name: &str,
+        ran: Result<(), Misread>,
+    ) -> io::Result<bool> {
         for difference in &self.differences {
             let Difference { line, want, got } = difference;
             println!(rt; "{name}:{line}: want {want} got {got}")?;

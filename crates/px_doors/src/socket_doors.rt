@@ -70,7 +70,8 @@ impl<'r> SocketDoors<'r> {
 
     /// Takes no more connections, and closes those that ended: what their clients still send is thrown away for a while.
     pub fn close(self) {
-        if let Some(listener) = self.listener {
+        let SocketDoors { listener, .. } = self;
+        if let Some(listener) = listener {
             listener.close();
         }
     }

@@ -1,12 +1,11 @@
--- Values that stand in rows: lines, fields, URLs, heads, symbols and a cap.
-use Rattle.std.specs.Prelude.{ℕ, List, codes}
+-- Values that stand in rows: lines, fields, URLs, heads and symbols.
+use Rattle.std.specs.Prelude.{ℕ, List}
 use Rattle.px_text.specs.declared.lines.Line.{Line}
 use Rattle.px_head.specs.declared.fields.Field.{Field}
 use Rattle.px_head.specs.declared.requests.RequestHead.{RequestHead}
 use Rattle.px_head.specs.declared.responses.ResponseHead.{ResponseHead}
 use Rattle.px_patterns.specs.declared.urls.Url.{Url}
 use Rattle.px_templates.specs.declared.symbols.Symbols.{Symbols}
-use Rattle.px_headers.specs.declared.cookies.Cap.{Cap}
 
 -- a line of a file
 abbrev pub line : ℕ → List ℕ → Line
@@ -35,7 +34,3 @@ symbols hostname port path url block_reason error parent = record {
   error = error;
   parent = parent;
 }
-
--- a cap of an hour from the moment 1,000,000,000 on
-abbrev pub hour : Cap
-hour = record { latest = 1000003600; seconds = 3600; date = codes "Sun, 09 Sep 2001 02:46:40 GMT" }

@@ -7,7 +7,7 @@ use px_base::Text;
 use std::alloc::Global;
 
 /// Adds the word of an update: its sign, the kind's own name, and the parameter that is kept.
-pub fn push_update(alloc: Global, out: &mut Text, update: &Update) -> Result<(), Fault> {
+pub(crate) fn push_update(alloc: Global, out: &mut Text, update: &Update) -> Result<(), Fault> {
     let (sign, parameter) = match &update.change {
         Change::On => ('+', None),
         Change::Set(text) => ('+', Some(text)),
@@ -27,7 +27,7 @@ pub fn push_update(alloc: Global, out: &mut Text, update: &Update) -> Result<(),
 }
 
 /// The number of a word's kind, and the word of the update that it is read as.
-pub fn words(row: &Row<'_>) -> Result<Text, Fault> {
+pub(crate) fn words(row: &Row<'_>) -> Result<Text, Fault> {
     let update = Update::read_bytes(row.alloc, row.bytes("word")?.as_slice())?;
     let place = update.kind.place();
     let mut out = said(row.alloc, format!(in row.alloc; "{place}")?.as_str())?;
@@ -36,7 +36,7 @@ pub fn words(row: &Row<'_>) -> Result<Text, Fault> {
 }
 
 /// The lines of a set to which words are applied in turn, and behind `then` those of its copy to which further ones are.
-pub fn sets(row: &Row<'_>) -> Result<Text, Fault> {
+pub(crate) fn sets(row: &Row<'_>) -> Result<Text, Fault> {
     let set = set_of(row)?;
     let mut copy = set.copy()?;
     let further = row.items("further")?;

@@ -12,7 +12,7 @@ use px_headers::{is_text, server_headers};
 use std::alloc::Global;
 
 /// The status line and the fields of an answer, behind the actions of words at a moment.
-pub fn responses(row: &Row<'_>) -> Result<Text, Fault> {
+pub(crate) fn responses(row: &Row<'_>) -> Result<Text, Fault> {
     let mut head = ResponseHead::read(row.alloc, head_of(row)?.as_bytes())?;
     let (set, filters, vars) = (set_of(row)?, filters_of(row)?, vars_of(row.alloc, b"")?);
     let moment = row.number("moment")?;
@@ -26,7 +26,7 @@ pub fn responses(row: &Row<'_>) -> Result<Text, Fault> {
 }
 
 /// Whether an answer is a text by the actions of words.
-pub fn texts(row: &Row<'_>) -> Result<Text, Fault> {
+pub(crate) fn texts(row: &Row<'_>) -> Result<Text, Fault> {
     let head = ResponseHead::read(row.alloc, head_of(row)?.as_bytes())?;
     yes_or_no(row.alloc, is_text(head.fields.as_slice(), &set_of(row)?))
 }
@@ -84,7 +84,7 @@ fn returned(row: &Row<'_>, files: &Filters, pieces: &[&[u8]]) -> Result<Text, Fa
 }
 
 /// What is returned of an answer, if it is the same however its body is cut.
-pub fn answers(row: &Row<'_>) -> Result<Text, Fault> {
+pub(crate) fn answers(row: &Row<'_>) -> Result<Text, Fault> {
     let files = filters_of(row)?;
     let body = row.bytes("body")?;
     let whole = returned(row, &files, &[body.as_slice()])?;

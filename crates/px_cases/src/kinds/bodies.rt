@@ -8,7 +8,7 @@ use px_head::{RequestHead, ResponseHead};
 use std::alloc::Global;
 
 /// The rule by which the body behind a head is read: of a request, or of the response to a method.
-pub fn rules(row: &Row<'_>) -> Result<Text, Fault> {
+pub(crate) fn rules(row: &Row<'_>) -> Result<Text, Fault> {
     let head = head_of(row)?;
     let rule = match row.word("to")? {
         "request" => request_body(
@@ -39,11 +39,11 @@ pub struct Cut {
 impl Cut {
     /// The ways to cut so many bytes: byte by byte, not at all, and into two at each place. Where they are many, into pieces of a
     /// thousand, not at all, and into two at some places.
-    pub fn all(alloc: Global, len: usize) -> Result<Vec<Cut>, Fault> {
+    pub(crate) fn all(alloc: Global, len: usize) -> Result<Vec<Cut>, Fault> {
         let (size, step) = if len < 512 {
             (1, 1)
         } else {
-            (1_000, 1 + len / 16)
+            (1_000, 1 + len / 4)
         };
         let mut cuts = Vec::new(alloc);
         cuts.push(Cut { first: size, size })?;
@@ -54,7 +54,7 @@ impl Cut {
     }
 
     /// The pieces of bytes.
-    pub fn pieces(self, alloc: Global, bytes: &[u8]) -> Result<Vec<&[u8]>, Fault> {
+    pub(crate) fn pieces(self, alloc: Global, bytes: &[u8]) -> Result<Vec<&[u8]>, Fault> {
         let first = self.first.min(bytes.len());
         let mut pieces = Vec::new(alloc);
         pieces.push(&bytes[..first])?;
@@ -65,7 +65,7 @@ impl Cut {
     }
 
     /// What a cut gives that gives something else.
-    pub fn said(self, alloc: Global, got: &Text) -> Result<Text, Fault> {
+    pub(crate) fn said(self, alloc: Global, got: &Text) -> Result<Text, Fault> {
         let Cut { first, size } = self;
         let mut out = said(
             alloc,
@@ -97,7 +97,7 @@ fn read(alloc: Global, rule: BodyRule, pieces: &[&[u8]], ends: bool) -> Result<T
 }
 
 /// How a body is read, if it is read the same however it is cut.
-pub fn bodies(row: &Row<'_>) -> Result<Text, Fault> {
+pub(crate) fn bodies(row: &Row<'_>) -> Result<Text, Fault> {
     let rule = rule_of(row)?;
     let bytes = row.bytes("bytes")?;
     let ends = row.is("ends")?;

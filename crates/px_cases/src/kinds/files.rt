@@ -8,7 +8,7 @@ use px_base::{List, Text};
 use px_subst::{Filter, Job, Outcome};
 
 /// The lines that a file's bytes stand for, each behind its number.
-pub fn lines(row: &Row<'_>) -> Result<Text, Fault> {
+pub(crate) fn lines(row: &Row<'_>) -> Result<Text, Fault> {
     let lines = lines_of(row.alloc, row.bytes("file")?.as_slice())?;
     let mut out = Text::new(row.alloc);
     for line in lines.as_slice() {
@@ -22,12 +22,12 @@ pub fn lines(row: &Row<'_>) -> Result<Text, Fault> {
 }
 
 /// The name of the refusal that a number names in an actions file.
-pub fn refusals(row: &Row<'_>) -> Result<Text, Fault> {
+pub(crate) fn refusals(row: &Row<'_>) -> Result<Text, Fault> {
     said(row.alloc, refusal_name(row.number("number")?))
 }
 
 /// The sections of an actions file: each its line, the updates of its words, and the lines and kinds of its patterns.
-pub fn actions(row: &Row<'_>) -> Result<Text, Fault> {
+pub(crate) fn actions(row: &Row<'_>) -> Result<Text, Fault> {
     let lines = lines_of(row.alloc, row.file("file")?.as_bytes())?;
     let file = ActionFile::read(row.alloc, lines.as_slice())?;
     let mut out = Text::new(row.alloc);
@@ -61,7 +61,7 @@ fn kind_of(pattern: &Pattern) -> &'static str {
 }
 
 /// The filters of a file, each its line, kind and name, and the lines of the jobs that are left out.
-pub fn filters(row: &Row<'_>) -> Result<Text, Fault> {
+pub(crate) fn filters(row: &Row<'_>) -> Result<Text, Fault> {
     let file = filter_file_of(row)?;
     let mut out = Text::new(row.alloc);
     for named in file.filters.as_slice() {
@@ -82,7 +82,7 @@ pub fn filters(row: &Row<'_>) -> Result<Text, Fault> {
 }
 
 /// The hits of jobs on a text, and what they make of it.
-pub fn jobs(row: &Row<'_>) -> Result<Text, Fault> {
+pub(crate) fn jobs(row: &Row<'_>) -> Result<Text, Fault> {
     let mut jobs = List::new(row.alloc);
     for text in row.items("jobs")?.as_slice() {
         jobs.add(Job::read(row.alloc, as_str(text.as_bytes())?)?)?;

@@ -10,7 +10,7 @@ use px_head::{
 use std::alloc::Global;
 
 /// Where the head block at the front of bytes ends, under a limit.
-pub fn blocks(row: &Row<'_>) -> Result<Text, Fault> {
+pub(crate) fn blocks(row: &Row<'_>) -> Result<Text, Fault> {
     let text = match find_head(row.bytes("bytes")?.as_slice(), row.number("limit")?) {
         HeadEnd::At(place) => format!(in row.alloc; "{place}")?,
         HeadEnd::NotYet => format!(in row.alloc; "not yet")?,
@@ -20,7 +20,7 @@ pub fn blocks(row: &Row<'_>) -> Result<Text, Fault> {
 }
 
 /// A head as it is printed.
-pub fn heads(row: &Row<'_>) -> Result<Text, Fault> {
+pub(crate) fn heads(row: &Row<'_>) -> Result<Text, Fault> {
     let block = row.bytes("head")?;
     match row.word("of")? {
         "request" => request(row.alloc, block.as_slice()),
@@ -52,7 +52,7 @@ fn response(alloc: Global, block: &[u8]) -> Result<Text, Fault> {
 }
 
 /// The name and the value of a field line, and of which messages it is held back; or `no field line`.
-pub fn fields(row: &Row<'_>) -> Result<Text, Fault> {
+pub(crate) fn fields(row: &Row<'_>) -> Result<Text, Fault> {
     let line = row.bytes("line")?;
     let Some(line) = read_field_line(line.as_slice()) else {
         return said(row.alloc, "no field line");

@@ -14,7 +14,7 @@ use px_text::{Line, logical_lines};
 use std::alloc::Global;
 
 /// Adds an item behind those before it.
-pub fn push_item(out: &mut Text, item: &[u8]) -> Result<(), Fault> {
+pub(crate) fn push_item(out: &mut Text, item: &[u8]) -> Result<(), Fault> {
     if !out.is_empty() {
         out.push_all(ITEMS.as_bytes())?;
     }
@@ -22,7 +22,7 @@ pub fn push_item(out: &mut Text, item: &[u8]) -> Result<(), Fault> {
 }
 
 /// Adds the line of each field as an item.
-pub fn push_fields(alloc: Global, out: &mut Text, fields: &[Field]) -> Result<(), Fault> {
+pub(crate) fn push_fields(alloc: Global, out: &mut Text, fields: &[Field]) -> Result<(), Fault> {
     for field in fields {
         push_item(out, field.line(alloc)?.as_bytes())?;
     }
@@ -30,7 +30,7 @@ pub fn push_fields(alloc: Global, out: &mut Text, fields: &[Field]) -> Result<()
 }
 
 /// Adds each line of a text as an item.
-pub fn push_lines(out: &mut Text, lines: &[u8]) -> Result<(), Fault> {
+pub(crate) fn push_lines(out: &mut Text, lines: &[u8]) -> Result<(), Fault> {
     for line in lines.split(|byte| *byte == b'\n') {
         if !line.is_empty() {
             push_item(out, line)?;
@@ -40,22 +40,22 @@ pub fn push_lines(out: &mut Text, lines: &[u8]) -> Result<(), Fault> {
 }
 
 /// The text of a string.
-pub fn said(alloc: Global, text: &str) -> Result<Text, Fault> {
+pub(crate) fn said(alloc: Global, text: &str) -> Result<Text, Fault> {
     Ok(Text::from_bytes(alloc, text.as_bytes())?)
 }
 
 /// `yes` or `no`.
-pub fn yes_or_no(alloc: Global, yes: bool) -> Result<Text, Fault> {
+pub(crate) fn yes_or_no(alloc: Global, yes: bool) -> Result<Text, Fault> {
     said(alloc, if yes { "yes" } else { "no" })
 }
 
 /// Bytes that are text.
-pub fn as_str(bytes: &[u8]) -> Result<&str, Fault> {
+pub(crate) fn as_str(bytes: &[u8]) -> Result<&str, Fault> {
     str::from_utf8(bytes).map_err(|_| Fault::Form("UTF-8 is wanted"))
 }
 
 /// The logical lines of a file's bytes.
-pub fn lines_of(alloc: Global, file: &[u8]) -> Result<List<Line>, Fault> {
+pub(crate) fn lines_of(alloc: Global, file: &[u8]) -> Result<List<Line>, Fault> {
     if file.len() > 4_294_967_294 {
         return Err(Fault::Mem);
     }
@@ -63,7 +63,7 @@ pub fn lines_of(alloc: Global, file: &[u8]) -> Result<List<Line>, Fault> {
 }
 
 /// The URL of a text, which has the form of a URL or of the target of a tunnel.
-pub fn url_of(row: &Row<'_>, tunnel: bool) -> Result<Url, Fault> {
+pub(crate) fn url_of(row: &Row<'_>, tunnel: bool) -> Result<Url, Fault> {
     let text = row.bytes("url")?;
     let read = if tunnel {
         Url::authority(row.alloc, text.as_slice())
@@ -74,7 +74,7 @@ pub fn url_of(row: &Row<'_>, tunnel: bool) -> Result<Url, Fault> {
 }
 
 /// Applies the updates of words in turn.
-pub fn apply_words(alloc: Global, set: &mut ActionSet, words: &[Text]) -> Result<(), Fault> {
+pub(crate) fn apply_words(alloc: Global, set: &mut ActionSet, words: &[Text]) -> Result<(), Fault> {
     for word in words {
         let update = Update::read_bytes(alloc, word.as_bytes())?;
         set.apply(&update)?;
@@ -83,20 +83,20 @@ pub fn apply_words(alloc: Global, set: &mut ActionSet, words: &[Text]) -> Result
 }
 
 /// The set of the words of a row.
-pub fn set_of(row: &Row<'_>) -> Result<ActionSet, Fault> {
+pub(crate) fn set_of(row: &Row<'_>) -> Result<ActionSet, Fault> {
     let mut set = ActionSet::empty(row.alloc);
     apply_words(row.alloc, &mut set, row.items("words")?.as_slice())?;
     Ok(set)
 }
 
 /// The actions file of some bytes.
-pub fn actions_of(alloc: Global, file: &[u8]) -> Result<ActionFile, Fault> {
+pub(crate) fn actions_of(alloc: Global, file: &[u8]) -> Result<ActionFile, Fault> {
     let lines = lines_of(alloc, file)?;
     Ok(ActionFile::read(alloc, lines.as_slice())?)
 }
 
 /// The sections of the actions files of a row.
-pub fn sections_of(row: &Row<'_>) -> Result<Sections, Fault> {
+pub(crate) fn sections_of(row: &Row<'_>) -> Result<Sections, Fault> {
     let mut files = List::new(row.alloc);
     for name in ["file", "second"] {
         let read = actions_of(row.alloc, row.file(name)?.as_bytes())?;
@@ -106,7 +106,7 @@ pub fn sections_of(row: &Row<'_>) -> Result<Sections, Fault> {
 }
 
 /// The side that a row names.
-pub fn side_of(row: &Row<'_>) -> Result<Side, Fault> {
+pub(crate) fn side_of(row: &Row<'_>) -> Result<Side, Fault> {
     match row.word("side")? {
         "request" => Ok(Side::Request),
         "response" => Ok(Side::Response),
@@ -115,13 +115,13 @@ pub fn side_of(row: &Row<'_>) -> Result<Side, Fault> {
 }
 
 /// The filter file of a row.
-pub fn filter_file_of(row: &Row<'_>) -> Result<FilterFile, Fault> {
+pub(crate) fn filter_file_of(row: &Row<'_>) -> Result<FilterFile, Fault> {
     let lines = lines_of(row.alloc, row.file("filters")?.as_bytes())?;
     Ok(FilterFile::read(row.alloc, lines.as_slice())?)
 }
 
 /// The filters of the filter file of a row.
-pub fn filters_of(row: &Row<'_>) -> Result<Filters, Fault> {
+pub(crate) fn filters_of(row: &Row<'_>) -> Result<Filters, Fault> {
     let file = filter_file_of(row)?;
     if file.filters.len() > 1_000 {
         return Err(Fault::Form("a thousand filters are the most"));
@@ -132,7 +132,7 @@ pub fn filters_of(row: &Row<'_>) -> Result<Filters, Fault> {
 }
 
 /// The bytes of a head by a value that has its lines between ` | `.
-pub fn head_of(row: &Row<'_>) -> Result<Text, Fault> {
+pub(crate) fn head_of(row: &Row<'_>) -> Result<Text, Fault> {
     let mut head = Text::new(row.alloc);
     for line in row.items("head")?.as_slice() {
         head.push_all(line.as_bytes())?;
@@ -143,7 +143,7 @@ pub fn head_of(row: &Row<'_>) -> Result<Text, Fault> {
 }
 
 /// The rule of bodies that a row names.
-pub fn rule_of(row: &Row<'_>) -> Result<BodyRule, Fault> {
+pub(crate) fn rule_of(row: &Row<'_>) -> Result<BodyRule, Fault> {
     match row.word("rule")? {
         "none" => Ok(BodyRule::Absent),
         "chunked" => Ok(BodyRule::Chunked),
@@ -153,7 +153,7 @@ pub fn rule_of(row: &Row<'_>) -> Result<BodyRule, Fault> {
 }
 
 /// The values of `$host`, `$origin`, `$path` and `$url`.
-pub fn vars_of(alloc: Global, host: &[u8]) -> Result<Vars, Fault> {
+pub(crate) fn vars_of(alloc: Global, host: &[u8]) -> Result<Vars, Fault> {
     Ok(Vars {
         host: Text::from_bytes(alloc, host)?,
         origin: Text::from_bytes(alloc, b"127.0.0.1")?,

@@ -20,7 +20,7 @@ fn symbols(alloc: Global, host: &[u8], reason: &[u8], error: &[u8]) -> Result<Sy
 }
 
 /// The page of a template, beside which the template `head` stands.
-pub fn templates(row: &Row<'_>) -> Result<Text, Fault> {
+pub(crate) fn templates(row: &Row<'_>) -> Result<Text, Fault> {
     let head = [(said(row.alloc, "head")?, row.text("head")?)];
     let template = Template::read(row.alloc, row.bytes("template")?.as_slice(), &head)?;
     let host = row.bytes("host")?;
@@ -51,7 +51,7 @@ fn reply_named(row: &Row<'_>, name: &str) -> Result<(Local, Text), Fault> {
 }
 
 /// A whole reply.
-pub fn replies(row: &Row<'_>) -> Result<Text, Fault> {
+pub(crate) fn replies(row: &Row<'_>) -> Result<Text, Fault> {
     let (kind, body) = reply_named(row, row.word("reply")?)?;
     let close = row.is("close")?;
     let bodiless = row.is("bodiless")?;

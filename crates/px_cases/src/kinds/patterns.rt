@@ -11,7 +11,7 @@ use std::marker::Brand;
 use std::sync::ledger::{Blank, Ledger};
 
 /// Those of the asked ports that a list of ports allows, or `refused`.
-pub fn ports(row: &Row<'_>) -> Result<Text, Fault> {
+pub(crate) fn ports(row: &Row<'_>) -> Result<Text, Fault> {
     match Ports::read(row.alloc, row.string("ports")?.as_str()) {
         Ok(ports) => allowed(row, &ports),
         Err(PortsFault::Bad) => said(row.alloc, "refused"),
@@ -30,7 +30,7 @@ fn allowed(row: &Row<'_>, ports: &Ports) -> Result<Text, Fault> {
 }
 
 /// The host, port and path of a URL or of a tunnel's target, its printed form, and its host and port as in a Host field.
-pub fn urls(row: &Row<'_>) -> Result<Text, Fault> {
+pub(crate) fn urls(row: &Row<'_>) -> Result<Text, Fault> {
     let url = url_of(row, row.is("tunnel")?)?;
     let mut out = Text::from_bytes(row.alloc, url.host.as_bytes())?;
     push_item(&mut out, format!(in row.alloc; "{}", url.port)?.as_bytes())?;
@@ -41,7 +41,7 @@ pub fn urls(row: &Row<'_>) -> Result<Text, Fault> {
 }
 
 /// Whether a pattern matches a URL.
-pub fn matches(row: &Row<'_>) -> Result<Text, Fault> {
+pub(crate) fn matches(row: &Row<'_>) -> Result<Text, Fault> {
     let pattern = UrlPattern::read(row.alloc, row.string("pattern")?.as_str())?;
     let url = url_of(row, false)?;
     let yes = matches_counted::<Brand>(row.alloc, &pattern, &url, Blank::new(1))?;
@@ -63,7 +63,7 @@ fn matches_counted<L: Ledger>(
 }
 
 /// Whether the expression of a tag pattern is found in a tag.
-pub fn tags(row: &Row<'_>) -> Result<Text, Fault> {
+pub(crate) fn tags(row: &Row<'_>) -> Result<Text, Fault> {
     let pattern = TagPattern::read(row.alloc, row.string("expression")?.as_str())?;
     let yes = pattern.matches(row.alloc, row.bytes("tag")?.as_slice())?;
     yes_or_no(row.alloc, yes)

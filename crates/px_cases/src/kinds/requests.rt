@@ -12,7 +12,7 @@ use px_patterns::Url;
 use px_taggers::tag_headers;
 
 /// Where a request goes and its fields, behind the actions of words. The client's address is 127.0.0.1.
-pub fn requests(row: &Row<'_>) -> Result<Text, Fault> {
+pub(crate) fn requests(row: &Row<'_>) -> Result<Text, Fault> {
     let mut head = RequestHead::read(row.alloc, head_of(row)?.as_bytes())?;
     let url = Url::read(row.alloc, head.target.as_bytes())?;
     let peer = Peer {
@@ -29,7 +29,7 @@ pub fn requests(row: &Row<'_>) -> Result<Text, Fault> {
 }
 
 /// The tags that the lines of a message make, and behind `set` the lines of its set.
-pub fn taggers(row: &Row<'_>) -> Result<Text, Fault> {
+pub(crate) fn taggers(row: &Row<'_>) -> Result<Text, Fault> {
     let (sections, filters) = (sections_of(row)?, filters_of(row)?);
     let (lines, side, vars) = (row.items("lines")?, side_of(row)?, vars_of(row.alloc, b"")?);
     let mut set = set_of(row)?;

@@ -23,7 +23,7 @@ fn lines_of_set(alloc: Global, set: &ActionSet) -> Result<Text, Fault> {
 
 /// The sections of files that match a URL and the tags of a client, each as FILE:LINE with the files numbered from 0, and
 /// the lines of the set that they make.
-pub fn sections(row: &Row<'_>) -> Result<Text, Fault> {
+pub(crate) fn sections(row: &Row<'_>) -> Result<Text, Fault> {
     let sections = sections_of(row)?;
     let url = url_of(row, false)?;
     let tags = row.items("tags")?;
@@ -56,7 +56,7 @@ fn matched<L: Ledger>(
 }
 
 /// The lines of an empty set to which the sections on a tag are applied.
-pub fn tagged(row: &Row<'_>) -> Result<Text, Fault> {
+pub(crate) fn tagged(row: &Row<'_>) -> Result<Text, Fault> {
     let sections = sections_of(row)?;
     let mut set = ActionSet::empty(row.alloc);
     sections.apply_tag(row.alloc, &mut set, row.bytes("tag")?.as_slice())?;
@@ -64,7 +64,7 @@ pub fn tagged(row: &Row<'_>) -> Result<Text, Fault> {
 }
 
 /// The lines of an empty set to which the sections on tags are applied that are absent on a side.
-pub fn absent(row: &Row<'_>) -> Result<Text, Fault> {
+pub(crate) fn absent(row: &Row<'_>) -> Result<Text, Fault> {
     let sections = sections_of(row)?;
     let tags = row.items("tags")?;
     let mut set = ActionSet::empty(row.alloc);
@@ -73,7 +73,7 @@ pub fn absent(row: &Row<'_>) -> Result<Text, Fault> {
 }
 
 /// What the words of actions decide on a request or a tunnel.
-pub fn decisions(row: &Row<'_>) -> Result<Text, Fault> {
+pub(crate) fn decisions(row: &Row<'_>) -> Result<Text, Fault> {
     let set = set_of(row)?;
     let tunnel = row.is("tunnel")?;
     let url = url_of(row, tunnel)?;
@@ -96,7 +96,7 @@ pub fn decisions(row: &Row<'_>) -> Result<Text, Fault> {
 }
 
 /// Where the request of a URL is sent by forward lines and the words of actions.
-pub fn routes(row: &Row<'_>) -> Result<Text, Fault> {
+pub(crate) fn routes(row: &Row<'_>) -> Result<Text, Fault> {
     let mut forwards = Forwards::empty(row.alloc);
     for line in row.items("lines")?.as_slice() {
         forwards.add(as_str(line.as_bytes())?)?;

@@ -6,9 +6,8 @@ ghost use Rattle.px_action_files.specs.Faults.{refused};
 ghost use Rattle.px_config.specs.Addresses.{address_of};
 ghost use Rattle.px_config.specs.Directives.{last_value, name_in, value_in, values_of};
 ghost use Rattle.px_config.specs.FaultLines.{fault_line, load_name};
-ghost use Rattle.px_config.specs.Mains.{directive_of, main_of, nothing_set, with_line};
+ghost use Rattle.px_config.specs.Mains.{directive_of, is_other, main_of, nothing_set, with_line};
 ghost use Rattle.px_config.specs.Names.{action_names, confdir, folder_of, full_name, templdir};
-ghost use Rattle.px_config.specs.declared.directives.Directive.TheVariants as directive;
 ghost use Rattle.px_tests.specs.Rows.{line};
 
 /// Connections are taken on this machine alone.
@@ -31,10 +30,10 @@ fn addresses()
 fn directives()
     ensures name { name_in (codes "Toggle \t1") ≡ codes "Toggle" }
     ensures value { value_in (codes "actionsfile  my file.action ") ≡ codes "my file.action" }
-    ensures files { directive_of (codes "ActionsFile") ≡ directive.ActionsFile }
-    ensures folder { directive_of (codes "templdir") ≡ directive.Folder }
-    ensures socks { directive_of (codes "forward-socks5t") ≡ directive.Socks }
-    ensures other { directive_of (codes "logfile") ≡ directive.Other }
+    ensures files { is_other (directive_of (codes "ActionsFile")) ≡ false }
+    ensures folder { is_other (directive_of (codes "templdir")) ≡ false }
+    ensures socks { is_other (directive_of (codes "forward-socks5t")) ≡ false }
+    ensures other { is_other (directive_of (codes "logfile")) ≡ true }
     ensures all { values_of (codes "actionsfile") (line 1 (codes "actionsfile a") ∷ line 2 (codes "toggle 1") ∷ line 3 (codes "ACTIONSFILE b") ∷ [])
         ≡ codes "a" ∷ codes "b" ∷ [] }
     ensures last { last_value (codes "confdir") (line 1 (codes "confdir a") ∷ line 2 (codes "confdir b") ∷ []) ≡ Some (codes "b") }

@@ -1,16 +1,15 @@
 //! Header actions (Privoxy's manual, "Actions Files"; RFC 9110; RFC 6265).
-#![tactic(auto, unfolding(core::specs::Fmt::digits, core::specs::Str::chars, core::specs::Str::is_utf8, httpdate::specs::Calendar::days_of_months, httpdate::specs::Calendar::days_of_years, httpdate::specs::Reader::parse, httpdate::specs::Reader::parse_asctime, httpdate::specs::Reader::parse_imf_fixdate, httpdate::specs::Reader::parse_rfc850_date, httpdate::specs::Reader::read_name, httpdate::specs::Reader::read_padded_day, httpdate::specs::Reader::read_tag, httpdate::specs::Reader::read_time, httpdate::specs::Reader::read_two_digits, httpdate::specs::Reader::read_year, memchr::specs::Find::first_of, memchr::specs::Find::matches_from, px_base::specs::Blanks::trimmed, px_base::specs::Numbers::decimal, px_base::specs::Ports::port, px_head::specs::Names::is_held_back_of_request, px_head::specs::Names::is_held_back_of_response, px_head::specs::Names::lists_word, px_headers::specs::ClientRows::blocked, px_headers::specs::ClientRows::blocked_or_set, px_headers::specs::Cookies::cap_of, px_headers::specs::Cookies::capped_attribute, px_headers::specs::Cookies::capped_cookie, px_headers::specs::Cookies::is_expires, px_headers::specs::Cookies::is_max_age, px_headers::specs::Cookies::is_short, px_headers::specs::Cookies::is_soon, px_headers::specs::Cookies::piece_name, px_headers::specs::Cookies::piece_value, px_headers::specs::Cookies::session_cookie, px_headers::specs::Dates::date_at, px_headers::specs::Dates::date_on, px_headers::specs::Dates::month_on, px_headers::specs::Dates::year_on, px_headers::specs::HeldBack::is_held_back, px_headers::specs::HeldBack::passed_on, px_headers::specs::Kinds::holds_without_case, px_headers::specs::Kinds::is_text_type, px_headers::specs::Referrers::is_foreign, px_headers::specs::Referrers::root_of, px_headers::specs::Referrers::with_hidden_referrer, px_headers::specs::Referrers::without_brackets, px_headers::specs::Rewrites::before_version, px_headers::specs::Rewrites::behind, px_headers::specs::Rewrites::behind_version, px_headers::specs::Rewrites::is_status_part, px_headers::specs::Rewrites::rewritten, px_headers::specs::Rewrites::target_in, px_headers::specs::Rows::with_more, px_headers::specs::Rows::with_value, px_headers::specs::Rows::without, px_headers::specs::Rows::without_holding, px_patterns::specs::Urls::host_of, px_patterns::specs::Urls::port_of, px_patterns::specs::Urls::shown_host_port, px_patterns::specs::Urls::url_of))]
+#![tactic(auto, unfolding(core::specs::Fmt::digits, core::specs::Str::chars, core::specs::Str::is_utf8, memchr::specs::Find::first_of, memchr::specs::Find::matches_from, px_base::specs::Blanks::trimmed, px_base::specs::Numbers::decimal, px_base::specs::Ports::port, px_headers::specs::ClientRows::blocked, px_headers::specs::ClientRows::blocked_or_set, px_headers::specs::Cookies::is_expires, px_headers::specs::Cookies::is_max_age, px_headers::specs::Cookies::piece_name, px_headers::specs::Cookies::piece_value, px_headers::specs::Cookies::session_cookie, px_headers::specs::Kinds::holds_without_case, px_headers::specs::Kinds::is_text_type, px_headers::specs::Referrers::is_foreign, px_headers::specs::Referrers::root_of, px_headers::specs::Referrers::with_hidden_referrer, px_headers::specs::Referrers::without_brackets, px_headers::specs::Rewrites::before_version, px_headers::specs::Rewrites::behind, px_headers::specs::Rewrites::behind_version, px_headers::specs::Rewrites::is_status_part, px_headers::specs::Rewrites::rewritten, px_headers::specs::Rewrites::target_in, px_headers::specs::Rows::with_more, px_headers::specs::Rows::with_value, px_headers::specs::Rows::without, px_headers::specs::Rows::without_holding, px_patterns::specs::Urls::host_of, px_patterns::specs::Urls::port_of, px_patterns::specs::Urls::shown_host_port, px_patterns::specs::Urls::url_of))]
 
 ghost use Rattle.std.specs.Prelude.{◌≡◌, ◌∷◌, [], Some, None, true, false, codes, option_map};
 ghost use Rattle.px_headers.specs.ClientRows.{blocked, blocked_or_set};
-ghost use Rattle.px_headers.specs.Cookies.{capped_cookie, session_cookie};
-ghost use Rattle.px_headers.specs.HeldBack.{passed_on};
+ghost use Rattle.px_headers.specs.Cookies.{are_some_digits, is_expires, is_max_age, is_negative, piece_name, piece_value, session_cookie};
+ghost use Rattle.px_headers.specs.HeldBack.{connection_words, words_in};
 ghost use Rattle.px_headers.specs.Kinds.{is_text_type};
 ghost use Rattle.px_headers.specs.Referrers.{host_behind, is_foreign, with_hidden_referrer};
 ghost use Rattle.px_headers.specs.Rewrites.{is_status_line, kept_status_line, rewritten};
 ghost use Rattle.px_headers.specs.Rows.{with_more, with_value, without, without_holding};
-ghost use Rattle.px_headers.specs.declared.held_back.Message.TheVariants.{Request, Response};
-ghost use Rattle.px_tests.specs.Rows.{field, hour, url_at};
+ghost use Rattle.px_tests.specs.Rows.{field, url_at};
 
 /// The host of a referrer is what stands behind `://` up to a slash, a question mark or a hash mark, without a port and without
 /// brackets; a colon with other bytes than digits behind it is no port (Privoxy's manual, "hide-referrer").
@@ -49,13 +48,17 @@ fn cookies_of_a_session()
     ensures whole { session_cookie (codes "s=9; expires=Mon, 10 Sep 2001 00:00:00 GMT; path=/") ≡ codes "s=9; path=/" }
 {}
 
-/// A cap of sixty minutes from the moment 1,000,000,000 on (Privoxy's manual, "limit-cookie-lifetime").
-fn capped_cookies()
-    ensures added { capped_cookie hour (codes "b=2") ≡ codes "b=2; expires=Sun, 09 Sep 2001 02:46:40 GMT" }
-    ensures longer { capped_cookie hour (codes "c=3; max-age=86400") ≡ codes "c=3; max-age=3600" }
-    ensures shorter { capped_cookie hour (codes "d=4; max-age=60") ≡ codes "d=4; max-age=60" }
-    ensures past { capped_cookie hour (codes "e=5; Max-Age=-1; path=/") ≡ codes "e=5; Max-Age=-1; path=/" }
-    ensures no_date { capped_cookie hour (codes "f=6; expires=soon") ≡ codes "f=6; expires=Sun, 09 Sep 2001 02:46:40 GMT" }
+/// The pieces of a cookie have names and values, without white space at their ends (RFC 6265, section 4.1).
+fn pieces_of_cookies()
+    ensures name { piece_name (codes " Max-Age = 5") ≡ codes "Max-Age" }
+    ensures value { piece_value (codes " Max-Age = 5 ") ≡ codes "5" }
+    ensures no_value { piece_name (codes " secure ") ≡ codes "secure" }
+    ensures expires { is_expires (codes " EXPIRES=x") ≡ true }
+    ensures max_age { is_max_age (codes "max-age") ≡ true }
+    ensures other { is_expires (codes "expires2=x") ≡ false }
+    ensures past { is_negative (codes "-1") ≡ true }
+    ensures minus { is_negative (codes "-") ≡ false }
+    ensures digits { are_some_digits (codes "60s") ≡ false }
 {}
 
 /// Which content types are those of a text.
@@ -67,13 +70,10 @@ fn types_of_a_text()
     ensures xml { is_text_type (codes "application/XHTML+XML") ≡ true }
 {}
 
-/// The fields of one connection, and those that it names, aren't passed on (RFC 9110, section 7.6.1).
-fn passed_fields()
-    ensures named { passed_on Request (field (codes "Connection") (codes "X-A, close") ∷ field (codes "x-a") (codes "1") ∷ field (codes "Accept") (codes "*") ∷ [])
-        ≡ field (codes "Accept") (codes "*") ∷ [] }
-    ensures host { passed_on Request (field (codes "Host") (codes "b.test") ∷ []) ≡ [] }
-    ensures host_of_an_answer { passed_on Response (field (codes "Host") (codes "b.test") ∷ [])
-        ≡ field (codes "Host") (codes "b.test") ∷ [] }
+/// The words of a Connection field name fields that aren't passed on (RFC 9110, section 7.6.1); Keep-Alive never is.
+fn words_of_connection_fields()
+    ensures words { words_in (codes "X-A ,close, Keep-Alive") ≡ codes "X-A" ∷ codes "close" ∷ [] }
+    ensures fields { connection_words (field (codes "connection") (codes "X-A") ∷ field (codes "Upgrade") (codes "X-B") ∷ []) ≡ codes "X-A" ∷ [] }
 {}
 
 /// What actions do to fields: setting changes those that are there, and removing removes each.

@@ -1,0 +1,299 @@
+#!/usr/bin/env python3
+"""Makes the Debian package of the built program, unpacks it, runs the installed program by the unit's own command line and filters a
+page; then two instances behind haproxy, by packaging/haproxy.cfg, of which one is stopped under load.
+
+Usage: package.py PROGRAM
+
+Also: lintian finds nothing, and `systemd-analyze security` gives the units at most 2.5. What can't be had is skipped with the reason.
+Says what failed, and ends with 1 then.
+"""
+import http.server
+import os
+import re
+import shlex
+import shutil
+import signal
+import socket
+import subprocess
+import sys
+import tempfile
+import threading
+import time
+
+HERE = os.path.dirname(os.path.abspath(__file__))
+PACKAGING = os.path.join(HERE, "..", "packaging")
+UNITS = ("helmthread.service", "helmthread@.service")
+MOST_EXPOSED = 2.5
+PAGE = b'<html><body>a<img src="/t.gif" width="1" height="1">b</body></html>'
+CLEAN = b"<html><body>a<!-- tiny image taken out -->b</body></html>"
+failed = 0
+
+
+class Net(http.server.BaseHTTPRequestHandler):
+    def do_GET(self):
+        self.send_response(200)
+        self.send_header("Content-Type", "text/html")
+        self.send_header("Content-Length", str(len(PAGE)))
+        self.end_headers()
+        self.wfile.write(PAGE)
+
+    def log_message(self, *_):
+        pass
+
+
+def check(what, right, said=""):
+    global failed
+    if not right:
+        failed += 1
+        print("package.py: %s %s" % (what, said))
+
+
+def free_port():
+    with socket.socket() as it:
+        it.bind(("127.0.0.1", 0))
+        return it.getsockname()[1]
+
+
+def wait_for(port):
+    for _ in range(300):
+        try:
+            socket.create_connection(("127.0.0.1", port), 1).close()
+            return True
+        except OSError:
+            time.sleep(0.1)
+    return False
+
+
+def page(port):
+    """The page through the proxy at the port, over a connection of its own."""
+    with socket.create_connection(("127.0.0.1", port), 20) as it:
+        it.settimeout(20)
+        it.sendall(
+            b"GET http://www.example.com/ HTTP/1.1\r\nHost: www.example.com\r\nConnection: close\r\n\r\n"
+        )
+        got = b""
+        while True:
+            more = it.recv(65536)
+            if not more:
+                return got
+            got += more
+
+
+def command(root, unit, key, instance=""):
+    """A command line of a unit, its files taken from the unpacked package."""
+    with open(os.path.join(root, "lib/systemd/system", unit), encoding="utf-8") as file:
+        line = re.search(r"^%s=(.*)$" % key, file.read(), re.MULTILINE)[1]
+    return [
+        re.sub("^/(usr|etc)/", root + r"/\1/", word.replace("%i", instance))
+        for word in shlex.split(line)
+    ]
+
+
+def main_file(root, name, port, net):
+    with open(os.path.join(root, "etc/helmthread/config"), encoding="utf-8") as file:
+        text = file.read()
+    with open(os.path.join(root, "etc/helmthread", name), "w", encoding="utf-8") as file:
+        file.write(
+            re.sub(
+                r"^listen-address .*$",
+                "listen-address 127.0.0.1:%d" % port,
+                text,
+                flags=re.MULTILINE,
+            )
+            + "\nforward / 127.0.0.1:%d\n" % net
+        )
+
+
+def made(program, folder):
+    """The package, unpacked; None where it can't be made."""
+    for tool in ("dpkg-deb", "dpkg-shlibdeps", "strip"):
+        if not shutil.which(tool):
+            print("package.py: skipped, since %s can't be had" % tool)
+            return None
+    ran = subprocess.run(
+        [sys.executable, os.path.join(PACKAGING, "make-deb"), "--program", program, folder],
+        capture_output=True,
+        text=True,
+        timeout=600,
+    )
+    check("make-deb", ran.returncode == 0, ran.stderr)
+    if ran.returncode:
+        return None
+    package = ran.stdout.strip()
+    if shutil.which("lintian"):
+        found = subprocess.run(
+            ["lintian", "--allow-root", package], capture_output=True, text=True, timeout=600
+        )
+        check(
+            "lintian",
+            found.returncode == 0 and not re.search("^[EW]:", found.stdout, re.MULTILINE),
+            found.stdout + found.stderr,
+        )
+    else:
+        print("package.py: lintian is skipped, since it can't be had")
+    root = os.path.join(folder, "root")
+    subprocess.run(["dpkg-deb", "-x", package, root], check=True)
+    return root
+
+
+def exposure(root):
+    """What systemd says of the units."""
+    if not shutil.which("systemd-analyze"):
+        print("package.py: systemd-analyze is skipped, since it can't be had")
+        return
+    for unit in UNITS:
+        path = os.path.join(root, "lib/systemd/system", unit)
+        ran = subprocess.run(
+            ["systemd-analyze", "security", "--offline=true", path],
+            capture_output=True,
+            text=True,
+            timeout=60,
+        )
+        found = re.search(r"exposure level for \S+: (\d+\.\d)", ran.stdout)
+        check(
+            "the exposure of " + unit,
+            bool(found) and float(found[1]) <= MOST_EXPOSED,
+            found[0] if found else ran.stderr,
+        )
+
+
+def installed(root, net):
+    """The unit's command lines, a page, the tools and the man pages."""
+    port = free_port()
+    main_file(root, "config", port, net)
+    checked = subprocess.run(
+        command(root, "helmthread.service", "ExecStartPre"),
+        capture_output=True,
+        text=True,
+        timeout=60,
+    )
+    check(
+        "ExecStartPre",
+        checked.returncode == 0 and checked.stdout.startswith("ok:"),
+        checked.stdout + checked.stderr,
+    )
+    proxy = subprocess.Popen(
+        command(root, "helmthread.service", "ExecStart"), stderr=subprocess.DEVNULL
+    )
+    try:
+        check("the installed program listens", wait_for(port))
+        got = page(port)
+        check("the installed program filters a page", got.endswith(CLEAN), repr(got[-200:]))
+    finally:
+        proxy.kill()
+        proxy.wait()
+    for name in ("helmthread-lint", "helmthread-from-hosts", "helmthread-from-privoxy"):
+        ran = subprocess.run(
+            [os.path.join(root, "usr/bin", name), "--help"],
+            capture_output=True,
+            text=True,
+            timeout=60,
+        )
+        check(name + " --help", ran.returncode == 0 and "usage: " + name in ran.stdout, ran.stderr)
+    linted = subprocess.run(
+        [
+            os.path.join(root, "usr/bin/helmthread-lint"),
+            os.path.join(root, "etc/helmthread/config"),
+        ],
+        capture_output=True,
+        text=True,
+        timeout=60,
+    )
+    check(
+        "helmthread-lint over the installed files",
+        linted.stdout == "nothing found\n",
+        linted.stdout,
+    )
+
+
+def behind_haproxy(root, net, folder):
+    """Two instances; one is stopped under load, and no request of a connection made from then on is lost."""
+    haproxy = shutil.which("haproxy", path="/usr/sbin:/usr/bin")
+    if not haproxy:
+        print("package.py: haproxy is skipped, since it can't be had")
+        return
+    ports = {"8118": free_port(), "8121": free_port(), "8122": free_port()}
+    with open(
+        os.path.join(root, "usr/share/doc/helmthread/examples/haproxy.cfg"), encoding="utf-8"
+    ) as file:
+        text = re.sub("8118|8121|8122", lambda found: str(ports[found[0]]), file.read())
+    config = os.path.join(folder, "haproxy.cfg")
+    with open(config, "w", encoding="utf-8") as file:
+        file.write(text)
+    running = []
+    for name, port in (("a", ports["8121"]), ("b", ports["8122"])):
+        main_file(root, name + ".config", port, net)
+        running.append(
+            subprocess.Popen(
+                command(root, "helmthread@.service", "ExecStart", name), stderr=subprocess.DEVNULL
+            )
+        )
+        check("instance %s listens" % name, wait_for(port))
+    running.append(
+        subprocess.Popen(
+            [haproxy, "-db", "-f", config], stdout=subprocess.DEVNULL, stderr=subprocess.DEVNULL
+        )
+    )
+    try:
+        check("haproxy listens", wait_for(ports["8118"]))
+        results, stopped, end = [], [None], time.time() + 8
+
+        def client():
+            while time.time() < end:
+                began = time.time()
+                try:
+                    right = page(ports["8118"]).endswith(CLEAN)
+                except OSError:
+                    right = False
+                results.append((began, right))
+
+        clients = [threading.Thread(target=client) for _ in range(8)]
+        for it in clients:
+            it.start()
+        time.sleep(3)
+        running[0].send_signal(signal.SIGTERM)
+        running[0].wait()
+        stopped[0] = time.time()
+        for it in clients:
+            it.join()
+        before = [right for began, right in results if began < stopped[0] - 1]
+        after = [right for began, right in results if began >= stopped[0]]
+        check(
+            "pages before the stop",
+            len(before) > 20 and all(before),
+            "%d of %d" % (before.count(False), len(before)),
+        )
+        check(
+            "pages of connections made after it",
+            len(after) > 20 and all(after),
+            "%d of %d lost" % (after.count(False), len(after)),
+        )
+        print(
+            "package.py: %d pages before the stop of one instance, %d after it, %d lost"
+            % (len(before), len(after), after.count(False))
+        )
+    finally:
+        for it in running:
+            it.kill()
+            it.wait()
+
+
+def main():
+    if len(sys.argv) != 2:
+        print(__doc__.split("\n\n")[1], file=sys.stderr)
+        return 2
+    with tempfile.TemporaryDirectory() as folder:
+        root = made(os.path.abspath(sys.argv[1]), folder)
+        if root is not None:
+            server = http.server.ThreadingHTTPServer(("127.0.0.1", 0), Net)
+            threading.Thread(target=server.serve_forever, daemon=True).start()
+            exposure(root)
+            installed(root, server.server_address[1])
+            behind_haproxy(root, server.server_address[1], folder)
+            server.shutdown()
+    print("package.py: %d failed" % failed)
+    return 1 if failed else 0
+
+
+if __name__ == "__main__":
+    sys.exit(main())

@@ -1,0 +1,178 @@
+"""What the linter says of patterns. It is a part of `linting.Linter`."""
+
+import re
+
+from . import tables
+from .scanning import scan
+
+
+class PatternLints:
+    """Patterns."""
+
+    def pattern(self, name, line):
+        text, number = line.text, line.number
+        if (name, number) in self.cut:
+            return
+        word = next((it for it in tables.TAG_WORDS if text.startswith(it)), None)
+        if word:
+            for part, what, write in scan(text[len(word) :]):
+                self.say(name, number, part, what + " isn't read", write)
+        elif re.match(r"(?i)(no-request-|no-response-|client-)?tag:", text):
+            self.say(
+                name,
+                number,
+                text.partition(":")[0] + ":",
+                "these words stand in capitals",
+                text.partition(":")[0].upper() + ":" + text.partition(":")[2],
+            )
+        elif text.startswith("PCRE-HOST-PATTERN:"):
+            self.say(
+                name,
+                number,
+                "PCRE-HOST-PATTERN:",
+                "hosts aren't matched by expressions",
+                "A pattern of chapter 6, as .example.com",
+            )
+        elif not self.adblock(name, line):
+            self.url_pattern(name, number, text)
+
+    def adblock(self, name, line):
+        """Whether the line is one of another kind of list, with a complaint where it is."""
+        raw = line.raw[0].strip()
+        host = re.match(r"(?:@@)?\|\|([^/^$|#*]+)", raw)
+        if raw.startswith(("||", "@@", "|http")):
+            section = "{-block}" if raw.startswith("@@") else "{+block{Why}}"
+            self.say(
+                name,
+                line.number,
+                raw,
+                "this is a rule for Adblock",
+                ".%s below %s; for whole lists there is helmthread-from-hosts"
+                % (host[1] if host else "example.com", section),
+            )
+        elif (
+            re.search(r"^[\w.,~-]*##?@?#?[.#\[\w]", raw) and "##" in raw and not raw.startswith("#")
+        ):
+            self.say(
+                name,
+                line.number,
+                raw,
+                "this is a rule for Adblock that hides a part of a page; here the whole host `%s` is meant"
+                % line.text,
+                "Nothing; take the line away, or write a filter",
+            )
+        elif raw.startswith("!"):
+            self.say(name, line.number, raw, "a comment begins with #", "#" + raw[1:])
+        elif re.match(r"(0\.0\.0\.0|127\.0\.0\.1|::1?)[ \t]+\S", raw):
+            self.say(
+                name,
+                line.number,
+                raw,
+                "this is a line of a hosts file",
+                "%s; for whole lists there is helmthread-from-hosts" % raw.split()[1],
+            )
+        else:
+            return False
+        return True
+
+    def url_pattern(self, name, number, text):
+        if re.match("(?i)https?://", text):
+            self.say(
+                name,
+                number,
+                text,
+                "a pattern has no http:// in front",
+                re.sub("(?i)^https?://", "", text),
+            )
+            return
+        host, slash, path = text.partition("/")
+        if re.search(r"\s", text):
+            words = text.split()
+            what = (
+                "two patterns stand on one line"
+                if all("." in word or "/" in word for word in words)
+                else "a pattern has no space in it"
+            )
+            self.say(
+                name, number, text, what, "Each in a line of its own: %s" % " and ".join(words[:2])
+            )
+            return
+        if not self.host(name, number, host, slash + path):
+            return
+        for part, what, write in scan(path):
+            self.say(name, number, part, what + " isn't read", write)
+        if path.startswith("*"):
+            self.say(
+                name,
+                number,
+                text,
+                "`/*` is any number of slashes; a path is an expression, where `.*` is any text",
+                host + "/." + path,
+            )
+        elif re.search(r"\w\?\w+=", path):
+            part = re.search(r"\w\?\w+=", path)[0]
+            self.say(
+                name,
+                number,
+                part,
+                "`?` makes the letter before it optional",
+                part.replace("?", "\\?"),
+            )
+
+    def host(self, name, number, host, rest):
+        """Whether the host and the ports of a pattern are right."""
+        if re.match(r"\[[0-9A-Fa-f.]*:[0-9A-Fa-f:.]*\]", host):
+            self.say(
+                name,
+                number,
+                host,
+                "an IPv6 address stands in < and >",
+                "<%s>%s" % (host.strip("[]"), rest),
+            )
+        elif host.count(":") > 1 and not host.startswith("<"):
+            self.say(
+                name, number, host, "an IPv6 address stands in < and >", "<%s>%s" % (host, rest)
+            )
+        elif host.startswith("<"):
+            if not re.fullmatch(r"<[0-9A-Fa-f:.]+>(:.*)?", host):
+                self.say(
+                    name, number, host, "between < and > stands an address", "<2001:db8::1>" + rest
+                )
+        elif ":" in host and not tables.is_ports(host.partition(":")[2]):
+            self.say(
+                name,
+                number,
+                host,
+                "behind the colon stands a list of ports",
+                host.partition(":")[0] + ":80,8000-8100" + rest,
+            )
+        elif ".." in host:
+            self.say(name, number, host, "two dots side by side", host.replace("..", ".") + rest)
+        elif (
+            host.count("[") != host.count("]")
+            or "[]" in host
+            or re.search(r"\[[^\]]*?([^\\])-([^\]])", host)
+            and any(a > b for a, b in re.findall(r"([^\[])-([^\]])", host))
+        ):
+            self.say(
+                name,
+                number,
+                host,
+                "`[` and `]` hold the characters of one place",
+                host.replace("[", "").replace("]", "") + rest,
+            )
+        elif host.endswith("^") or "$" in host or "|" in host:
+            self.say(
+                name,
+                number,
+                host,
+                "this is a rule for Adblock",
+                "." + re.split(r"[\^$|]", host.strip("|"))[0],
+            )
+        elif "," in host.partition(":")[0]:
+            self.say(
+                name, number, host, "one pattern stands on a line", "Each in a line of its own"
+            )
+        else:
+            return True
+        return False
