@@ -1,14 +1,15 @@
 -- What a reload gives, by what came of the files.
-use Rattle.std.proofs.Common.{rules, ◌≡◌, ℕ, IsTrue, List, refl, ap, sym, ◌∙◌, subst, inl, inr}
+use Rattle.std.proofs.Common.{rules, ◌≡◌, ◌≢◌, ℕ, IsTrue, List, refl, ap, sym, ◌∙◌, subst, inl, inr}
 use Rattle.px_base.specs.Causes.{Rose}
 use Rattle.px_base.specs.Contents.{Contents, FilesState, FilesGoOn, Turns, Unchanged}
 use Rattle.px_base.specs.Sinks.{SinkGoesOn}
 use Rattle.px_config.specs.Gathering.{OnlyReads, ReadsOneOf, gathered, names_read}
+use Rattle.px_config.specs.declared.configs.Config.{Config}
 use Rattle.px_config.specs.declared.faults.LoadFault.{LoadFault}
 use Rattle.px_config.specs.declared.faults.LoadFault.TheVariants as fault
 use Rattle.px_config.specs.declared.sets.FileSet.{FileSet}
-use Rattle.px_desk.specs.Sets.{set_of, HasFault}
-use Rattle.px_desk.specs.Reloads.{Gives, IsKept, IsNamed, IsPublished, IsSame, IsSet, IsUnread, IsWanting, KeptBy, LoaderState, Reloads, TakesSet, TakesTurn, Unreads}
+use Rattle.px_desk.specs.Sets.{set_of, HasFault, Spells}
+use Rattle.px_desk.specs.Reloads.{Gives, IsKept, IsNamed, IsPublished, IsSame, IsSet, IsUnread, IsWanting, KeptBy, LoaderState, Publishes, Reloads, TakesSet, TakesTurn, Unreads}
 use Rattle.px_desk.specs.declared.reloads.Reload.{Reload}
 use Rattle.px_desk.specs.declared.reloads.Reload.TheVariants as reload
 
@@ -37,6 +38,13 @@ named_behind : (main : List ℕ) (b c : FilesState) (f : LoadFault) → OnlyRead
 named_behind main b c f reads is tells =
     let told = subst IsTrue reads.tells_same tells in
     subst (λ (k : Contents). ReadsOneOf (names_read k main) f) (sym (same_contents (reads.unchanged told))) (is told)
+
+-- a set that spells a configuration
+pub publishes_takes : (set : FileSet) (config : Config) (old new : LoaderState) (r : Reload) → set ≢ old.remembered → Spells set config → Publishes set config old new r → TakesSet set old new r
+publishes_takes set config old new reload.Same another spells p = absurd p
+publishes_takes set config old new (reload.Published n) another spells p = (another, config, spells, p)
+publishes_takes set config old new (reload.Kept f) another spells p = absurd p
+publishes_takes set config old new reload.NoMemory another spells p = inl p
 
 -- what came of a set that was gathered
 module _ (old new : LoaderState) (f : FilesState) (set : FileSet) (calm : f.read_faults ≡ old.files.read_faults) (is : IsSet (record old { files = f }) set) where
