@@ -42,7 +42,7 @@ named_behind main b c f reads is tells =
 -- a set that spells a configuration
 pub publishes_takes : (set : FileSet) (config : Config) (old new : LoaderState) (r : Reload) → set ≢ old.remembered → Spells set config → Publishes set config old new r → TakesSet set old new r
 publishes_takes set config old new reload.Same another spells p = absurd p
-publishes_takes set config old new (reload.Published n) another spells p = (another, config, spells, p)
+publishes_takes set config old new (reload.Published n) another spells p = (another, (config, spells, p))
 publishes_takes set config old new (reload.Kept f) another spells p = absurd p
 publishes_takes set config old new reload.NoMemory another spells p = inl p
 
