@@ -20,8 +20,8 @@ use Rattle.px_proxy.specs.contracts.workers.Worker as worker
 use Rattle.px_proxy.specs.declared.workers.Making as making
 
 module _ (N F A E I O D T LI LO : RattleType) (n : making.Ghosts N.Denot) (f : files.Ghosts F.Denot) (a : doors.Ghosts A.Denot I.Denot O.Denot D.Denot T.Denot LI.Denot LO.Denot) (i : source.Ghosts I.Denot) (o : sink.Ghosts O.Denot) (d : dialer.Ghosts D.Denot LI.Denot LO.Denot) (li : source.Ghosts LI.Denot) (lo : sink.Ghosts LO.Denot) (t : clock.Ghosts T.Denot) (e : sink.Ghosts E.Denot) (l : ledger.Ghosts N.Denot) where
-  pub shared_send : IsSend N → IsSync N → IsSend F → IsSend A → IsSend E → IsSend I → IsSend O → IsSend D → IsSend T → IsSend (shared.the_row N F A E I O D T LI LO n f a i o d li lo t e l)
-  shared_send sn yn sf sa se si so sd st = declared_send (shared.the_type N F A E I O D T LI LO n f a i o d li lo t e l) (search (sendable, desk_send) depth 40, (search (sendable, book.the_send) depth 40, tt))
+  pub shared_send : IsSend N → IsSync N → IsSend F → IsSend A → IsSend E → IsSend I → IsSend O → IsSend D → IsSend T → IsSend LI → IsSend LO → IsSend (shared.the_row N F A E I O D T LI LO n f a i o d li lo t e l)
+  shared_send sn yn sf sa se si so sd st sli slo = declared_send (shared.the_type N F A E I O D T LI LO n f a i o d li lo t e l) (search (sendable, desk_send) depth 40, (search (sendable, book.the_send) depth 40, tt))
 
 module _ (N : RattleType) (n : making.Ghosts N.Denot) (l : ledger.Ghosts N.Denot) where
   pub worker_send : IsSend N → IsSync N → IsSend (worker.the_row N n l)
