@@ -137,8 +137,8 @@ fn run_serve<R: Threads + Wait + Sync, F: Files, A: Doors, E: Sink>(
     parts: Parts<F, A, E>,
 ) -> Ended<F, A, E>
     requires begun { Begun (A.state parts.doors) }
-    requires some { 0 < serve.entry.workers }
-    requires at_most { serve.entry.workers ≤ 64 }
+    requires some { 0 < serve.workers }
+    requires at_most { serve.workers ≤ 64 }
     ensures runs { RunsServe serve.entry.config.now serve.entry.most
         (record { files = F.state parts.files; doors = A.state parts.doors; errors = E.state parts.err })
         (record { files = F.state result.parts.files; doors = A.state result.parts.doors; errors = E.state result.parts.err }) result.counts result.status }
@@ -174,8 +174,8 @@ fn serve_loaded<R: Threads + Wait + Sync, F: Files, A: Doors, E: Sink>(
 ) -> Ended<F, A, E>
     requires begun { Begun (A.state parts.doors) }
     requires spells { Spells loaded first }
-    requires some { 0 < serve.entry.workers }
-    requires at_most { serve.entry.workers ≤ 64 }
+    requires some { 0 < serve.workers }
+    requires at_most { serve.workers ≤ 64 }
     ensures serves { ServesLoaded serve.entry.config.now serve.entry.most loaded first
         (record { files = F.state parts.files; doors = A.state parts.doors; errors = E.state parts.err })
         (record { files = F.state result.parts.files; doors = A.state result.parts.doors; errors = E.state result.parts.err }) result.counts result.status }
