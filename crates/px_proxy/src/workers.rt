@@ -1,4 +1,5 @@
 // Workers that share a desk.
+ghost use denote.Param.Send.{IsSend};
 ghost use Rattle.std.specs.Prelude.{◌≡◌, ◌+◌, ◌<◌, ◌≤◌, [], length, vec_len, IfSome, IfNone, OnOk, IfOk, IsTrue, All};
 ghost use Rattle.px_publish.specs.Published.{told, receipt_pair, seen_by, reader_pair};
 ghost use Rattle.px_doors.specs.Doors.{DoorsState};
@@ -312,7 +313,9 @@ fn work_all<N: Making + Send + Sync, F: Files, A: Doors, E: Sink, R: Threads + W
         rt,
         workers,
         count,
-        &|_, worker: &mut Worker<N>| { work(rt, *alloc, shared, worker) },
+        &|_, worker: &mut Worker<N>|
+            requires { IsSend F.row × IsSend A.row × IsSend E.row × IsSend A.In.row × IsSend A.Out.row × IsSend A.Dial.row × IsSend A.Time.row × IsSend A.Dial.In.row × IsSend A.Dial.Out.row }
+        { work(rt, *alloc, shared, worker) },
     );
 }
 
