@@ -49,10 +49,16 @@ most_of (workers ∷ []) = behind_workers (count_of 64 workers) (Some (2 ^ 64 - 
 most_of (workers ∷ connections ∷ []) = behind_workers (count_of 64 workers) (count_of 4294967295 connections)
 most_of (workers ∷ connections ∷ more ∷ rest) = None
 
+-- [WORKERS [CONNECTIONS]]: so many connections are served at once; without a number 8
+abbrev pub workers_of : List (List ℕ) → Option ℕ
+workers_of [] = Some 8
+workers_of (workers ∷ rest) = count_of 64 workers
+
 -- serve CONFIG [WORKERS [CONNECTIONS]], where no word after the first begins with `-`
-pub record IsServe (words : List (List ℕ)) (config : List ℕ) (most : ℕ) : Type 0 where
+pub record IsServe (words : List (List ℕ)) (config : List ℕ) (workers most : ℕ) : Type 0 where
   pub counts : List (List ℕ)
   pub words_are : words ≡ codes "serve" ∷ config ∷ counts
+  pub workers_is : workers_of counts ≡ Some workers
   pub most_is : most_of counts ≡ Some most
   pub none_is_flag : no_flags (config ∷ counts) ≡ true
 

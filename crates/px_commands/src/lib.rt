@@ -16,6 +16,7 @@ mod texts;
 mod words;
 
 pub use commands::run_tool;
-pub use proxies::{Parts, Proxied, ReloadCounts, run_proxy};
+pub use proxies::{Proxied, run_proxy};
+pub use px_desk::{Parts, ReloadCounts};
 pub use reports::report;
 pub use statuses::{Status, USAGE, constants};

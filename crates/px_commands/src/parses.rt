@@ -84,6 +84,7 @@ pub fn parse_serve<'w>(
     serve: ServeWords<'w>,
 ) -> Result<ServeWords<'w>, Mem>
     ensures config { IfOk result (λ given. given.config.now ≡ serve.entry.config.now) }
+    ensures workers { IfOk result (λ given. given.workers ≡ serve.entry.workers) }
     ensures most { IfOk result (λ given. given.most ≡ serve.entry.most) }
 {
     let workers = optional(alloc, "WORKERS").value_parser(clap::value_parser!(u32).range(1..=64));
@@ -95,15 +96,17 @@ pub fn parse_serve<'w>(
         .arg(workers)?
         .arg(connections)?;
     let matches = matches_of(command, words)?;
+    let workers = matches.get_one::<u32>("WORKERS").unwrap_or(8);
     let most = match matches.get_one::<u32>("CONNECTIONS") {
         Some(most) => u64::from(most),
         None => u64::MAX,
     };
-    if most != serve.most {
+    if workers != serve.workers || most != serve.most {
         return Err(Mem);
     }
     Ok(ServeWords {
         config: word_of(&matches, "CONFIG", serve.config)?,
+        workers,
         most,
     })
 }

@@ -1,7 +1,15 @@
-// The command `serve`: connections of doors by a configuration.
-ghost use Rattle.std.specs.Prelude.{◌≡◌, IsTrue, [], map, string_bytes};
-ghost use Rattle.px_doors.specs.Doors.{DoorsGoesOn};
-ghost use Rattle.px_commands.specs.Proxies.{RunsProxy, RunsServe, ServesBy, ServesLoaded};
+// The command `serve`: connections of doors by a configuration that is loaded again with each.
+ghost use Rattle.std.specs.Prelude.{◌≡◌, ◌∷◌, ◌<◌, ◌≤◌, [], All, IfErr, IfOk, IsTrue, Some, map, string_bytes, vec_len};
+ghost use Rattle.px_base.specs.Contents.{FilesGoOn};
+ghost use Rattle.px_config.specs.Gathering.{OnlyReads, gathered};
+ghost use Rattle.px_config.specs.Loading.{IsLoadFault, LoadCauses};
+ghost use Rattle.px_config.specs.Spelling.{spelled};
+ghost use Rattle.px_publish.specs.Published.{pair_of, published, reader_pair};
+ghost use Rattle.px_desk.specs.Desks.{BeginsWith, StandsAfter};
+ghost use Rattle.px_desk.specs.Facts.{Begun, Closes};
+ghost use Rattle.px_desk.specs.Sets.{Spells};
+ghost use Rattle.px_desk.specs.Turns.{none};
+ghost use Rattle.px_commands.specs.Proxies.{ProxyGoesOn, RunsProxy, RunsServe, ServesBy, ServesLoaded, ServesPublished};
 
 use crate::loads::report_load;
 use crate::parses::parse_serve;
@@ -9,33 +17,17 @@ use crate::reports::report;
 use crate::statuses::{Status, USAGE, status_of_serving};
 use crate::words::{ServeWords, read_serve};
 use px_base::{Failed, Files, Mem, Sink};
-use px_config::{Config, load};
+use px_config::{Config, FileSet, LoadFault, gather, spell};
+use px_desk::{Desk, Parts, ReloadCounts};
 use px_doors::{Doors, ListenAddress};
-use px_proxy::serve_in_turn;
-use px_ways::Way;
+use px_proxy::serve_all;
+use px_publish::{ConfigReader, Publisher, publish_pair};
 use std::alloc::Global;
-use std::sync::Arc;
+use std::sync::{Arc, Wait};
 use std::thread::Threads;
 
-/// What a proxy is run with: its files, its doors and its error output.
-#[derive(Drop)]
-pub struct Parts<F, A, E> {
-    pub files: F,
-    pub doors: A,
-    pub err: E,
-}
-
-/// How often the configuration was loaded again with each result. It is loaded once, so all counts are 0.
-#[derive(Clone, Copy, Debug, PartialEq, Eq)]
-pub struct ReloadCounts {
-    pub same: u64,
-    pub published: u64,
-    pub kept: u64,
-    pub read_faults: u64,
-    pub wanting: u64,
-}
-
-/// How a proxy ended: the exit status, and what it was run with.
+/// How a proxy ended: the exit status, what it was run with, and how many connections were handed out with each result of loading
+/// the configuration again.
 #[derive(Drop)]
 pub struct Proxied<F, A, E> {
     pub status: u8,
@@ -43,108 +35,209 @@ pub struct Proxied<F, A, E> {
     pub counts: ReloadCounts,
 }
 
-/// Runs `serve` by its words, and gives the exit status and the parts: 0 where no connection was left or CONNECTIONS were served, 1
-/// where the configuration doesn't load, 2 where the words aren't of `serve`, 3 after a read fault of the configuration, 4 after a
-/// fault of the error output, 5 where memory was wanting, and 7 where the doors failed.
-pub fn run_proxy<R: Threads + Sync, F: Files, A: Doors, E: Sink>(
+/// The same before the status is a number.
+struct Ended<F, A, E> {
+    status: Status,
+    parts: Parts<F, A, E>,
+    counts: ReloadCounts,
+}
+
+/// No connection was handed out.
+fn unserved<F, A, E>(status: Status, parts: Parts<F, A, E>) -> Ended<F, A, E>
+    ensures { result ≡ record { status = status; parts = parts; counts = none } }
+{
+    Ended {
+        status,
+        parts,
+        counts: ReloadCounts::NONE,
+    }
+}
+
+/// Runs `serve` by its words, and gives the exit status, the parts and the counts: 0 where no connection was left or CONNECTIONS
+/// were served, 1 where the configuration doesn't load at first, 2 where the words aren't of `serve`, 3 where a file couldn't be
+/// read before the first configuration was there, 4 after a fault of the error output, 5 where memory was wanting, and 7 where the
+/// doors failed. It may wait.
+pub fn run_proxy<R: Threads + Wait + Sync, F: Files, A: Doors, E: Sink>(
     alloc: Global,
     rt: &R,
     words: &[String],
     parts: Parts<F, A, E>,
 ) -> Proxied<F, A, E>
-    requires none_accepted { (A.state parts.doors).accepted ≡ 0 }
-    requires none_parted { IsTrue (A.state parts.doors).tells → (A.state parts.doors).parted ≡ [] }
+    requires begun { Begun (A.state parts.doors) }
     ensures runs { RunsProxy (map string_bytes words.now)
         (record { files = F.state parts.files; doors = A.state parts.doors; errors = E.state parts.err })
-        (record { files = F.state result.parts.files; doors = A.state result.parts.doors; errors = E.state result.parts.err }) result.status }
-    ensures counts { result.counts ≡ record { same = 0; published = 0; kept = 0; read_faults = 0; wanting = 0 } }
+        (record { files = F.state result.parts.files; doors = A.state result.parts.doors; errors = E.state result.parts.err }) result.counts result.status }
 {
-    let Parts {
-        mut files,
-        mut doors,
-        mut err,
-    } = parts;
-    let status = serve_by(alloc, rt, words, &mut files, &mut doors, &mut err);
+    let Ended {
+        status,
+        parts,
+        counts,
+    } = serve_by(alloc, rt, words, parts);
     Proxied {
         status: status.code(),
-        parts: Parts { files, doors, err },
-        counts: ReloadCounts {
-            same: 0,
-            published: 0,
-            kept: 0,
-            read_faults: 0,
-            wanting: 0,
-        },
+        parts,
+        counts,
     }
 }
 
-fn serve_by<R: Threads + Sync, F: Files, A: Doors, E: Sink>(
+fn serve_by<R: Threads + Wait + Sync, F: Files, A: Doors, E: Sink>(
     alloc: Global,
     rt: &R,
     words: &[String],
-    files: &mut F,
-    doors: &mut A,
-    err: &mut E,
-) -> Status
-    requires none_accepted { (A.state doors.old).accepted ≡ 0 }
-    requires none_parted { IsTrue (A.state doors.old).tells → (A.state doors.old).parted ≡ [] }
+    parts: Parts<F, A, E>,
+) -> Ended<F, A, E>
+    requires begun { Begun (A.state parts.doors) }
     ensures serves { ServesBy (map string_bytes words.now)
-        (record { files = F.state files.old; doors = A.state doors.old; errors = E.state err.old })
-        (record { files = F.state files.new; doors = A.state doors.new; errors = E.state err.new }) result }
+        (record { files = F.state parts.files; doors = A.state parts.doors; errors = E.state parts.err })
+        (record { files = F.state result.parts.files; doors = A.state result.parts.doors; errors = E.state result.parts.err }) result.counts result.status }
+    ensures goes_on { ProxyGoesOn
+        (record { files = F.state parts.files; doors = A.state parts.doors; errors = E.state parts.err })
+        (record { files = F.state result.parts.files; doors = A.state result.parts.doors; errors = E.state result.parts.err }) }
 {
     match read_serve(words) {
         Some(serve) => match parse_serve(alloc, words, serve) {
-            Ok(serve) => run_serve(alloc, rt, serve, files, doors, err),
-            Err(Mem) => Status::NoMemory,
+            Ok(serve) => run_serve(alloc, rt, serve, parts),
+            Err(Mem) => unserved(Status::NoMemory, parts),
         },
-        None => report(err, USAGE, Status::Usage),
+        None => {
+            let Parts {
+                files,
+                doors,
+                mut err,
+            } = parts;
+            let status = report(&mut err, USAGE, Status::Usage);
+            unserved(status, Parts { files, doors, err })
+        }
     }
+}
+
+/// Gathers the files of CONFIG, and gives them with the configuration that they spell.
+fn load_set<F: Files>(
+    alloc: Global,
+    files: &mut F,
+    main: &str,
+) -> Result<(FileSet, Config), LoadFault>
+    ensures set { IsTrue (F.state files.old).tells → IfOk result (λ l. l.0 ≡ gathered (F.state files.old).contents main.now) }
+    ensures spells { IfOk result (λ l. Spells l.0 l.1) }
+    ensures refused { IsTrue (F.state files.old).tells → IfErr result (IsLoadFault (spelled (gathered (F.state files.old).contents main.now))) }
+    ensures cause { LoadCauses (F.state files.old) (F.state files.new) result }
+    ensures only_reads { OnlyReads (F.state files.old) (F.state files.new) }
+    ensures go_on { FilesGoOn (F.state files.old) (F.state files.new) }
+{
+    let set = gather(alloc, files, main)?;
+    let config = spell(alloc, &set)?;
+    Ok((set, config))
 }
 
 /// Loads CONFIG, listens at its address, and serves.
-fn run_serve<R: Threads + Sync, F: Files, A: Doors, E: Sink>(
+fn run_serve<R: Threads + Wait + Sync, F: Files, A: Doors, E: Sink>(
     alloc: Global,
     rt: &R,
     serve: ServeWords<'_>,
-    files: &mut F,
-    doors: &mut A,
-    err: &mut E,
-) -> Status
-    requires none_accepted { (A.state doors.old).accepted ≡ 0 }
-    requires none_parted { IsTrue (A.state doors.old).tells → (A.state doors.old).parted ≡ [] }
+    parts: Parts<F, A, E>,
+) -> Ended<F, A, E>
+    requires begun { Begun (A.state parts.doors) }
+    requires some { 0 < serve.workers }
+    requires at_most { serve.workers ≤ 64 }
     ensures runs { RunsServe serve.entry.config.now serve.entry.most
-        (record { files = F.state files.old; doors = A.state doors.old; errors = E.state err.old })
-        (record { files = F.state files.new; doors = A.state doors.new; errors = E.state err.new }) result }
+        (record { files = F.state parts.files; doors = A.state parts.doors; errors = E.state parts.err })
+        (record { files = F.state result.parts.files; doors = A.state result.parts.doors; errors = E.state result.parts.err }) result.counts result.status }
+    ensures goes_on { ProxyGoesOn
+        (record { files = F.state parts.files; doors = A.state parts.doors; errors = E.state parts.err })
+        (record { files = F.state result.parts.files; doors = A.state result.parts.doors; errors = E.state result.parts.err }) }
 {
-    match load(alloc, files, serve.config) {
-        Ok(loaded) => serve_loaded(alloc, rt, loaded, serve.most, doors),
-        Err(fault) => report_load(alloc, err, &fault),
+    let Parts {
+        mut files,
+        doors,
+        mut err,
+    } = parts;
+    match load_set(alloc, &mut files, serve.config) {
+        Ok((loaded, first)) => {
+            let parts = Parts { files, doors, err };
+            serve_loaded(alloc, rt, serve, loaded, first, parts)
+        }
+        Err(fault) => {
+            let status = report_load(alloc, &mut err, &fault);
+            unserved(status, Parts { files, doors, err })
+        }
     }
 }
 
-/// Listens at the address of a configuration, and serves by it.
-fn serve_loaded<R: Threads + Sync, A: Doors>(
+/// Publishes the first configuration, listens at its address, and serves.
+fn serve_loaded<R: Threads + Wait + Sync, F: Files, A: Doors, E: Sink>(
     alloc: Global,
     rt: &R,
-    loaded: Config,
-    most: u64,
-    doors: &mut A,
-) -> Status
-    requires none_accepted { (A.state doors.old).accepted ≡ 0 }
-    requires none_parted { IsTrue (A.state doors.old).tells → (A.state doors.old).parted ≡ [] }
-    ensures serves { ServesLoaded loaded most (A.state doors.old) (A.state doors.new) result }
-    ensures goes_on { DoorsGoesOn (A.state doors.old) (A.state doors.new) }
+    serve: ServeWords<'_>,
+    loaded: FileSet,
+    first: Config,
+    parts: Parts<F, A, E>,
+) -> Ended<F, A, E>
+    requires begun { Begun (A.state parts.doors) }
+    requires spells { Spells loaded first }
+    requires some { 0 < serve.workers }
+    requires at_most { serve.workers ≤ 64 }
+    ensures serves { ServesLoaded serve.entry.config.now serve.entry.most loaded first
+        (record { files = F.state parts.files; doors = A.state parts.doors; errors = E.state parts.err })
+        (record { files = F.state result.parts.files; doors = A.state result.parts.doors; errors = E.state result.parts.err }) result.counts result.status }
+    ensures goes_on { ProxyGoesOn
+        (record { files = F.state parts.files; doors = A.state parts.doors; errors = E.state parts.err })
+        (record { files = F.state result.parts.files; doors = A.state result.parts.doors; errors = E.state result.parts.err }) }
 {
-    let settings = &loaded.settings;
+    let settings = &first.settings;
     let host = settings.listen_host.as_bytes();
     let Ok(address) = ListenAddress::copied(alloc, host, settings.listen_port) else {
-        return Status::NoMemory;
+        return unserved(Status::NoMemory, parts);
     };
-    let Ok(config) = Arc::new(alloc, loaded) else {
-        return Status::NoMemory;
+    let Ok(first) = Arc::new(alloc, first) else {
+        return unserved(Status::NoMemory, parts);
     };
+    let Ok((publisher, readers)) = publish_pair(rt, alloc, first, serve.workers) else {
+        return unserved(Status::NoMemory, parts);
+    };
+    let Parts {
+        files,
+        mut doors,
+        err,
+    } = parts;
     match doors.listen(address) {
-        Ok(()) => status_of_serving(serve_in_turn(alloc, &Way::AtOnce(rt), &config, doors, most)),
-        Err(Failed) => Status::DoorsFailed,
+        Ok(()) => {
+            let parts = Parts { files, doors, err };
+            serve_published(alloc, rt, serve, loaded, publisher, readers, parts)
+        }
+        Err(Failed) => {
+            drop(publisher.end(rt));
+            unserved(Status::DoorsFailed, Parts { files, doors, err })
+        }
+    }
+}
+
+/// Serves at doors that listen, with a published configuration.
+fn serve_published<R: Threads + Wait + Sync, F: Files, A: Doors, E: Sink>(
+    alloc: Global,
+    rt: &R,
+    serve: ServeWords<'_>,
+    loaded: FileSet,
+    publisher: Publisher<Config>,
+    readers: Vec<ConfigReader<Config>>,
+    parts: Parts<F, A, E>,
+) -> Ended<F, A, E>
+    requires begun { Begun (A.state parts.doors) }
+    requires first { BeginsWith loaded (published publisher) }
+    requires some { 0 < vec_len readers }
+    requires pair { All (λ r. reader_pair r ≡ pair_of publisher) readers.items }
+    ensures serves { ServesPublished
+        (record { files = F.state parts.files; doors = A.state parts.doors; err = E.state parts.err; main = serve.entry.config.now; loaded = loaded; pair = pair_of publisher; most = serve.entry.most })
+        (record { files = F.state result.parts.files; doors = A.state result.parts.doors; errors = E.state result.parts.err }) result.counts result.status }
+{
+    match Desk::new(rt, alloc, parts, serve.config, loaded, publisher, serve.most) {
+        Ok(desk) => {
+            let served = serve_all(rt, alloc, desk, readers);
+            Ended {
+                status: status_of_serving(served.end),
+                parts: served.parts,
+                counts: served.counts,
+            }
+        }
+        Err(refused) => unserved(Status::NoMemory, refused.parts),
     }
 }

@@ -3,7 +3,7 @@ ghost use Rattle.std.specs.Prelude.{◌≡◌, codes};
 ghost use Rattle.px_commands.specs.Statuses.{code_of, is_wanting, status_after, status_of_put, status_of_serving};
 
 use px_base::FilesFault;
-use px_proxy::ServeEnd;
+use px_desk::ServeEnd;
 use px_serve::SessionEnd;
 
 /// How the commands are used, a line for each that is built.

@@ -1,6 +1,6 @@
 // The words after the program's name.
-ghost use Rattle.std.specs.Prelude.{◌≡◌, ◌≤◌, not, map, string_bytes, IfSome, IsNone, List, ℕ};
-ghost use Rattle.px_commands.specs.Words.{IsPass, IsCheck, IsExercise, IsServe, IsShow, count_of, is_flag, most_of, no_flags, number_of};
+ghost use Rattle.std.specs.Prelude.{◌≡◌, ◌<◌, ◌≤◌, not, map, string_bytes, IfSome, IsNone, List, None, Some, ℕ};
+ghost use Rattle.px_commands.specs.Words.{IsPass, IsCheck, IsExercise, IsServe, IsShow, count_of, is_flag, most_of, no_flags, number_of, workers_of};
 
 use px_base::read_decimal;
 
@@ -88,42 +88,52 @@ pub fn read_exercise(words: &[String]) -> Option<u32>
 pub struct ServeWords<'w> {
     /// The name of the configuration's main file.
     pub config: &'w str,
+    /// How many connections are served at once: 1 to 64.
+    pub workers: u32,
     /// The most connections that are served.
     pub most: u64,
 }
 
 /// Reads `serve CONFIG [WORKERS [CONNECTIONS]]`, where WORKERS is 1 to 64 and CONNECTIONS 1 to 4,294,967,295, each of at most ten
-/// digits. Without CONNECTIONS there is no end to them.
+/// digits. Without WORKERS there are 8, and without CONNECTIONS there is no end to them.
 pub fn read_serve(words: &[String]) -> Option<ServeWords<'_>>
-    ensures serve { IfSome result (λ w. IsServe (map string_bytes words.now) w.config.now w.most) }
-    ensures other { IsNone result → (config : List ℕ) (most : ℕ) → ¬ IsServe (map string_bytes words.now) config most }
+    ensures serve { IfSome result (λ w. IsServe (map string_bytes words.now) w.config.now w.workers w.most) }
+    ensures some { IfSome result (λ w. 0 < w.workers) }
+    ensures at_most { IfSome result (λ w. w.workers ≤ 64) }
+    ensures other { IsNone result → (config : List ℕ) (workers most : ℕ) → ¬ IsServe (map string_bytes words.now) config workers most }
 {
     if words.len() < 2 || words[0].as_str() != "serve" || has_flag(&words[1..]) {
         return None;
     }
     match read_counts(&words[2..]) {
-        Some(most) => Some(ServeWords {
+        Some((workers, most)) => Some(ServeWords {
             config: words[1].as_str(),
+            workers: workers as u32,
             most,
         }),
         None => None,
     }
 }
 
-/// WORKERS and CONNECTIONS, by which at most so many connections are served.
-fn read_counts(words: &[String]) -> Option<u64>
-    ensures { result ≡ most_of (map string_bytes words.now) }
+/// WORKERS and CONNECTIONS: how many connections are served at once, and at most.
+fn read_counts(words: &[String]) -> Option<(u64, u64)>
+    ensures workers { IfSome result (λ n. workers_of (map string_bytes words.now) ≡ Some n.0) }
+    ensures most { IfSome result (λ n. most_of (map string_bytes words.now) ≡ Some n.1) }
+    ensures some { IfSome result (λ n. 0 < n.0) }
+    ensures at_most { IfSome result (λ n. n.0 ≤ 64) }
+    ensures none { IsNone result → most_of (map string_bytes words.now) ≡ None }
 {
     match words {
-        [] => Some(u64::MAX),
-        [workers] => match read_count(workers.as_bytes(), 64) {
-            Some(_) => Some(u64::MAX),
-            None => None,
-        },
-        [workers, connections] => match read_count(workers.as_bytes(), 64) {
-            Some(_) => read_count(connections.as_bytes(), 4_294_967_295),
-            None => None,
-        },
+        [] => Some((8, u64::MAX)),
+        [workers] => {
+            let workers = read_count(workers.as_bytes(), 64)?;
+            Some((workers, u64::MAX))
+        }
+        [workers, connections] => {
+            let workers = read_count(workers.as_bytes(), 64)?;
+            let most = read_count(connections.as_bytes(), 4_294_967_295)?;
+            Some((workers, most))
+        }
         _ => None,
     }
 }
@@ -141,7 +151,9 @@ fn read_number(word: &[u8], most: u64) -> Option<u64>
 
 /// A number from 1 to `most`, of one to ten digits.
 fn read_count(word: &[u8], most: u64) -> Option<u64>
-    ensures { result ≡ count_of most word.now }
+    ensures value { result ≡ count_of most word.now }
+    ensures some { IfSome result (λ n. 0 < n) }
+    ensures within { IfSome result (λ n. n ≤ most) }
 {
     match read_number(word, most) {
         Some(0) => None,

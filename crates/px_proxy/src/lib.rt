@@ -1,7 +1,8 @@
-//! Serving: the connections of doors, one after another, by one configuration.
+//! Workers: the connections of a desk, each served by one of several threads.
 #![tactic(auto)]
 
-mod serving;
+mod workers;
 
+pub use px_desk::{Desk, NoDesk, Parts, ReloadCounts, ServeEnd, Served};
 pub use px_doors::{Conn, Doors, Parted};
-pub use serving::{ServeEnd, serve_in_turn};
+pub use workers::{Making, serve_all};

@@ -39,3 +39,5 @@ mod times;
 mod waiting;
 #[cfg(test)]
 mod ways;
+#[cfg(test)]
+mod workers;

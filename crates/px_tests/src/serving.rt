@@ -8,6 +8,7 @@ use px_base::{Answer, FixedClock, List, Mem, MemDialer, MemFiles, Peer, TapeIn, 
 use px_commands::{Parts, Proxied, run_proxy};
 use px_doors::{Conn, MemConn, MemDoors};
 use std::alloc::Global;
+use std::sync::Wait;
 use std::test::Fail;
 use std::thread::Threads;
 
@@ -40,7 +41,7 @@ fn conn(alloc: Global) -> Result<MemConn, Mem>
 }
 
 /// Runs `serve c 1 2` over three connections and an empty `c`, those calls of the doors failing.
-fn proxied<R: Threads + Sync>(
+fn proxied<R: Threads + Wait + Sync>(
     alloc: Global,
     rt: &R,
     fails: &[u64],

@@ -1,18 +1,15 @@
+use Rattle.std.proofs.Common.{rules}
 use Rattle.px_commands.proofs.ProxyLemmas.{serve_fails, serve_loads}
 use Rattle.px_commands.proofs.proxies.run_serve.Goals as goal
 
-pub returns-in-Err : goal.returns-in-Err
-returns-in-Err g c = record {
-  runs =
-      serve_fails c.args.serve.config.now c.args.serve.most (g.F.Files.state c.args.files.now) (g.F.Files.state c.load.new.files) (g.A.Doors.state c.args.doors.now)
-      (g.E.Sink.state c.args.err.now) (g.E.Sink.state c.report_load.new.err) c.in-Err.fault c.report_load.result
-      c.load.ensures.only_reads.unchanged c.in-Err.ensures.refused c.in-Err.ensures.cause c.report_load.ensures.reports;
-}
+pub returns-in-Ok-clause-runs : goal.returns-in-Ok-clause-runs
+returns-in-Ok-clause-runs g c =
+    serve_loads c.args.serve.config.now c.args.serve.most (g.F.Files.state c.args.parts.files) (g.F.Files.state c.load_set.new.files) (g.A.Doors.state c.args.parts.doors)
+    (g.E.Sink.state c.args.parts.err) _ c.in-Ok.loaded c.in-Ok.first _ _
+    c.load_set.ensures.only_reads c.in-Ok.ensures.cause c.in-Ok.ensures.set c.in-Ok.ensures.spells c.serve_loaded.ensures.serves
 
-pub returns-in-Ok : goal.returns-in-Ok
-returns-in-Ok g c = record {
-  runs =
-      serve_loads c.args.serve.config.now c.args.serve.most (g.F.Files.state c.args.files.now) (g.F.Files.state c.load.new.files) (g.A.Doors.state c.args.doors.now) (g.A.Doors.state c.serve_loaded.new.doors)
-      (g.E.Sink.state c.args.err.now) c.in-Ok.loaded c.serve_loaded.result
-      c.load.ensures.only_reads.unchanged c.in-Ok.ensures.config c.serve_loaded.ensures.serves;
-}
+pub returns-in-Err-clause-runs : goal.returns-in-Err-clause-runs
+returns-in-Err-clause-runs g c = rw c.unserved.ensures (
+    serve_fails c.args.serve.config.now c.args.serve.most (g.F.Files.state c.args.parts.files) (g.F.Files.state c.load_set.new.files) (g.A.Doors.state c.args.parts.doors)
+    (g.E.Sink.state c.args.parts.err) (g.E.Sink.state c.report_load-status.new.err) c.in-Err.fault c.report_load-status.result
+    c.load_set.ensures.only_reads.unchanged c.in-Err.ensures.refused c.in-Err.ensures.cause c.report_load-status.ensures.reports)

@@ -12,6 +12,7 @@ returns-in-Some-clause-serve c =
     record {
       counts = map string_bytes (take (length c.args.words.now - 2) (drop 2 c.args.words.now));
       words_are = search (rules, words);
+      workers_is = search rules;
       most_is = search rules;
       none_is_flag = rw c.as_str-in-Some.ensures.value (sym (ap no_flags (behind_first string_bytes c.args.words.now _ _ words)) ∙ none);
     }

@@ -1,0 +1,28 @@
+-- A shared desk may go from thread to thread, and a worker to one.
+use denote.RattleType.{RattleType}
+use denote.Param.Send.{sendable, IsSend, IsSync}
+use denote.Param.SendFields.{declared_send}
+use Rattle.std.proofs.Crossing.{crosses}
+use Rattle.std.proofs.sync.ledger.Book.TheSendSync as book
+use Rattle.std.proofs.sync.ledger.Share.TheSendSync as share
+use Rattle.std.specs.declared.sync.ledger.Ledger as ledger
+use Rattle.px_base.specs.declared.clocks.Clock as clock
+use Rattle.px_base.specs.declared.dialers.Dialer as dialer
+use Rattle.px_base.specs.declared.files.Files as files
+use Rattle.px_base.specs.declared.sinks.Sink as sink
+use Rattle.px_base.specs.declared.sources.Source as source
+use Rattle.px_config.proofs.Crossing.{config_send, config_sync}
+use Rattle.px_desk.proofs.Crossing.{desk_send}
+use Rattle.px_doors.specs.declared.doors.Doors as doors
+use Rattle.px_publish.proofs.Crossing.{reader_send}
+use Rattle.px_proxy.specs.contracts.workers.Shared as shared
+use Rattle.px_proxy.specs.contracts.workers.Worker as worker
+use Rattle.px_proxy.specs.declared.workers.Making as making
+
+module _ (N F A E I O D T LI LO : RattleType) (n : making.Ghosts N.Denot) (f : files.Ghosts F.Denot) (a : doors.Ghosts A.Denot I.Denot O.Denot D.Denot T.Denot LI.Denot LO.Denot) (i : source.Ghosts I.Denot) (o : sink.Ghosts O.Denot) (d : dialer.Ghosts D.Denot LI.Denot LO.Denot) (li : source.Ghosts LI.Denot) (lo : sink.Ghosts LO.Denot) (t : clock.Ghosts T.Denot) (e : sink.Ghosts E.Denot) (l : ledger.Ghosts N.Denot) where
+  pub shared_send : IsSend N → IsSync N → IsSend F → IsSend A → IsSend E → IsSend I → IsSend O → IsSend D → IsSend T → IsSend LI → IsSend LO → IsSend (shared.the_row N F A E I O D T LI LO n f a i o d li lo t e l)
+  shared_send sn yn sf sa se si so sd st sli slo = declared_send (shared.the_type N F A E I O D T LI LO n f a i o d li lo t e l) (search (sendable, desk_send) depth 40, (search (sendable, book.the_send) depth 40, tt))
+
+module _ (N : RattleType) (n : making.Ghosts N.Denot) (l : ledger.Ghosts N.Denot) where
+  pub worker_send : IsSend N → IsSync N → IsSend (worker.the_row N n l)
+  worker_send sn yn = declared_send (worker.the_type N n l) (search (sendable, share.the_send) depth 40, (search (sendable, reader_send, config_send, config_sync) depth 40, tt))

@@ -1,0 +1,386 @@
+// Workers that share a desk.
+ghost use denote.Param.Send.{IsSend};
+ghost use Rattle.std.specs.Prelude.{◌≡◌, ◌+◌, ◌<◌, ◌≤◌, [], length, vec_len, IfSome, IfNone, OnOk, IfOk, IsTrue, All};
+ghost use Rattle.px_publish.specs.Published.{told, receipt_pair, seen_by, reader_pair};
+ghost use Rattle.px_doors.specs.Doors.{DoorsState};
+ghost use Rattle.px_doors.specs.Conns.{conn_as, parted_as};
+ghost use Rattle.px_desk.specs.Facts.{Closes, Made, IsOut, Stands};
+ghost use Rattle.px_publish.specs.Views.{GoesOn};
+ghost use Rattle.px_desk.specs.Sessions.{IsNth, IsServed, ServedBy};
+ghost use Rattle.px_desk.specs.Desks.{handed_as, made_of, StandsAfter};
+ghost use Rattle.px_desk.specs.declared.desks.ServeEnd.TheVariants.{DoorsFailed};
+
+use px_base::{Clock, Dialer, Files, Mem, Sink, Source};
+use px_config::Config;
+use px_desk::{Desk, Handed, Next, Served};
+use px_doors::{Conn, Doors, Parted};
+use px_publish::{ConfigReader, Configs};
+use px_serve::serve_connection;
+use px_ways::Way;
+use std::alloc::Global;
+use std::marker::Brand;
+use std::sync::ledger::{Blank, Book, Ledger, Share};
+use std::sync::{Mutex, MutexGuard, Wait};
+use std::thread;
+use std::thread::Threads;
+
+/// What each holding of a desk's lock agrees on: how the desk was made. Each call of `serve_all` picks it.
+pub trait Making: Ledger {
+    ghost made: { Made };
+}
+
+impl Making for Brand {
+    ghost use Rattle.std.specs.Prelude.{[], None};
+    ghost use Rattle.px_base.specs.Contents.{untold_files};
+    ghost use Rattle.px_base.specs.Sinks.{untold_sink};
+    ghost use Rattle.px_doors.specs.Doors.{untold_doors};
+
+    ghost made = { record {
+      files = untold_files 0 0;
+      doors = untold_doors None 0 0;
+      err = untold_sink 0 0;
+      main = [];
+      loaded = record { main = []; items = [] };
+      pair = record { number = 0; log_name = 0; cells_name = 0 };
+      most = 0;
+    } };
+}
+
+/// A desk, with a book of the connections that are out.
+struct Shared<N: Making, F: Files, A: Doors, E: Sink> {
+    desk: Desk<F, A, E>,
+    book: Book<N>,
+    ghost made: { made_of F.state A.state E.state desk ≡ N.made },
+    ghost counted: { book.total ≡ length desk.out },
+}
+
+/// A worker between two connections.
+#[derive(Drop)]
+struct Worker<N: Making> {
+    share: Share<N>,
+    reader: ConfigReader<Config>,
+    ghost one_part: { share.parts ≡ 1 },
+    ghost idle: { share.amount ≡ 0 },
+    ghost pair: { reader_pair reader ≡ N.made.pair },
+}
+
+/// Serves a connection without client tags, and gives it back with its session.
+fn served_by<R, K, S, O, D, T>(
+    alloc: Global,
+    way: &Way<'_, R>,
+    configs: &mut K,
+    number: u64,
+    handed: u64,
+    conn: Conn<S, O, D, T>,
+) -> Parted<S, O, D, T>
+where
+    R: Threads + Sync,
+    K: Configs<Held = Config>,
+    S: Source,
+    O: Sink,
+    D: Dialer,
+    T: Clock,
+    ensures number { result.number ≡ number }
+    ensures handed { result.handed ≡ handed }
+    ensures served { ServedBy
+        (record { tells = K.tells; view = K.view configs.old; pair = K.pair configs.old; coming = K.coming configs.old })
+        (record { tells = K.tells; view = K.view configs.new; pair = K.pair configs.new; coming = K.coming configs.new })
+        (conn_as S.state O.state D.state T.state conn) (parted_as S.state O.state D.state T.state result) }
+{
+    let Conn {
+        mut client_in,
+        mut client_out,
+        mut dialer,
+        mut clock,
+        peer,
+    } = conn;
+    let session = serve_connection(
+        alloc,
+        way,
+        configs,
+        &mut client_in,
+        &mut client_out,
+        &mut dialer,
+        &mut clock,
+        &peer,
+        &[],
+    );
+    Parted {
+        number,
+        handed,
+        session,
+        conn: Conn {
+            client_in,
+            client_out,
+            dialer,
+            clock,
+            peer,
+        },
+    }
+}
+
+/// Serves a connection, once the configuration with which it was handed out is learnt.
+fn served<N: Making, R: Threads + Sync, S: Source, O: Sink, D: Dialer, T: Clock>(
+    alloc: Global,
+    way: &Way<'_, R>,
+    reader: &mut ConfigReader<Config>,
+    handed: Handed<S, O, D, T>,
+) -> Parted<S, O, D, T>
+    requires pair { reader_pair reader.old ≡ N.made.pair }
+    requires receipt_pair { receipt_pair handed.receipt ≡ N.made.pair }
+    requires nth { IsNth N.made.doors.tells N.made.doors.conns handed.number (conn_as S.state O.state D.state T.state handed.conn) }
+    ensures pair { reader_pair reader.new ≡ N.made.pair }
+    ensures served { IsServed N.made.doors.tells N.made.doors.conns (seen_by reader.new) (parted_as S.state O.state D.state T.state result) }
+{
+    let Handed {
+        number,
+        reload: _,
+        receipt,
+        conn,
+    } = handed;
+    let handed = receipt.snapshot().number;
+    reader.learn(receipt);
+    served_by(alloc, way, reader, number, handed, conn)
+}
+
+impl<N: Making, F: Files, A: Doors, E: Sink> Shared<N, F, A, E> {
+    /// Takes the next connection.
+    fn next<R: Wait>(&mut self, rt: &R, mine: &mut Share<N>) -> Next<A::In, A::Out, A::Dial, A::Time>
+        requires part { 0 < mine.old.parts }
+        ensures parts { mine.new.parts ≡ mine.old.parts }
+        ensures conn { IfSome (handed_as A.In.state A.Out.state A.Dial.state A.Time.state result) (λ h. mine.new.amount ≡ mine.old.amount + 1) }
+        ensures nth { IfSome (handed_as A.In.state A.Out.state A.Dial.state A.Time.state result) (λ h. IsNth N.made.doors.tells N.made.doors.conns h.number h.conn) }
+        ensures pair { IfSome (handed_as A.In.state A.Out.state A.Dial.state A.Time.state result) (λ h. h.pair ≡ N.made.pair) }
+        ensures closed { IfNone (handed_as A.In.state A.Out.state A.Dial.state A.Time.state result) (mine.new.amount ≡ mine.old.amount) }
+    {
+        let Shared { desk, book } = self;
+        match desk.next(rt) {
+            Next::Conn(handed) => {
+                book.add(mine, 1);
+                Next::Conn(handed)
+            }
+            Next::Closed(closing) => Next::Closed(closing),
+        }
+    }
+
+    /// Whether the connection can be taken back.
+    fn covers(&self, number: u64, handed: u64, reader: &ConfigReader<Config>) -> bool
+        requires pair { reader_pair reader.now ≡ N.made.pair }
+        ensures out { IsTrue result → IsOut (record { number = number; handed = handed }) self.now.desk.out }
+        ensures prefix { IsTrue result → GoesOn (seen_by reader.now) self.now.desk.list }
+    {
+        self.desk.covers(number, handed, reader)
+    }
+
+    /// Takes a connection back.
+    fn part(&mut self, mine: &mut Share<N>, parted: Parted<A::In, A::Out, A::Dial, A::Time>)
+        requires out { IsOut (record { number = parted.number; handed = parted.handed }) self.old.desk.out }
+        requires served { IsServed N.made.doors.tells N.made.doors.conns self.old.desk.list (parted_as A.In.state A.Out.state A.Dial.state A.Time.state parted) }
+        requires one { 0 < mine.old.amount }
+        ensures parts { mine.new.parts ≡ mine.old.parts }
+        ensures amount { mine.new.amount + 1 ≡ mine.old.amount }
+    {
+        let Shared { desk, book } = self;
+        desk.part(parted);
+        book.sub(mine, 1);
+    }
+
+    /// The desk, once every share is back and none has a connection.
+    fn finish(self, all: &mut Share<N>) -> Desk<F, A, E>
+        requires whole { all.old.parts ≡ N.parts }
+        requires idle { all.old.amount ≡ 0 }
+        ensures made { made_of F.state A.state E.state result ≡ N.made }
+        ensures none_out { result.out ≡ [] }
+    {
+        let Shared { desk, mut book } = self;
+        book.audit(all);
+        desk
+    }
+}
+
+/// Takes the next connection from a desk that others use too.
+fn take<N: Making, F: Files, A: Doors, E: Sink, R: Wait>(
+    rt: &R,
+    shared: &Mutex<Shared<N, F, A, E>>,
+    mine: &mut Share<N>,
+) -> Next<A::In, A::Out, A::Dial, A::Time>
+    requires part { 0 < mine.old.parts }
+    ensures parts { mine.new.parts ≡ mine.old.parts }
+    ensures conn { IfSome (handed_as A.In.state A.Out.state A.Dial.state A.Time.state result) (λ h. mine.new.amount ≡ mine.old.amount + 1) }
+    ensures nth { IfSome (handed_as A.In.state A.Out.state A.Dial.state A.Time.state result) (λ h. IsNth N.made.doors.tells N.made.doors.conns h.number h.conn) }
+    ensures pair { IfSome (handed_as A.In.state A.Out.state A.Dial.state A.Time.state result) (λ h. h.pair ≡ N.made.pair) }
+    ensures closed { IfNone (handed_as A.In.state A.Out.state A.Dial.state A.Time.state result) (mine.new.amount ≡ mine.old.amount) }
+{
+    let mut desk = shared.lock(rt);
+    let next = desk.next(rt, mine);
+    MutexGuard::unlock(desk);
+    next
+}
+
+/// Gives a connection back to a desk that others use too.
+fn give_back<N: Making, F: Files, A: Doors, E: Sink, R: Wait>(
+    rt: &R,
+    shared: &Mutex<Shared<N, F, A, E>>,
+    mine: &mut Share<N>,
+    reader: &ConfigReader<Config>,
+    parted: Parted<A::In, A::Out, A::Dial, A::Time>,
+)
+    requires pair { reader_pair reader.now ≡ N.made.pair }
+    requires served { IsServed N.made.doors.tells N.made.doors.conns (seen_by reader.now) (parted_as A.In.state A.Out.state A.Dial.state A.Time.state parted) }
+    requires one { 0 < mine.old.amount }
+    ensures parts { mine.new.parts ≡ mine.old.parts }
+    ensures amount { mine.new.amount + 1 ≡ mine.old.amount }
+{
+    'again: for _ in rt.forever() {
+        let mut desk = shared.lock(rt);
+        if desk.covers(parted.number, parted.handed, reader) {
+            desk.part(mine, parted);
+            MutexGuard::unlock(desk);
+            return;
+        }
+        MutexGuard::unlock(desk);
+    }
+    unreachable!()
+}
+
+/// Serves one connection after another, until no more come.
+fn work<N: Making, F: Files, A: Doors, E: Sink, R: Threads + Wait + Sync>(
+    rt: &R,
+    alloc: Global,
+    shared: &Mutex<Shared<N, F, A, E>>,
+    worker: &mut Worker<N>,
+) {
+    'more: for _ in rt.forever() {
+        let Worker { share, reader } = worker;
+        match take(rt, shared, share) {
+            Next::Conn(handed) => {
+                let parted = served::<N, R, A::In, A::Out, A::Dial, A::Time>(
+                    alloc,
+                    &Way::AtOnce(rt),
+                    reader,
+                    handed,
+                );
+                give_back(rt, shared, share, reader, parted);
+            }
+            Next::Closed(_closing) => return,
+        }
+    }
+}
+
+/// A worker for each reader.
+fn cut<N: Making>(
+    alloc: Global,
+    all: &mut Share<N>,
+    mut readers: Vec<ConfigReader<Config>>,
+) -> Result<Vec<Worker<N>>, Mem>
+    requires pair { All (λ r. reader_pair r ≡ N.made.pair) readers.items }
+    requires parts { all.old.parts ≡ vec_len readers }
+    requires idle { all.old.amount ≡ 0 }
+    ensures none { OnOk result ((all.new.parts ≡ 0) × (all.new.amount ≡ 0)) }
+    ensures each { IfOk result (λ v. vec_len v ≡ vec_len readers) }
+{
+    let mut workers = Vec::with_capacity(alloc, readers.len())?;
+    'each: while let Some(reader) = readers.pop() {
+        let share = all.split_off(1, 0);
+        workers.push_reserved(Worker { share, reader });
+    }
+    Ok(workers)
+}
+
+/// Puts the parts together.
+fn gather<N: Making>(all: &mut Share<N>, mut workers: Vec<Worker<N>>)
+    requires none { all.old.amount ≡ 0 }
+    ensures parts { all.new.parts ≡ all.old.parts + vec_len workers }
+    ensures idle { all.new.amount ≡ 0 }
+{
+    'next: while let Some(worker) = workers.pop() {
+        let Worker { share, reader: _ } = worker;
+        all.merge(share);
+    }
+}
+
+/// Runs each worker in a thread.
+fn work_all<N: Making + Send + Sync, F: Files, A: Doors, E: Sink, R: Threads + Wait + Sync>(
+    rt: &R,
+    alloc: &Global,
+    shared: &Mutex<Shared<N, F, A, E>>,
+    workers: &mut [Worker<N>],
+)
+    requires { 0 < length workers.old }
+{
+    let count = workers.len();
+    thread::for_each_mut(
+        rt,
+        workers,
+        count,
+        &|_, worker: &mut Worker<N>|
+            requires { IsSend F.row × IsSend A.row × IsSend E.row × IsSend A.In.row × IsSend A.Out.row × IsSend A.Dial.row × IsSend A.Time.row × IsSend A.Dial.In.row × IsSend A.Dial.Out.row }
+        { work(rt, *alloc, shared, worker) },
+    );
+}
+
+/// Runs the workers, and takes the desk back.
+fn run<N: Making + Send + Sync, F: Files, A: Doors, E: Sink, R: Threads + Wait + Sync>(
+    rt: &R,
+    alloc: Global,
+    desk: Desk<F, A, E>,
+    book: Book<N>,
+    mut all: Share<N>,
+    mut workers: Vec<Worker<N>>,
+) -> Desk<F, A, E>
+    requires made { made_of F.state A.state E.state desk ≡ N.made }
+    requires none_out { desk.out ≡ [] }
+    requires total { book.total ≡ 0 }
+    requires all { (all.parts ≡ 0) × (all.amount ≡ 0) }
+    requires parts { vec_len workers ≡ N.parts }
+    requires some { 0 < vec_len workers }
+    ensures made { made_of F.state A.state E.state result ≡ N.made }
+    ensures none_out { result.out ≡ [] }
+{
+    let shared = Mutex::new(Shared { desk, book });
+    work_all(rt, &alloc, &shared, workers.as_mut_slice());
+    gather(&mut all, workers);
+    shared.into_inner().finish(&mut all)
+}
+
+fn serve_named<N: Making + Send + Sync, F: Files, A: Doors, E: Sink, R: Threads + Wait + Sync>(
+    rt: &R,
+    alloc: Global,
+    desk: Desk<F, A, E>,
+    readers: Vec<ConfigReader<Config>>,
+    blank: Blank,
+) -> Served<F, A, E>
+    requires name { blank.name ≡ N.name }
+    requires parts { blank.parts ≡ N.parts }
+    requires count { blank.parts ≡ vec_len readers }
+    requires made { made_of F.state A.state E.state desk ≡ N.made }
+    requires pair { All (λ r. reader_pair r ≡ desk.pair) readers.items }
+    requires none_out { desk.out ≡ [] }
+    requires some { 0 < vec_len readers }
+    ensures stands { StandsAfter (made_of F.state A.state E.state desk) (F.state result.parts.files) (A.state result.parts.doors) (E.state result.parts.err) result.counts }
+    ensures closes { Closes (A.state desk.made_doors) desk.most (A.state result.parts.doors) result.end }
+{
+    let (book, mut all) = blank.open::<N>();
+    match cut(alloc, &mut all, readers) {
+        Ok(workers) => run(rt, alloc, desk, book, all, workers).into_parts(rt),
+        Err(Mem) => desk.into_parts(rt),
+    }
+}
+
+/// Serves the connections of a desk that has none out, by one worker for each reader. Afterwards each was parted once. It may
+/// wait.
+pub fn serve_all<F: Files, A: Doors, E: Sink, R: Threads + Wait + Sync>(
+    rt: &R,
+    alloc: Global,
+    desk: Desk<F, A, E>,
+    readers: Vec<ConfigReader<Config>>,
+) -> Served<F, A, E>
+    requires pair { All (λ r. reader_pair r ≡ desk.pair) readers.items }
+    requires none_out { desk.out ≡ [] }
+    requires some { 0 < vec_len readers }
+    ensures stands { StandsAfter (made_of F.state A.state E.state desk) (F.state result.parts.files) (A.state result.parts.doors) (E.state result.parts.err) result.counts }
+    ensures closes { Closes (A.state desk.made_doors) desk.most (A.state result.parts.doors) result.end }
+{
+    let blank = Blank::new(readers.len() as u64);
+    serve_named::<Brand, F, A, E, R>(rt, alloc, desk, readers, blank)
+}
