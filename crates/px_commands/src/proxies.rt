@@ -229,7 +229,15 @@ fn serve_published<R: Threads + Wait + Sync, F: Files, A: Doors, E: Sink>(
         (record { files = F.state parts.files; doors = A.state parts.doors; err = E.state parts.err; main = serve.entry.config.now; loaded = loaded; pair = pair_of publisher; most = serve.entry.most })
         (record { files = F.state result.parts.files; doors = A.state result.parts.doors; errors = E.state result.parts.err }) result.counts result.status }
 {
-    match Desk::new(rt, alloc, parts, serve.config, loaded, publisher, serve.most) {
+    match Desk::new(
+        rt,
+        alloc,
+        parts,
+        serve.config,
+        loaded,
+        publisher,
+        serve.most,
+    ) {
         Ok(desk) => {
             let served = serve_all(rt, alloc, desk, readers);
             Ended {

@@ -145,7 +145,11 @@ fn served<N: Making, R: Threads + Sync, S: Source, O: Sink, D: Dialer, T: Clock>
 
 impl<N: Making, F: Files, A: Doors, E: Sink> Shared<N, F, A, E> {
     /// Takes the next connection.
-    fn next<R: Wait>(&mut self, rt: &R, mine: &mut Share<N>) -> Next<A::In, A::Out, A::Dial, A::Time>
+    fn next<R: Wait>(
+        &mut self,
+        rt: &R,
+        mine: &mut Share<N>,
+    ) -> Next<A::In, A::Out, A::Dial, A::Time>
         requires part { 0 < mine.old.parts }
         ensures parts { mine.new.parts ≡ mine.old.parts }
         ensures conn { IfSome (handed_as A.In.state A.Out.state A.Dial.state A.Time.state result) (λ h. mine.new.amount ≡ mine.old.amount + 1) }

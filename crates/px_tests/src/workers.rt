@@ -5,8 +5,8 @@ ghost use Rattle.px_doors.specs.Conns.{HasMark, IsFreshConn, conn_as};
 ghost use Rattle.px_doors.specs.Doors.{untold_doors};
 
 use px_base::{
-    Clock, DialFault, Dialer, Failed, FixedClock, List, Mem, MemFiles, Peer, Sink, SinkFault, Source,
-    TapeIn, TapeOut, Text,
+    Clock, DialFault, Dialer, Failed, FixedClock, List, Mem, MemFiles, Peer, Sink, SinkFault,
+    Source, TapeIn, TapeOut, Text,
 };
 use px_commands::{Parts, Proxied, ReloadCounts, run_proxy};
 use px_doors::{AcceptFault, Conn, Doors, ListenAddress, Parted};
@@ -269,7 +269,10 @@ fn turning_files(alloc: Global) -> Result<MemFiles, Mem> {
     let mut states = List::new(alloc);
     for main in TURNS {
         let mut state = List::new(alloc);
-        state.add((Text::from_bytes(alloc, b"c")?, Text::from_bytes(alloc, main)?))?;
+        state.add((
+            Text::from_bytes(alloc, b"c")?,
+            Text::from_bytes(alloc, main)?,
+        ))?;
         states.add(state)?;
     }
     MemFiles::new(alloc, states, &[])
