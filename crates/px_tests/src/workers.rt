@@ -1,8 +1,8 @@
 //! Two workers over doors and an origin that wait: while the origin of connection 0 waits, connection 1 is answered and the files
 //! change.
 ghost use Rattle.std.specs.Prelude.{◌≡◌, true, false, [], None, IfOk};
-ghost use Rattle.px_doors.specs.Conns.{HasMark, IsFreshConn, conn_as};
-ghost use Rattle.px_doors.specs.Doors.{untold_doors};
+ghost use Rattle.px_doors.specs.Conns.{HasMark, IsFreshConn, conn_as, parted_as};
+ghost use Rattle.px_doors.specs.Doors.{DoorsGoesOn, Parts as TakesPart, untold_doors};
 
 use px_base::{
     Clock, DialFault, Dialer, Failed, FixedClock, List, Mem, MemFiles, Peer, Sink, SinkFault,
@@ -250,7 +250,11 @@ impl<'c> Doors for WaitingDoors<'c> {
         }
     }
 
-    fn part(&mut self, parted: RowParted<'c>) {
+    fn part(&mut self, parted: RowParted<'c>)
+        ensures parts { TakesPart (⟦<WaitingDoors<'c> as Doors>⟧.state self.old) (⟦<WaitingDoors<'c> as Doors>⟧.state self.new) (parted_as ⟦<TapeIn as Source>⟧.state ⟦<Told<'c> as Sink>⟧.state ⟦<Origin<'c> as Dialer>⟧.state ⟦<FixedClock as Clock>⟧.state parted.entry) }
+        ensures listens { (⟦<WaitingDoors<'c> as Doors>⟧.state self.new).listens_at ≡ (⟦<WaitingDoors<'c> as Doors>⟧.state self.old).listens_at }
+        ensures goes_on { DoorsGoesOn (⟦<WaitingDoors<'c> as Doors>⟧.state self.old) (⟦<WaitingDoors<'c> as Doors>⟧.state self.new) }
+    {
         if self.parted.push(parted).is_err() {
             self.lost += 1;
         }
