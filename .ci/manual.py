@@ -239,7 +239,7 @@ def main():
             "curl -s -x http://127.0.0.1:8118 http://www.far.example/ | grep parent.example.net:3128",
         ):
             counts[0] += 1
-            wrong = sandbox.run(told)
+            wrong = sandbox.run("helmthread serve ~/helmthread/config 64\n" + told)
             if wrong:
                 failed += 1
                 print("manual.py: what the manual tells of its tasks isn't so: " + wrong.rstrip())
