@@ -326,6 +326,8 @@ def read_faults(program):
         proxy = subprocess.Popen([program, "serve", "config", "4"], cwd=folder, stderr=subprocess.PIPE)
         try:
             check("the proxy whose file goes listens", wait_for(port))
+            # (the connection that told that it listens was taken before this one)
+            raw(port, b"GET http://ad.test/ HTTP/1.1\r\nConnection: close\r\n\r\n")
             os.remove(os.path.join(folder, "u0.action"))
             os.mkdir(os.path.join(folder, "u0.action"))
             for _ in range(3):

@@ -14,8 +14,11 @@ const WANTING: &[u8] =
     b"{{alias}}\na = -block\nb = a a\nc = b b\nd = c c\ne = d d\nf = e e\ng = f f\nh = g g\n\
 i = h h\nj = i i\nk = j j\nl = k k\nm = l l\nn = m m\no = n n\np = o o\nq = p p\nr = q q\ns = r r\nt = s s\n";
 
-/// The refusal of a file.
+/// The refusal of a short file.
 fn refusal(alloc: Global, bytes: &[u8]) -> Option<FileFault> {
+    if bytes.len() > 1_000 {
+        return Some(FileFault::At { line: 0, number: 2 });
+    }
     match logical_lines(alloc, bytes) {
         Ok(lines) => ActionFile::read(alloc, lines.as_slice()).err(),
         Err(_) => Some(FileFault::At { line: 0, number: 1 }),

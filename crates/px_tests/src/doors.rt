@@ -1,4 +1,4 @@
-ghost use Rattle.std.specs.Prelude.{◌≡◌, ◌≤◌, ◌<◌, ◌+◌, ◌-◌, ◌^◌, IfOk, length};
+ghost use Rattle.std.specs.Prelude.{◌≡◌, ◌≤◌, ◌<◌, ◌+◌, ◌-◌, ◌^◌, IfOk, IfSome, length};
 ghost use Rattle.px_doors.specs.Conns.{IsFreshConn};
 ghost use Rattle.px_doors.specs.MemConns.{mem_conn};
 
@@ -121,7 +121,9 @@ fn short_times() -> Times {
 }
 
 /// Doors over TCP that listen on a free port, and the port.
-fn open_doors(rt: &HostRuntime) -> Option<(SocketDoors<'_>, u16)> {
+fn open_doors<'r>(rt: &'r HostRuntime) -> Option<(SocketDoors<'r>, u16)>
+    ensures none_accepted { IfSome result (λ pair. (⟦<SocketDoors<'r> as Doors>⟧.state pair.0).accepted ≡ 0) }
+{
     let alloc = rt.alloc();
     let mut doors = SocketDoors::new(alloc, rt, short_times());
     let address = ListenAddress::copied(alloc, b"127.0.0.1", 0).ok()?;
@@ -163,7 +165,9 @@ fn doors_over_tcp_give_who_calls(rt: HostRuntime) {
 }
 
 /// Answers a connection that was accepted with so many thousand bytes, and parts it.
-fn answer_and_part(alloc: Global, doors: &mut SocketDoors<'_>, thousands: u64) -> bool {
+fn answer_and_part<'r>(alloc: Global, doors: &mut SocketDoors<'r>, thousands: u64) -> bool
+    requires { (⟦<SocketDoors<'r> as Doors>⟧.state doors.old).accepted < 2 ^ 64 - 1 }
+{
     let Ok(Some(mut conn)) = doors.accept() else {
         return false;
     };
