@@ -1,6 +1,7 @@
 //! Two workers over doors and an origin that wait: while the origin of connection 0 waits, connection 1 is answered and the files
 //! change.
 ghost use Rattle.std.specs.Prelude.{◌≡◌, true, false, [], None, IfOk};
+ghost use Rattle.px_base.specs.Dials.{IsFresh};
 ghost use Rattle.px_doors.specs.Conns.{HasMark, IsFreshConn, conn_as, parted_as};
 ghost use Rattle.px_doors.specs.Doors.{DoorsGoesOn, Parts as TakesPart, untold_doors};
 
@@ -108,7 +109,9 @@ struct Origin<'c> {
 }
 
 /// A link to an origin whose answer waits for a count.
-fn link<'c>(alloc: Global, until: &'c AtomicU64) -> Result<(Waiting<'c>, TapeOut), Mem> {
+fn link<'c>(alloc: Global, until: &'c AtomicU64) -> Result<(Waiting<'c>, TapeOut), Mem>
+    ensures fresh { IfOk result (λ link. IsFresh (record { link_in = ⟦<Waiting<'c> as Source>⟧.state link.0; link_out = ⟦<TapeOut as Sink>⟧.state link.1 })) }
+{
     let tape = TapeIn::new(alloc, ANSWER, &[], &[])?;
     let sent = TapeOut::new(alloc, &[], &[])?;
     Ok((
@@ -256,7 +259,7 @@ impl<'c> Doors for WaitingDoors<'c> {
         ensures goes_on { DoorsGoesOn (⟦<WaitingDoors<'c> as Doors>⟧.state self.old) (⟦<WaitingDoors<'c> as Doors>⟧.state self.new) }
     {
         if self.parted.push(parted).is_err() {
-            self.lost += 1;
+            self.lost = self.lost.saturating_add(1);
         }
     }
 }
