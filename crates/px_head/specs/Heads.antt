@@ -1,5 +1,5 @@
 -- What a head block reads as. The grammar is `httparse`'s, in its default configuration.
-use Rattle.std.specs.Prelude.{◌≡◌, ℕ, ◌<◌, ◌≤◌, List, [], length, map}
+use Rattle.std.specs.Prelude.{◌≡◌, ℕ, Bool, not, ◌&&◌, ◌==◌, nat_le, ◌<◌, ◌≤◌, List, [], length, map}
 use Rattle.httparse.specs.Grammar as grammar
 use Rattle.px_head.specs.Fields.{field_of}
 use Rattle.px_head.specs.declared.TheConstants.{FIELD_LIMIT}
@@ -48,3 +48,7 @@ IsNoResponse block = (h : grammar.ResponseHead) → ¬ (grammar.ReadsResponse bl
 -- the block is one whole response head of more fields than are read
 abbrev pub HasManyResponseFields : List ℕ → Type 0
 HasManyResponseFields block = (h : grammar.ResponseHead) × grammar.ReadsResponse block h [] × (FIELD_LIMIT < length h.fields)
+
+-- a head of this status comes before the answer's own: 1xx but 101, which changes the protocol (RFC 9110, section 15.2)
+abbrev pub is_interim : ℕ → Bool
+is_interim status = nat_le 100 status && nat_le status 199 && not (status == 101)

@@ -12,8 +12,8 @@ use crate::{FIELD_LIMIT, HEAD_LIMIT, TOO_LONG_NAME, TOO_LONG_NUMBER};
 
 /// The limits of a head, and the refusal of one over them.
 pub fn constants()
-    ensures head_limit { HEAD_LIMIT ≡ 65536 }
-    ensures field_limit { FIELD_LIMIT ≡ 128 }
+    ensures head_limit { HEAD_LIMIT ≡ 131072 }
+    ensures field_limit { FIELD_LIMIT ≡ 256 }
     ensures too_long_number { TOO_LONG_NUMBER ≡ too_long_number }
     ensures too_long_name { TOO_LONG_NAME.now ≡ too_long_name }
 {}

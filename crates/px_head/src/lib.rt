@@ -23,11 +23,11 @@ pub use names::{
 };
 pub use prints::print_head;
 pub use requests::RequestHead;
-pub use responses::ResponseHead;
+pub use responses::{ResponseHead, is_interim};
 pub use searches::HeadSearch;
 
 /// The most bytes of a head.
-pub const HEAD_LIMIT: usize = 65_536;
+pub const HEAD_LIMIT: usize = 131_072;
 
 /// The most fields of a head.
-pub const FIELD_LIMIT: usize = 128;
+pub const FIELD_LIMIT: usize = 256;

@@ -3,7 +3,7 @@ ghost use Rattle.std.specs.Prelude.{◌≡◌, ◌==◌, ◌≤◌, [], length, 
 ghost use Rattle.httparse.specs.Grammar as grammar;
 ghost use Rattle.httparse.specs.Spans.{IsWithin, IsHeaderWithin, IsResponseWithin, IsResponseOf, span_bytes};
 ghost use Rattle.px_head.specs.Fields.{field_at};
-ghost use Rattle.px_head.specs.Heads.{IsNoResponse};
+ghost use Rattle.px_head.specs.Heads.{IsNoResponse, is_interim};
 
 use crate::FIELD_LIMIT;
 use crate::faults::HeadFault;
@@ -69,6 +69,14 @@ impl ResponseHead {
         push_reason(&mut line, self.reason.as_bytes())?;
         Ok(line)
     }
+}
+
+/// Whether a head of this status comes before the answer's own: 1xx but 101, which changes the protocol (RFC 9110, section
+/// 15.2).
+pub fn is_interim(status: u16) -> bool
+    ensures { result ≡ is_interim status }
+{
+    100 <= status && status <= 199 && status != 101
 }
 
 /// Where the parts of the head are that the whole block is.
