@@ -1,0 +1,80 @@
+-- What comes of one dial of a server and the handshake with it.
+use Rattle.std.specs.Prelude.{◌≡◌, ℕ, ◌⊎◌, true, false, IsTrue, List, [], ◌∷◌, ◌++◌, drop, Result, Ok, Err}
+use Rattle.px_base.specs.Sources.{SourceState, SourceGoesOn, given}
+use Rattle.px_base.specs.Sinks.{SinkState, SinkGoesOn}
+use Rattle.px_base.specs.Dials.{DialerState, HangsUp, is_open}
+use Rattle.px_base.specs.declared.dials.Dial.{Dial}
+use Rattle.px_base.specs.declared.dials.DialOutcome.TheVariants as outcome
+use Rattle.px_socks.specs.declared.ends.Passage.{Passage}
+use Rattle.px_socks.specs.declared.servers.Stop.{Stop}
+use Rattle.px_socks.specs.declared.servers.Stop.TheVariants as stop
+use Rattle.px_socks.specs.Ends.{InnerSource, InnerSink, has_failed}
+use Rattle.px_socks.specs.Messages.{due, IsAccepted, Took, NoneAhead}
+use Rattle.px_socks.specs.Notes.{IsFrontSent, IsRefusedBy, IsLostBy}
+
+-- a link behind a handshake: nothing else went over it, and nothing failed
+pub record IsBegun (passage : Passage) (i : SourceState) (o : SinkState) : Type 0 where
+  pub no_read_failed : i.faults ≡ 0
+  pub no_write_failed : o.faults ≡ 0
+  pub not_finished : o.finished ≡ false
+  pub rest_left : IsTrue i.tells → i.left ≡ drop passage.heard i.offered
+  pub only_messages : IsTrue o.tells → o.taken ≡ passage.messages
+
+-- both ends tell, and have one mark, which is that of an open link
+pub record IsOpenLink (d : DialerState) (i : SourceState) (o : SinkState) : Type 0 where
+  pub in_tells : IsTrue i.tells
+  pub out_tells : IsTrue o.tells
+  pub one_mark : o.mark ≡ i.mark
+  pub there : is_open i.mark d.dials ≡ true
+
+-- why a link is refused: an end of it failed, or what the server offers doesn't begin with accepted bytes
+abbrev pub RefusedOver : SourceState → SinkState → SourceState → Type 0
+RefusedOver i' o' i = (has_failed i'.faults ≡ true) ⊎ ((has_failed o'.faults ≡ true) ⊎ (IsTrue i.tells → NoneAhead IsAccepted i.offered))
+
+-- the link was hung up, and had been sent a front of what was due by the bytes heard; all of it where it was refused without a
+-- failed write
+pub record Hung (old new : DialerState) (i : SourceState) (o : SinkState) (messages : List ℕ) (s : Stop) : Type 0 where
+  pub last_in : SourceState
+  pub last_out : SinkState
+  pub hung_up : HangsUp old new last_in last_out
+  pub in_goes_on : SourceGoesOn i last_in
+  pub out_goes_on : SinkGoesOn o last_out
+  pub sent : IsTrue i.tells → IsTrue o.tells → IsFrontSent last_out.taken (due (given last_in) messages)
+  pub whole : IsTrue i.tells → IsTrue o.tells → s ≡ stop.Refused → has_failed last_out.faults ≡ false → last_out.taken ≡ due (given last_in) messages
+  pub why : s ≡ stop.Refused → RefusedOver last_in last_out i
+
+-- the handshake over a link: it is as it was dialled, or was hung up
+pub record IsBehindHandshake (i : SourceState) (o : SinkState) (messages : List ℕ) (link : InnerSource × InnerSink) : Type 0 where
+  pub messages_sent : link.1.passage.messages ≡ messages
+  pub one_passage : link.0.passage ≡ link.1.passage
+  pub begun : IsBegun link.1.passage link.0.source link.1.sink
+  pub accepted : IsTrue i.tells → Took IsAccepted link.0.passage.heard i.offered link.0.source.left
+  pub in_goes_on : SourceGoesOn i link.0.source
+  pub out_goes_on : SinkGoesOn o link.1.sink
+
+-- a dial of that host and port with a link that is open
+abbrev pub open_dial : List ℕ → ℕ → SourceState → Dial
+open_dial host port i = record { host = host; port = port; outcome = outcome.Open i.mark i.offered }
+
+-- a dial of that host and port was added, of whose outcome P is true
+pub record AddsDial (old new : DialerState) (host : List ℕ) (port : ℕ) (P : Dial → Type 0) : Type 0 where
+  pub dial : Dial
+  pub added : new.dials ≡ old.dials ++ dial ∷ []
+  pub to_host : dial.host ≡ host
+  pub to_port : dial.port ≡ port
+  pub outcome : P dial
+
+-- both ends tell, and have a mark that no open link had
+pub record IsNewLink (old : DialerState) (link : InnerSource × InnerSink) : Type 0 where
+  pub in_tells : IsTrue link.0.source.tells
+  pub out_tells : IsTrue link.1.sink.tells
+  pub one_mark : link.1.sink.mark ≡ link.0.source.mark
+  pub new_mark : is_open link.0.source.mark old.dials ≡ false
+  pub accepted : Took IsAccepted link.0.passage.heard link.0.source.offered (drop link.0.passage.heard link.0.source.offered)
+
+-- what came of it in the inner dials: a new open link, one refused or lost dial, or none where memory was wanting in the dial
+abbrev pub Serves : DialerState → DialerState → List ℕ → ℕ → List ℕ → Result (InnerSource × InnerSink) Stop → Type 0
+Serves old new host port messages (Ok link) = IsNewLink old link × (new.dials ≡ old.dials ++ open_dial host port link.0.source ∷ [])
+Serves old new host port messages (Err stop.Refused) = AddsDial old new host port (λ d. IsRefusedBy messages d.outcome)
+Serves old new host port messages (Err stop.Lost) = AddsDial old new host port (λ d. IsLostBy messages d.outcome)
+Serves old new host port messages (Err stop.Mem) = new.dials ≡ old.dials

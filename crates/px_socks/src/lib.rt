@@ -1,0 +1,17 @@
+//! A dialer through SOCKS5 servers (RFC 1928) over any dialer. A host of the form `socks5://SERVER:PORT/TARGET` is reached
+//! through that server, and every other host as the dialer below reaches it.
+#![tactic(auto)]
+
+mod dialers;
+mod ends;
+mod handshakes;
+mod laws;
+mod names;
+mod notes;
+mod replies;
+mod servers;
+
+pub use dialers::SocksDialer;
+pub use ends::{Passage, SocksSink, SocksSource};
+pub use laws::{accepted_bytes_are_prefix_free, printed_names_are_read};
+pub use notes::Note;
