@@ -1,0 +1,5 @@
+pub mod NameLemmas
+pub mod MarkLemmas
+pub mod StandingLemmas
+pub mod HandingLemmas
+pub mod JoinLemmas

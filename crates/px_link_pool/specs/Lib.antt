@@ -1,0 +1,5 @@
+-- The definitions that the contracts cite.
+pub mod Standing
+pub mod Shelves
+pub mod Histories
+pub mod Joins

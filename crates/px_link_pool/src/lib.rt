@@ -1,0 +1,14 @@
+//! A dialer that keeps links to origins and uses them again (RFC 9112, section 9.3): a link that was hung up may be kept where
+//! one whole answer was heard over it and nothing more, and a dial to the same host and port takes it.
+#![tactic(auto)]
+
+mod histories;
+mod laws;
+mod lending;
+mod pools;
+mod shelves;
+
+pub use histories::History;
+pub use laws::marks_are_one;
+pub use pools::LinkPool;
+pub use shelves::{Kept, Shelf};

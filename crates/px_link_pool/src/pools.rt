@@ -1,0 +1,229 @@
+// The dialer that keeps links.
+ghost use Rattle.std.specs.Prelude.{◌≡◌, ◌≤◌, ◌-◌, length, ◌++◌, ◌∷◌, [], List, true, false, not, ◌==◌, ◌&&◌, IsTrue, IfOk, ℕ};
+ghost use Rattle.px_base.specs.Causes.{RisesWith};
+ghost use Rattle.px_base.specs.Dials.{DialerGoesOn, DialCause, HangsUp, IsFresh, IsTold, linked, dialed, is_open};
+ghost use Rattle.px_base.specs.declared.dials.Dial.{Dial};
+ghost use Rattle.px_pool_ends.specs.Incomings.{outer_source, inner_source};
+ghost use Rattle.px_pool_ends.specs.Outgoings.{outer_sink, inner_sink};
+ghost use Rattle.px_link_pool.specs.Histories.{dials_of, are_due, inner_of, kept_of, all_closed, counted, wanted, Tells, AreJudged};
+ghost use Rattle.px_link_pool.specs.Joins.{Joins, dials_over, inner_at_end};
+ghost use Rattle.px_link_pool.specs.declared.histories.History.{Start};
+ghost use Rattle.px_link_pool.specs.Shelves.{items};
+ghost use Rattle.px_link_pool.specs.Standing.{Stands, kept_state, kept_states, is_told};
+
+use crate::histories::{History, Past, dialled, hung_up, taken_again};
+use crate::lending::{handed, lend};
+use crate::shelves::{Kept, Shelf, done, fill, pop, shelve, take_at};
+use px_base::{DialFault, Dialer, LocalDialer, LocalSink, LocalSource, Sink, Source, Text};
+use px_pool_ends::{Incoming, Outgoing};
+use std::alloc::Global;
+use std::mem;
+use std::snapshot::Snapshot;
+
+/// A dialer over another one that keeps up to four links that were hung up, and gives them again. The history is there for
+/// contracts alone, and takes no bytes.
+pub struct LinkPool<D: LocalDialer> {
+    alloc: Global,
+    inner: D,
+    start: Snapshot<D>,
+    kept: Shelf<Kept<D::In, D::Out>>,
+    history: Past<D::In, D::Out>,
+    link_reads: u64,
+    link_writes: u64,
+    wanting: u64,
+    ghost stands: { Stands (D.state inner) (dials_of inner_source inner_sink history) (kept_states D.In.state D.Out.state (items kept)) },
+    ghost told: { IsTrue (D.state inner).tells → Tells (record { ins = D.In.state; outs = D.Out.state }) (D.state start.value).dials (D.state inner).dials (kept_states D.In.state D.Out.state (items kept)) history },
+    ghost joins: { IsTrue (D.state inner).tells → Joins (record { ins = D.In.state; outs = D.Out.state }) (D.state start.value).dials (D.state inner).dials (kept_states D.In.state D.Out.state (items kept)) history },
+    ghost counts: { wanting ≡ wanted history },
+    ghost judged: { IsTrue (D.state inner).tells → ∥ AreJudged history ∥₁ },
+}
+
+impl<D: LocalDialer> LinkPool<D> {
+    /// A pool over a dialer, with no kept links. It takes no memory.
+    pub fn new(alloc: Global, inner: D) -> LinkPool<D>
+        ensures inner { result.inner ≡ inner }
+        ensures start { result.start.value ≡ inner }
+        ensures history { result.history ≡ Start }
+    {
+        let start = Snapshot::of(&inner);
+        LinkPool {
+            alloc,
+            inner,
+            start,
+            kept: Shelf::Empty,
+            history: History::Start,
+            link_reads: 0,
+            link_writes: 0,
+            wanting: 0,
+        }
+    }
+
+    /// For how many links memory was wanting while their answer was followed; none of these was kept. At its end the number
+    /// stays.
+    pub fn wanting(&self) -> u64
+        ensures { result ≡ wanted self.now.history }
+    {
+        self.wanting
+    }
+
+    /// Hangs up the kept links, the oldest first, and hands the inner dialer back.
+    pub fn into_inner(self) -> D
+        ensures joined { IsTrue (D.state self.inner).tells → (D.state result).dials ≡ inner_at_end (D.state self.start.value).dials (record { ins = D.In.state; outs = D.Out.state }) self.history }
+        ensures told { IsTrue (D.state self.inner).tells → dials_of outer_source outer_sink self.history ≡ dials_over (record { ins = D.In.state; outs = D.Out.state }) self.history }
+        ensures due { IsTrue (D.state self.inner).tells → are_due (record { ins = D.In.state; outs = D.Out.state }) self.history ≡ true }
+        ensures kept { IsTrue (D.state self.inner).tells → kept_states D.In.state D.Out.state (items self.kept) ≡ kept_of (record { ins = D.In.state; outs = D.Out.state }) self.history }
+        ensures dials { IsTrue (D.state self.inner).tells → (D.state result).dials ≡ all_closed (kept_states D.In.state D.Out.state (items self.kept)) (inner_of (D.state self.start.value).dials D.In.state D.Out.state self.history) }
+        ensures judged { IsTrue (D.state self.inner).tells → ∥ AreJudged self.history ∥₁ }
+        ensures goes_on { DialerGoesOn (D.state self.inner) (D.state result) }
+    {
+        let LinkPool {
+            alloc: _,
+            mut inner,
+            start: _,
+            kept,
+            history: _,
+            link_reads: _,
+            link_writes: _,
+            wanting: _,
+        } = self;
+        let kept = close_oldest(&mut inner, kept);
+        let kept = close_oldest(&mut inner, kept);
+        let kept = close_oldest(&mut inner, kept);
+        let kept = close_oldest(&mut inner, kept);
+        done(kept);
+        inner
+    }
+}
+
+/// Hangs up the oldest kept link, if there is one.
+fn close_oldest<D: LocalDialer>(
+    inner: &mut D,
+    kept: Shelf<Kept<D::In, D::Out>>,
+) -> Shelf<Kept<D::In, D::Out>>
+    requires { (outer : List Dial) × Stands (D.state inner.old) outer (kept_states D.In.state D.Out.state (items kept)) }
+    ensures stands { (outer : List Dial) → Stands (D.state inner.old) outer (kept_states D.In.state D.Out.state (items kept)) → Stands (D.state inner.new) outer (kept_states D.In.state D.Out.state (items result)) }
+    ensures dials { IsTrue (D.state inner.old).tells → all_closed (kept_states D.In.state D.Out.state (items result)) (D.state inner.new).dials ≡ all_closed (kept_states D.In.state D.Out.state (items kept)) (D.state inner.old).dials }
+    ensures tells { (D.state inner.new).tells ≡ (D.state inner.old).tells }
+    ensures goes_on { DialerGoesOn (D.state inner.old) (D.state inner.new) }
+    ensures fewer { length (items result) ≡ length (items kept) - 1 }
+    ensures most { length (items kept) ≤ 4 }
+{
+    let (rest, oldest) = pop(kept);
+    match oldest {
+        Some(oldest) => {
+            let Kept {
+                source,
+                sink,
+                host: _,
+                port: _,
+            } = oldest;
+            inner.hang_up(source, sink);
+            rest
+        }
+        None => rest,
+    }
+}
+
+impl<D: Dialer> Dialer for LinkPool<D> {
+    ghost use Rattle.std.specs.Prelude.{false, []};
+
+    type In = Incoming<D::In, D::Out>;
+
+    type Out = Outgoing<D::In, D::Out>;
+
+    ghost state = { λ p. record {
+      tells = (D.state p.inner).tells;
+      dials = dials_of outer_source outer_sink p.history;
+      tells_coming = false;
+      coming = [];
+      names = (D.state p.inner).names;
+      reach = (D.state p.inner).reach;
+      link_reads = p.link_reads;
+      link_writes = p.link_writes;
+      mark = (D.state p.inner).mark;
+    } };
+
+    fn dial(
+        &mut self,
+        host: &[u8],
+        port: u16,
+    ) -> Result<(Incoming<D::In, D::Out>, Outgoing<D::In, D::Out>), DialFault> {
+        let name = Text::from_bytes(self.alloc, host)?;
+        let noted = Snapshot::of(&name);
+        let shelf = mem::replace(&mut self.kept, Shelf::Empty);
+        let (rest, found) = take_at(shelf, host, port);
+        fill(&mut self.kept, rest);
+        match found {
+            Some(kept) => {
+                let Kept {
+                    source,
+                    sink,
+                    host: kept_host,
+                    port: kept_port,
+                } = kept;
+                let result = Ok(lend(self.alloc, source, sink, kept_host, kept_port));
+                self.history = taken_again(&self.history, noted, port, &result);
+                result
+            }
+            None => {
+                let asked = self.inner.dial(host, port);
+                let noted_asked = Snapshot::of(&asked);
+                match asked {
+                    Ok((source, sink)) => {
+                        let result = Ok(lend(self.alloc, source, sink, name, port));
+                        self.history = dialled(&self.history, noted, port, noted_asked, &result);
+                        result
+                    }
+                    Err(fault) => {
+                        let result = Err(fault);
+                        self.history = dialled(&self.history, noted, port, noted_asked, &result);
+                        result
+                    }
+                }
+            }
+        }
+    }
+
+    fn hang_up(&mut self, link_in: Incoming<D::In, D::Out>, link_out: Outgoing<D::In, D::Out>) {
+        let noted_in = Snapshot::of(&link_in);
+        let noted_out = Snapshot::of(&link_out);
+        self.link_reads = raised(self.link_reads, link_in.has_failed());
+        self.link_writes = raised(self.link_writes, link_out.has_failed());
+        self.wanting = raised(self.wanting, link_in.has_lost());
+        let (link, keeps) = handed(link_in, link_out);
+        let noted_host = Snapshot::of(&link.host);
+        let port = link.port;
+        let shelf = mem::replace(&mut self.kept, Shelf::Empty);
+        let (rest, closing) = shelve(shelf, link, keeps);
+        fill(&mut self.kept, rest);
+        self.history = hung_up(
+            &self.history,
+            noted_host,
+            port,
+            noted_in,
+            noted_out,
+            &closing,
+        );
+        match closing {
+            Some(closing) => {
+                let Kept {
+                    source,
+                    sink,
+                    host: _,
+                    port: _,
+                } = closing;
+                self.inner.hang_up(source, sink);
+            }
+            None => {}
+        }
+    }
+}
+
+/// One more where it is so, and it stands at the end of its type.
+fn raised(count: u64, by: bool) -> u64
+    ensures later { count ≤ result }
+    ensures rises { (n : ℕ) → by ≡ not (n == 0) → RisesWith count result n }
+    ensures counted { result ≡ counted by count }
+{
+    if by { count.saturating_add(1) } else { count }
+}
