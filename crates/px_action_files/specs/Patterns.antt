@@ -1,13 +1,14 @@
 -- The patterns of sections (the manual's chapter on actions files, patterns).
-use Rattle.std.specs.Prelude.{ℕ, Bool, nat_eq, if◌then◌else◌, List, [], ◌∷◌, ◌++◌, length, drop, Option, Some, None, Result, Ok, Err, codes}
+use Rattle.std.specs.Prelude.{ℕ, Bool, true, false, nat_eq, if◌then◌else◌, List, [], ◌∷◌, ◌++◌, length, drop, Option, Some, None, Result, Ok, Err, codes}
 use Rattle.std.specs.List.{starts_with}
 use Rattle.std.specs.Str.{is_utf8}
 use Rattle.px_text.specs.declared.lines.Line.{Line}
 use Rattle.px_patterns.specs.Faults.{pattern_fault_number}
-use Rattle.px_patterns.specs.Patterns.{url_pattern, tag_pattern}
+use Rattle.px_patterns.specs.Patterns.{expression_pattern, url_pattern, tag_pattern}
 use Rattle.px_patterns.specs.declared.faults.PatternFault.{PatternFault}
 use Rattle.px_patterns.specs.declared.faults.PatternFault.TheVariants as fault
 use Rattle.px_patterns.specs.declared.patterns.TagPattern.{TagPattern}
+use Rattle.px_patterns.specs.declared.patterns.UrlPattern.{UrlPattern}
 use Rattle.px_action_files.specs.Faults.{result_map, Refused, at_line, and_then}
 use Rattle.px_action_files.specs.declared.patterns.Pattern.{Pattern}
 use Rattle.px_action_files.specs.declared.patterns.Pattern.TheVariants as pattern
@@ -39,9 +40,21 @@ pattern_on tags.NoneOfRequest p = pattern.NoRequestTag p
 pattern_on tags.NoneOfResponse p = pattern.NoResponseTag p
 pattern_on tags.OfClient p = pattern.ClientTag p
 
+-- the word with which a URL pattern begins whose host is an expression
+abbrev pub expression_word : List ℕ
+expression_word = codes "PCRE-HOST-PATTERN:"
+
+-- a URL pattern; what stands behind that word belongs to the expression, white space too
+abbrev pub url_pattern_by : Bool → List ℕ → Result UrlPattern PatternFault
+url_pattern_by true text = expression_pattern (drop (length expression_word) text)
+url_pattern_by false text = url_pattern text
+
+abbrev pub url_pattern_of : List ℕ → Result UrlPattern PatternFault
+url_pattern_of text = url_pattern_by (starts_with nat_eq text expression_word) text
+
 -- a tag pattern behind its word, or a URL pattern
 abbrev pub pattern_by : Option Tags → List ℕ → Result Pattern PatternFault
-pattern_by None text = result_map pattern.Url (url_pattern text)
+pattern_by None text = result_map pattern.Url (url_pattern_of text)
 pattern_by (Some which) text = result_map (pattern_on which) (tag_pattern (drop (length (word_of which)) text))
 
 -- the pattern of a line; bytes that aren't UTF-8 are no expression

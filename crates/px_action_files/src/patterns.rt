@@ -4,7 +4,7 @@ ghost use Rattle.std.specs.List.{starts_with};
 ghost use Rattle.px_patterns.specs.Faults.{IsPatternRefusal, pattern_fault_number};
 ghost use Rattle.px_patterns.specs.Patterns.{tag_pattern};
 ghost use Rattle.px_action_files.specs.Faults.{result_map, IsReported, at_line};
-ghost use Rattle.px_action_files.specs.Patterns.{word_of, tags_of, pattern_on, pattern_by, line_pattern, patterns_of};
+ghost use Rattle.px_action_files.specs.Patterns.{word_of, tags_of, pattern_on, pattern_by, line_pattern, patterns_of, url_pattern_of};
 
 use crate::faults::FileFault;
 use px_base::{List, as_text};
@@ -19,6 +19,8 @@ const NO_REQUEST_TAG: &str = "NO-REQUEST-TAG:";
 const NO_RESPONSE_TAG: &str = "NO-RESPONSE-TAG:";
 
 const CLIENT_TAG: &str = "CLIENT-TAG:";
+
+const HOST_EXPRESSION: &str = "PCRE-HOST-PATTERN:";
 
 /// A pattern that switches a section on.
 #[derive(Drop)]
@@ -100,14 +102,26 @@ fn url_pattern(alloc: Global, text: &str) -> Result<Pattern, PatternFault>
     ensures pattern { IfOk result (λ p. pattern_by None text.now ≡ Ok p) }
     ensures refused { IfErr result (IsPatternRefusal (pattern_by None text.now)) }
 {
-    match UrlPattern::read(alloc, text) {
+    match read_url(alloc, text) {
         Ok(pattern) => Ok(Pattern::Url(pattern)),
         Err(fault) => Err(fault),
     }
 }
 
-/// The pattern of a text: `TAG:`, `NO-REQUEST-TAG:`, `NO-RESPONSE-TAG:` and `CLIENT-TAG:` begin tag patterns, all else is
-/// a URL pattern.
+/// The URL pattern of a text: `PCRE-HOST-PATTERN:`, with case, begins one whose host is an expression.
+#[tactic(auto, using(crate::proofs::PatternLemmas::refusal_same))]
+fn read_url(alloc: Global, text: &str) -> Result<UrlPattern, PatternFault>
+    ensures pattern { IfOk result (λ p. url_pattern_of text.now ≡ Ok p) }
+    ensures refused { IfErr result (IsPatternRefusal (url_pattern_of text.now)) }
+{
+    match behind(text, HOST_EXPRESSION) {
+        Some(expression) => UrlPattern::read_expression(alloc, expression),
+        None => UrlPattern::read(alloc, text),
+    }
+}
+
+/// The pattern of a text: `PCRE-HOST-PATTERN:` begins a URL pattern with a host expression, `TAG:`, `NO-REQUEST-TAG:`,
+/// `NO-RESPONSE-TAG:` and `CLIENT-TAG:` begin tag patterns, all else is a URL pattern.
 #[tactic(auto, using(crate::proofs::PatternLemmas::refusal_same))]
 fn text_pattern(alloc: Global, text: &str) -> Result<Pattern, PatternFault>
     ensures pattern { IfOk result (λ p. pattern_by (tags_of text.now) text.now ≡ Ok p) }

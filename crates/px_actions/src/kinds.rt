@@ -123,7 +123,7 @@ pub enum Kind {
     SessionCookiesOnly,
     /// `set-image-blocker`: says which image a blocked image becomes.
     SetImageBlocker,
-    /// `suppress-tag`: has no effect yet.
+    /// `suppress-tag`: tags that taggers don't make.
     SuppressTag,
 }
 

@@ -8,7 +8,6 @@ use Rattle.px_action_files.specs.Meanings.{SectionSeen, seen_section}
 use Rattle.px_action_files.specs.PatternLines.{pattern_lines}
 use Rattle.px_action_files.specs.declared.files.ActionFile.{ActionFile}
 use Rattle.px_config.specs.declared.actions.ActionFiles.{ActionFiles}
-use Rattle.px_config.specs.declared.actions.TheConstants.{PATTERN_LIMIT}
 use Rattle.px_config.specs.Faults.{Fault, at_file}
 use Rattle.px_config.specs.Parts.{file_lines}
 use Rattle.px_config.specs.Sets.{Item}
@@ -18,9 +17,9 @@ abbrev pub within : {X : Type 0} → Option Line → X → Result X Refused
 within None sections = Ok sections
 within (Some line) sections = refused line.number 31
 
--- the sections of lines, where files before them have so many patterns
-unfoldable pub sections_of : ℕ → List Line → Result (List SectionSeen) Refused
-sections_of so_far lines = and_then (file_sections lines) (within (slice_get (pattern_lines lines) (PATTERN_LIMIT - so_far)))
+-- the sections of lines, where all files may have so many patterns, and files before them have some
+unfoldable pub sections_of : ℕ → ℕ → List Line → Result (List SectionSeen) Refused
+sections_of limit so_far lines = and_then (file_sections lines) (within (slice_get (pattern_lines lines) (limit - so_far)))
 
 -- an actions file by its name, and its sections
 abbrev pub ActionsSeen : Type 0
@@ -42,16 +41,17 @@ abbrev pub with_sections : ActionsGiven → List ℕ → List SectionSeen → Ac
 with_sections given name sections = record { files = given.files ++ (name, sections) ∷ []; patterns = given.patterns + patterns_in sections }
 
 -- the sections of an actions file, where files before it have so many patterns
-abbrev pub file_actions : List Item → Option (List ℕ) → ℕ → List ℕ → Result (List SectionSeen) Refused
-file_actions items folder so_far name = and_then (file_lines items folder name) (sections_of so_far)
+abbrev pub file_actions : List Item → Option (List ℕ) → ℕ → ℕ → List ℕ → Result (List SectionSeen) Refused
+file_actions items folder limit so_far name = and_then (file_lines items folder name) (sections_of limit so_far)
 
-unfoldable pub with_actions : List Item → Option (List ℕ) → ActionsGiven → List ℕ → Result ActionsGiven Fault
-with_actions items folder given name = result_map (with_sections given name) (at_file name (file_actions items folder given.patterns name))
+unfoldable pub with_actions : List Item → Option (List ℕ) → ℕ → ActionsGiven → List ℕ → Result ActionsGiven Fault
+with_actions items folder limit given name = result_map (with_sections given name) (at_file name (file_actions items folder limit given.patterns name))
 
--- the action files of these names, or the first fault
-unfoldable pub action_files : List Item → Option (List ℕ) → ActionsGiven → List (List ℕ) → Result ActionsGiven Fault
-action_files items folder given [] = Ok given
-action_files items folder given (name ∷ names) = and_then (with_actions items folder given name) (λ after. action_files items folder after names)
+-- the action files of these names, which may have so many patterns together, or the first fault
+unfoldable pub action_files : List Item → Option (List ℕ) → ℕ → ActionsGiven → List (List ℕ) → Result ActionsGiven Fault
+action_files items folder limit given [] = Ok given
+action_files items folder limit given (name ∷ names) =
+    and_then (with_actions items folder limit given name) (λ after. action_files items folder limit after names)
 
 -- action files of the program as plain data
 abbrev pub seen_file : List ℕ × ActionFile → ActionsSeen

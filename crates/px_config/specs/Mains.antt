@@ -5,7 +5,7 @@ use Rattle.std.specs.Str.{bytes_eq, is_utf8}
 use Rattle.px_base.specs.Numbers.{decimal}
 use Rattle.px_text.specs.declared.lines.Line.{Line}
 use Rattle.px_action_files.specs.Faults.{Refused, and_then, refused}
-use Rattle.px_decide.specs.Forwards.{Line as ForwardLine, forward_line, number_of}
+use Rattle.px_decide.specs.Forwards.{Line as ForwardLine, forward_line, number_of, socks_line}
 use Rattle.px_decide.specs.declared.faults.ForwardFault.{ForwardFault}
 use Rattle.px_decide.specs.declared.faults.ForwardFault.TheVariants as forwarding
 use Rattle.px_action_files.specs.declared.faults.FileFault.{FileFault}
@@ -16,23 +16,27 @@ use Rattle.px_config.specs.declared.directives.Directive.{Directive}
 use Rattle.px_config.specs.declared.directives.Directive.TheVariants as directive
 use Rattle.px_config.specs.declared.mains.Address.{Address}
 use Rattle.px_config.specs.declared.mains.Main.{Main}
+use Rattle.px_config.specs.declared.mains.TheConstants.{DEFAULT_PATTERNS, MOST_PATTERNS}
 use Rattle.px_config.specs.declared.names.TheConstants.{FILES_OF_A_KIND}
 use Rattle.px_config.specs.declared.settings.MainParts.{MainParts}
 use Rattle.px_config.specs.declared.settings.Note.{Note}
 use Rattle.px_config.specs.declared.settings.Settings.{Settings}
 
--- the four directives of SOCKS parents
-abbrev pub is_socks : List ℕ → Bool
-is_socks name =
-    is_named name (codes "forward-socks4")
-    || (is_named name (codes "forward-socks4a") || (is_named name (codes "forward-socks5") || is_named name (codes "forward-socks5t")))
+-- the two directives of forward lines with a SOCKS5 server, which mean the same
+abbrev pub is_socks5 : List ℕ → Bool
+is_socks5 name = is_named name (codes "forward-socks5") || is_named name (codes "forward-socks5t")
+
+-- the two directives of SOCKS4 servers
+abbrev pub is_socks4 : List ℕ → Bool
+is_socks4 name = is_named name (codes "forward-socks4") || is_named name (codes "forward-socks4a")
 
 abbrev pub switch_or_tag : List ℕ → Directive
 switch_or_tag name =
     if is_named name (codes "handle-as-empty-doc-returns-ok") then directive.EmptyReturnsOk
     else if is_named name (codes "toggle") then directive.Toggle
+    else if is_named name (codes "pattern-limit") then directive.PatternLimit
     else if is_named name (codes "client-specific-tag") then directive.ClientTag
-    else if is_socks name then directive.Socks
+    else if is_socks4 name then directive.ForwardSocks4
     else directive.Other
 
 -- the directive of a name
@@ -44,6 +48,7 @@ directive_of name =
     else if is_named name (codes "listen-address") then directive.ListenAddress
     else if is_named name (codes "buffer-limit") then directive.BufferLimit
     else if is_named name (codes "forward") then directive.Forward
+    else if is_socks5 name then directive.ForwardSocks5
     else switch_or_tag name
 
 abbrev pub is_other : Directive → Bool
@@ -53,10 +58,12 @@ is_other directive.Folder = false
 is_other directive.ListenAddress = false
 is_other directive.BufferLimit = false
 is_other directive.Forward = false
+is_other directive.ForwardSocks5 = false
 is_other directive.EmptyReturnsOk = false
 is_other directive.Toggle = false
+is_other directive.PatternLimit = false
 is_other directive.ClientTag = false
-is_other directive.Socks = false
+is_other directive.ForwardSocks4 = false
 is_other directive.Other = true
 
 -- before the first line
@@ -66,6 +73,7 @@ nothing_set = record {
   buffer_limit = 4194304;
   empty_returns_ok = false;
   toggle = true;
+  pattern_limit = DEFAULT_PATTERNS;
   tags = [];
   forwards = [];
   action_files = 0;
@@ -94,6 +102,11 @@ abbrev pub with_limit : ℕ → Main → Option ℕ → Result Main Refused
 with_limit line m None = refused line 29
 with_limit line m (Some kilobytes) = Ok (record m { buffer_limit = kilobytes * 1024 })
 
+-- the last limit on patterns wins
+abbrev pub with_pattern_limit : ℕ → Main → Option ℕ → Result Main Refused
+with_pattern_limit line m None = refused line 29
+with_pattern_limit line m (Some patterns) = Ok (record m { pattern_limit = patterns })
+
 -- 0 or 1
 abbrev pub switch : List ℕ → Option Bool
 switch value = if bytes_eq value (codes "0") then Some false else if bytes_eq value (codes "1") then Some true else None
@@ -112,13 +125,16 @@ seen_fault line forwarding.Bad = at.At line 29
 seen_fault line (forwarding.Pattern number) = at.At line number
 seen_fault line forwarding.Mem = at.Mem
 
--- each line adds a forward line
+-- each line of either kind adds a forward line
 abbrev pub with_forward : ℕ → Main → Result ForwardLine ForwardFault → Result Main Refused
 with_forward line m (Ok forward) = Ok (record m { forwards = m.forwards ++ forward ∷ [] })
 with_forward line m (Err fault) = refused line (number_of fault)
 
 abbrev pub with_forward_value : ℕ → Main → List ℕ → Result Main Refused
 with_forward_value line m value = if is_utf8 value then with_forward line m (forward_line value) else refused line 29
+
+abbrev pub with_socks_value : ℕ → Main → List ℕ → Result Main Refused
+with_socks_value line m value = if is_utf8 value then with_forward line m (socks_line value) else refused line 29
 
 -- each line adds a tag: a name, white space and a description; a name twice is refused
 abbrev pub with_tag : ℕ → Main → List ℕ → Result Main Refused
@@ -134,10 +150,12 @@ with_value file line m value directive.Folder = Ok m
 with_value file line m value directive.ListenAddress = with_address file line m m.listen (address_of value)
 with_value file line m value directive.BufferLimit = with_limit line m (decimal 16384 value)
 with_value file line m value directive.Forward = with_forward_value line m value
+with_value file line m value directive.ForwardSocks5 = with_socks_value line m value
 with_value file line m value directive.EmptyReturnsOk = with_empty_ok line m (switch value)
 with_value file line m value directive.Toggle = with_toggle line m (switch value)
+with_value file line m value directive.PatternLimit = with_pattern_limit line m (decimal MOST_PATTERNS value)
 with_value file line m value directive.ClientTag = with_tag line m value
-with_value file line m value directive.Socks = refused line 29
+with_value file line m value directive.ForwardSocks4 = refused line 29
 with_value file line m value directive.Other = Ok m
 
 -- what a line sets: any other directive is ignored with a note, and one of these without a value is refused
@@ -171,6 +189,7 @@ settings_of m = record {
   buffer_limit = m.buffer_limit;
   empty_returns_ok = m.empty_returns_ok;
   toggle = m.toggle;
+  pattern_limit = m.pattern_limit;
   tags = m.tags;
 }
 

@@ -100,7 +100,7 @@ behind_actions set lines parts actions =
 
 -- 3. the action files
 unfoldable pub behind_main : FileSet → List Line → MainParts → Result ConfigSeen Fault
-behind_main set lines parts = and_then (action_files set.items (confdir set.main lines) no_actions (action_names lines)) (behind_actions set lines parts)
+behind_main set lines parts = and_then (action_files set.items (confdir set.main lines) parts.settings.pattern_limit no_actions (action_names lines)) (behind_actions set lines parts)
 
 -- 2. the lines of the main file
 unfoldable pub behind_lines : FileSet → List Line → Result ConfigSeen Fault

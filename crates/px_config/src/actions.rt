@@ -13,9 +13,6 @@ use px_base::{Content, List, Mem, Text};
 use px_text::Line;
 use std::alloc::Global;
 
-/// The most patterns of all action files.
-pub const PATTERN_LIMIT: usize = 20_000;
-
 /// Action files by their names, and how many patterns they have.
 #[derive(Drop)]
 pub(crate) struct ActionFiles {
@@ -39,17 +36,22 @@ fn patterns_in(sections: &[Section]) -> Result<usize, Mem>
     Ok(count)
 }
 
-/// The sections of lines, where files before them have so many patterns.
+/// The sections of lines, where all files may have so many patterns, and files before them have some.
 #[tactic(auto, unfolding(crate::specs::Actions::sections_of), using(crate::proofs::FaultLemmas::within_rules))]
-fn read_sections(alloc: Global, lines: &[Line], so_far: usize) -> Result<ActionFile, FileFault>
-    ensures sections { IfOk result (λ file. sections_of so_far lines.now ≡ Ok (map seen_section file.sections)) }
-    ensures refused { IfErr result (IsReported (sections_of so_far lines.now)) }
+fn read_sections(
+    alloc: Global,
+    lines: &[Line],
+    limit: usize,
+    so_far: usize,
+) -> Result<ActionFile, FileFault>
+    ensures sections { IfOk result (λ file. sections_of limit so_far lines.now ≡ Ok (map seen_section file.sections)) }
+    ensures refused { IfErr result (IsReported (sections_of limit so_far lines.now)) }
 {
     let file = match ActionFile::read(alloc, lines) {
         Ok(file) => file,
         Err(fault) => return Err(fault),
     };
-    match ActionFile::line_of_pattern(lines, PATTERN_LIMIT.saturating_sub(so_far)) {
+    match ActionFile::line_of_pattern(lines, limit.saturating_sub(so_far)) {
         Some(line) => Err(FileFault::At {
             line,
             number: TOO_LARGE,
@@ -63,31 +65,33 @@ fn read_file(
     alloc: Global,
     items: &[(Text, Content)],
     folder: Option<&[u8]>,
-    name: &[u8],
+    limit: usize,
     so_far: usize,
+    name: &[u8],
 ) -> Result<ActionFile, FileFault>
     requires { All FitsItem items.now }
-    ensures sections { IfOk result (λ file. file_actions items.now (option_copied folder.entry) so_far name.now ≡ Ok (map seen_section file.sections)) }
-    ensures refused { IfErr result (IsReported (file_actions items.now (option_copied folder.entry) so_far name.now)) }
+    ensures sections { IfOk result (λ file. file_actions items.now (option_copied folder.entry) limit so_far name.now ≡ Ok (map seen_section file.sections)) }
+    ensures refused { IfErr result (IsReported (file_actions items.now (option_copied folder.entry) limit so_far name.now)) }
 {
     match file_lines(alloc, items, folder, name) {
-        Ok(lines) => read_sections(alloc, lines.as_slice(), so_far),
+        Ok(lines) => read_sections(alloc, lines.as_slice(), limit, so_far),
         Err(fault) => Err(fault),
     }
 }
 
 impl ActionFiles {
-    /// Reads the action files of these names. The first fault is answered.
+    /// Reads the action files of these names, which may have so many patterns together. The first fault is answered.
     #[tactic(auto, unfolding(crate::specs::Actions::action_files))]
     pub(crate) fn read(
         alloc: Global,
         items: &[(Text, Content)],
         folder: Option<&[u8]>,
+        limit: usize,
         names: &[Text],
     ) -> Result<ActionFiles, LoadFault>
         requires { All FitsItem items.now }
-        ensures files { IfOk result (λ files. action_files items.now (option_copied folder.entry) no_actions names.now ≡ Ok (seen_actions files)) }
-        ensures refused { IfErr result (IsFault (action_files items.now (option_copied folder.entry) no_actions names.now)) }
+        ensures files { IfOk result (λ files. action_files items.now (option_copied folder.entry) limit no_actions names.now ≡ Ok (seen_actions files)) }
+        ensures refused { IfErr result (IsFault (action_files items.now (option_copied folder.entry) limit no_actions names.now)) }
     {
         let mut files = ActionFiles {
             files: List::new(alloc),
@@ -95,7 +99,7 @@ impl ActionFiles {
         };
         let mut rest = names;
         'names: while let Some((name, others)) = rest.split_first() {
-            match files.add(alloc, items, folder, name.as_bytes()) {
+            match files.add(alloc, items, folder, limit, name.as_bytes()) {
                 Ok(()) => {}
                 Err(fault) => return Err(fault),
             }
@@ -111,13 +115,14 @@ impl ActionFiles {
         alloc: Global,
         items: &[(Text, Content)],
         folder: Option<&[u8]>,
+        limit: usize,
         name: &[u8],
     ) -> Result<(), LoadFault>
         requires { All FitsItem items.now }
-        ensures added { OnOk result (with_actions items.now (option_copied folder.entry) (seen_actions self.old) name.now ≡ Ok (seen_actions self.new)) }
-        ensures refused { IfErr result (IsFault (with_actions items.now (option_copied folder.entry) (seen_actions self.old) name.now)) }
+        ensures added { OnOk result (with_actions items.now (option_copied folder.entry) limit (seen_actions self.old) name.now ≡ Ok (seen_actions self.new)) }
+        ensures refused { IfErr result (IsFault (with_actions items.now (option_copied folder.entry) limit (seen_actions self.old) name.now)) }
     {
-        match read_file(alloc, items, folder, name, self.patterns) {
+        match read_file(alloc, items, folder, limit, self.patterns, name) {
             Ok(file) => {
                 self.push(alloc, name, file)?;
                 Ok(())

@@ -2,7 +2,7 @@
 ghost use Rattle.std.specs.Prelude.{◌≡◌, ◌<◌, length, IfOk, IfSome, option_copied};
 ghost use Rattle.std.specs.List.{position};
 ghost use Rattle.px_base.specs.Blanks.{is_blank};
-ghost use Rattle.px_config.specs.Mains.{directive_of, is_other, is_socks, switch_or_tag};
+ghost use Rattle.px_config.specs.Mains.{directive_of, is_other, is_socks4, is_socks5, switch_or_tag};
 ghost use Rattle.px_config.specs.Directives.{last_value, name_in, nonempty, value_for, value_in, values_of};
 
 use px_base::{Mem, Text, is_blank, same_without_case, trim};
@@ -94,14 +94,18 @@ pub(crate) enum Directive {
     BufferLimit,
     /// `forward`: a pattern and a parent.
     Forward,
+    /// `forward-socks5` and `forward-socks5t`: a pattern, a SOCKS server and a parent.
+    ForwardSocks5,
     /// `handle-as-empty-doc-returns-ok`: 0 or 1.
     EmptyReturnsOk,
     /// `toggle`: 0 or 1.
     Toggle,
+    /// `pattern-limit`: how many patterns all action files may have.
+    PatternLimit,
     /// `client-specific-tag`: a name and a description.
     ClientTag,
-    /// `forward-socks4`, `forward-socks4a`, `forward-socks5` and `forward-socks5t`, which are refused.
-    Socks,
+    /// `forward-socks4` and `forward-socks4a`, which are refused.
+    ForwardSocks4,
     /// Any other, which is ignored with a note.
     Other,
 }
@@ -124,6 +128,8 @@ impl Directive {
             Directive::BufferLimit
         } else if same_without_case(name, b"forward") {
             Directive::Forward
+        } else if is_socks5(name) {
+            Directive::ForwardSocks5
         } else {
             Directive::switch_or_tag(name)
         }
@@ -136,10 +142,12 @@ impl Directive {
             Directive::EmptyReturnsOk
         } else if same_without_case(name, b"toggle") {
             Directive::Toggle
+        } else if same_without_case(name, b"pattern-limit") {
+            Directive::PatternLimit
         } else if same_without_case(name, b"client-specific-tag") {
             Directive::ClientTag
-        } else if is_socks(name) {
-            Directive::Socks
+        } else if is_socks4(name) {
+            Directive::ForwardSocks4
         } else {
             Directive::Other
         }
@@ -155,21 +163,27 @@ impl Directive {
             Directive::ListenAddress => false,
             Directive::BufferLimit => false,
             Directive::Forward => false,
+            Directive::ForwardSocks5 => false,
             Directive::EmptyReturnsOk => false,
             Directive::Toggle => false,
+            Directive::PatternLimit => false,
             Directive::ClientTag => false,
-            Directive::Socks => false,
+            Directive::ForwardSocks4 => false,
             Directive::Other => true,
         }
     }
 }
 
-/// Whether a directive names a SOCKS parent.
-fn is_socks(name: &[u8]) -> bool
-    ensures { result ≡ is_socks name.now }
+/// Whether a directive is of a forward line with a SOCKS5 server.
+fn is_socks5(name: &[u8]) -> bool
+    ensures { result ≡ is_socks5 name.now }
 {
-    same_without_case(name, b"forward-socks4")
-        || same_without_case(name, b"forward-socks4a")
-        || same_without_case(name, b"forward-socks5")
-        || same_without_case(name, b"forward-socks5t")
+    same_without_case(name, b"forward-socks5") || same_without_case(name, b"forward-socks5t")
+}
+
+/// Whether a directive is of a SOCKS4 server.
+fn is_socks4(name: &[u8]) -> bool
+    ensures { result ≡ is_socks4 name.now }
+{
+    same_without_case(name, b"forward-socks4") || same_without_case(name, b"forward-socks4a")
 }

@@ -1,7 +1,7 @@
 // What the constants are that the definitions cite.
 ghost use Rattle.std.specs.Prelude.{◌≡◌};
 
-use crate::actions::PATTERN_LIMIT;
+use crate::mains::{DEFAULT_PATTERNS, MOST_PATTERNS};
 use crate::names::{FILES_OF_A_KIND, SLASH};
 use crate::sets::FILE_LIMIT;
 
@@ -9,6 +9,7 @@ use crate::sets::FILE_LIMIT;
 pub fn constants()
     ensures files { FILES_OF_A_KIND ≡ 16 }
     ensures bytes { FILE_LIMIT ≡ 1048576 }
-    ensures patterns { PATTERN_LIMIT ≡ 20000 }
+    ensures default_patterns { DEFAULT_PATTERNS ≡ 20000 }
+    ensures most_patterns { MOST_PATTERNS ≡ 40000 }
     ensures slash { SLASH ≡ 47 }
 {}

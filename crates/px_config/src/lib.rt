@@ -20,7 +20,6 @@ mod spelling;
 mod templates;
 mod warm;
 
-pub use actions::PATTERN_LIMIT;
 pub use configs::Config;
 pub use faults::LoadFault;
 pub use gathering::gather;

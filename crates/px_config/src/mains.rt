@@ -4,9 +4,10 @@ ghost use Rattle.px_action_files.specs.Faults.{IsReported};
 ghost use Rattle.std.specs.List.{list_any};
 ghost use Rattle.std.specs.Str.{bytes_eq};
 ghost use Rattle.px_base.specs.Numbers.{decimal};
-ghost use Rattle.px_decide.specs.Forwards.{forward_line};
+ghost use Rattle.px_decide.specs.Forwards.{forward_line, socks_line};
 ghost use Rattle.px_config.specs.Addresses.{address_of};
-ghost use Rattle.px_config.specs.Mains.{address_or, main_of, nothing_set, parts_of, seen_fault, switch, with_action_file, with_address, with_directive, with_empty_ok, with_filter_file, with_forward, with_forward_value, with_limit, with_line, with_note, with_tag, with_toggle, with_value};
+ghost use Rattle.px_config.specs.declared.mains.TheConstants.{MOST_PATTERNS};
+ghost use Rattle.px_config.specs.Mains.{address_or, main_of, nothing_set, parts_of, seen_fault, switch, with_action_file, with_address, with_directive, with_empty_ok, with_filter_file, with_forward, with_forward_value, with_limit, with_line, with_note, with_socks_value, with_pattern_limit, with_tag, with_toggle, with_value};
 
 use crate::addresses::{DEFAULT_PORT, read_address};
 use crate::directives::{Directive, split_directive};
@@ -31,6 +32,12 @@ const MOST_KILOBYTES: u64 = 16_384;
 /// The buffer limit where no line sets one, in kilobytes.
 const DEFAULT_KILOBYTES: u64 = 4096;
 
+/// The most patterns that the limit on them may allow.
+pub(crate) const MOST_PATTERNS: u64 = 40_000;
+
+/// The limit on patterns where no line sets one.
+pub(crate) const DEFAULT_PATTERNS: u64 = 20_000;
+
 /// The host on which connections are taken where no line gives one.
 const DEFAULT_HOST: &[u8] = b"127.0.0.1";
 
@@ -53,6 +60,7 @@ pub(crate) struct Main {
     pub(crate) buffer_limit: u64,
     pub(crate) empty_returns_ok: bool,
     pub(crate) toggle: bool,
+    pub(crate) pattern_limit: u64,
     pub(crate) tags: List<Text>,
     pub(crate) forwards: Forwards,
     /// How many lines name an actions file, and how many a filter file.
@@ -118,6 +126,7 @@ impl Main {
             buffer_limit: DEFAULT_KILOBYTES * KILOBYTE,
             empty_returns_ok: false,
             toggle: true,
+            pattern_limit: DEFAULT_PATTERNS,
             tags: List::new(alloc),
             forwards: Forwards::empty(alloc),
             action_files: 0,
@@ -154,6 +163,7 @@ impl Main {
             buffer_limit,
             empty_returns_ok,
             toggle,
+            pattern_limit,
             tags,
             forwards,
             action_files: _,
@@ -168,6 +178,7 @@ impl Main {
                 buffer_limit,
                 empty_returns_ok,
                 toggle,
+                pattern_limit,
                 tags,
             },
             forwards,
@@ -230,10 +241,12 @@ impl Main {
             Directive::ListenAddress => self.add_address(alloc, file, line, value),
             Directive::BufferLimit => self.set_limit(line, value),
             Directive::Forward => self.add_forward(line, value),
+            Directive::ForwardSocks5 => self.add_socks(line, value),
             Directive::EmptyReturnsOk => self.set_empty_ok(line, value),
             Directive::Toggle => self.set_toggle(line, value),
+            Directive::PatternLimit => self.set_pattern_limit(line, value),
             Directive::ClientTag => self.add_tag(alloc, line, value),
-            Directive::Socks => Err(bad_value(line)),
+            Directive::ForwardSocks4 => Err(bad_value(line)),
             Directive::Other => Ok(()),
         }
     }
@@ -341,6 +354,19 @@ impl Main {
         }
     }
 
+    fn set_pattern_limit(&mut self, line: u32, value: &[u8]) -> Result<(), FileFault>
+        ensures added { OnOk result (with_pattern_limit line self.old (decimal MOST_PATTERNS value.now) ≡ Ok self.new) }
+        ensures refused { IfErr result (IsReported (with_pattern_limit line self.old (decimal MOST_PATTERNS value.now))) }
+    {
+        match read_decimal(value, MOST_PATTERNS) {
+            Some(patterns) => {
+                self.pattern_limit = patterns;
+                Ok(())
+            }
+            None => Err(bad_value(line)),
+        }
+    }
+
     fn add_forward(&mut self, line: u32, value: &[u8]) -> Result<(), FileFault>
         ensures added { OnOk result (with_forward_value line self.old value.now ≡ Ok self.new) }
         ensures refused { IfErr result (IsReported (with_forward_value line self.old value.now)) }
@@ -357,6 +383,27 @@ impl Main {
         ensures refused { IfErr result (IsReported (with_forward line self.old (forward_line value.now))) }
     {
         match self.forwards.add(value) {
+            Ok(()) => Ok(()),
+            Err(fault) => Err(forward_fault(line, fault)),
+        }
+    }
+
+    fn add_socks(&mut self, line: u32, value: &[u8]) -> Result<(), FileFault>
+        ensures added { OnOk result (with_socks_value line self.old value.now ≡ Ok self.new) }
+        ensures refused { IfErr result (IsReported (with_socks_value line self.old value.now)) }
+    {
+        match as_text(value) {
+            Some(text) => self.add_socks_text(line, text),
+            None => Err(bad_value(line)),
+        }
+    }
+
+    #[tactic(auto, using(crate::proofs::MainLemmas::forward_rules))]
+    fn add_socks_text(&mut self, line: u32, value: &str) -> Result<(), FileFault>
+        ensures added { OnOk result (with_forward line self.old (socks_line value.now) ≡ Ok self.new) }
+        ensures refused { IfErr result (IsReported (with_forward line self.old (socks_line value.now))) }
+    {
+        match self.forwards.add_socks(value) {
             Ok(()) => Ok(()),
             Err(fault) => Err(forward_fault(line, fault)),
         }

@@ -14,6 +14,8 @@ pub struct Settings {
     pub empty_returns_ok: bool,
     /// Whether actions have effect.
     pub toggle: bool,
+    /// The most patterns that all action files may have together; this project's own `pattern-limit`.
+    pub pattern_limit: u64,
     /// The names of the tags that clients may have.
     pub tags: List<Text>,
 }

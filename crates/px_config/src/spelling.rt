@@ -76,7 +76,8 @@ fn spell_actions(
 {
     let names = action_names(alloc, lines)?;
     let folder = confdir(set.main.as_bytes(), lines);
-    match ActionFiles::read(alloc, set.items.as_slice(), folder, names.as_slice()) {
+    let limit = parts.settings.pattern_limit as usize;
+    match ActionFiles::read(alloc, set.items.as_slice(), folder, limit, names.as_slice()) {
         Ok(actions) => spell_filters(alloc, set, lines, parts, actions),
         Err(fault) => Err(fault),
     }

@@ -1,4 +1,6 @@
 pub mod TargetLemmas
 pub mod RouteLemmas
+pub mod ServerLemmas
+pub mod DialNameLemmas
 pub mod WordLemmas
 pub mod Crossing

@@ -1,5 +1,5 @@
 -- What becomes of a request, by its actions.
-use Rattle.std.specs.Prelude.{ℕ, Bool, true, List, Option, codes, if◌then◌else◌}
+use Rattle.std.specs.Prelude.{ℕ, Bool, true, List, codes, if◌then◌else◌}
 use Rattle.std.specs.Option.{option_map_or}
 use Rattle.std.specs.Str.{bytes_eq}
 use Rattle.px_base.specs.Ports.{allows, port_list}

@@ -6,7 +6,8 @@ use px_base::Mem;
 /// Why a value isn't a forward line.
 #[derive(Clone, Copy, Debug, PartialEq, Eq)]
 pub enum ForwardFault {
-    /// It isn't two words, or the second is no next hop. This is looked for first.
+    /// It isn't two words, or three for a line with a SOCKS server; or the second of three names no server; or the last is no
+    /// next hop. This is looked for first.
     Bad,
     /// The first word is no URL pattern: the number of that refusal.
     Pattern(u8),

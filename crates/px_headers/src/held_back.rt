@@ -96,7 +96,7 @@ fn is_held(message: Message, words: &[Text], name: &[u8]) -> bool
 }
 
 /// The fields of a message whose names it doesn't hold back. The fields behind one that goes move up at once: mostly two go, and
-/// a head has no more than 128.
+/// a head has no more than 256.
 pub(crate) fn pass_on(fields: List<Field>, held: &HeldBack) -> List<Field>
     ensures is { result ≡ without_held held.now fields }
     ensures passed { (message : _) → IsHeldBackOf message fields held.now → result ≡ passed_on message fields }

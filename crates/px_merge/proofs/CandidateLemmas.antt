@@ -1,8 +1,9 @@
 -- Patterns whose host matches, and candidates.
-use Rattle.std.proofs.Common.{◌≡◌, ℕ, ◌+◌, ◌≤◌, ◌&&◌, true, false, cond, List, sym, ap, ◌∙◌, arith}
+use Rattle.std.proofs.Common.{◌≡◌, ℕ, ◌+◌, ◌≤◌, ◌&&◌, true, false, cond, List, refl, sym, ap, ◌∙◌, arith}
 use Rattle.std.proofs.lemmas.Bool.{and_parts}
-use Rattle.px_patterns.specs.Hosts.{host_matches, host_part_matches}
+use Rattle.px_patterns.specs.Hosts.{IsHostExpression, host_matches, host_part_matches}
 use Rattle.px_patterns.specs.Patterns.{url_matches, ports_match, path_matches}
+use Rattle.px_patterns.specs.declared.hosts.HostPart.{HostPart}
 use Rattle.px_patterns.specs.declared.hosts.HostPart.TheVariants as part
 use Rattle.px_patterns.specs.declared.hosts.HostPattern.{HostPattern}
 use Rattle.px_patterns.specs.declared.patterns.UrlPattern.{UrlPattern}
@@ -22,6 +23,11 @@ pub no_host : (pattern : UrlPattern) (url : Url) → host_part_matches pattern.h
 unfolding url_matches
 no_host pattern url e =
     ap (λ b. (b && ports_match pattern.ports url.port) && path_matches pattern.path url.path) e
+
+-- an expression is a candidate for every host
+pub expression_is_candidate : (own : HostPart) (host : List ℕ) → IsHostExpression own → part_is_candidate own host ≡ true
+expression_is_candidate (part.Pattern pattern) host is = absurd is
+expression_is_candidate (part.Expression expression) host is = refl
 
 -- the one step of a candidate
 pub one_step : (pattern : UrlPattern) (host : List ℕ) (old new : ℕ) → part_is_candidate pattern.host host ≡ true → new ≡ old + 1 → new ≤ old + cond (part_is_candidate pattern.host host) 1 0

@@ -5,7 +5,7 @@ use denote.Ref.{NamedLft}
 use Rattle.std.proofs.Crossing.{crosses}
 use Rattle.px_base.proofs.lists.List.TheSendSync as list
 use Rattle.px_base.proofs.texts.Text.TheSendSync as text
-use Rattle.px_patterns.proofs.Crossing.{kept_send, kept_union_send, union_send, union_sync}
+use Rattle.px_patterns.proofs.Crossing.{kept_pattern_send, kept_union_send, union_send, union_sync}
 use Rattle.px_action_files.proofs.Crossing.{section_send, section_sync}
 use Rattle.px_merge.specs.contracts.places.Place as place
 use Rattle.px_merge.specs.contracts.places.Placed as placed
@@ -60,7 +60,7 @@ sections_sync = view_sync sections_inside.the_row _ _ _ _ (declared_sync section
 -- ---- what is kept of them
 
 matchers_send : (κ : NamedLft) → IsSend (matchers.the_row κ)
-matchers_send κ = view_send (matchers_inside.the_row κ) _ _ _ _ (declared_send (matchers_inside.the_type κ) (search (sendable, crosses, placed_sync) depth 40, (search (sendable, crosses, place_sync) depth 40, (search (sendable, crosses, kept_send) depth 40, tt))))
+matchers_send κ = view_send (matchers_inside.the_row κ) _ _ _ _ (declared_send (matchers_inside.the_type κ) (search (sendable, crosses, placed_sync) depth 40, (search (sendable, crosses, place_sync) depth 40, (search (sendable, crosses, kept_pattern_send) depth 40, tt))))
 
 pub warm_send : (κ : NamedLft) → IsSend (warm.the_row κ)
 warm_send κ = view_send (warm_inside.the_row κ) _ _ _ _ (declared_send (warm_inside.the_type κ) (search (sendable, sections_sync) depth 40, (search (sendable, finder_sync) depth 40, (search (sendable, kept_union_send) depth 40, (search (sendable, matchers_send) depth 40, tt)))))

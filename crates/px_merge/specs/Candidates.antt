@@ -1,5 +1,5 @@
 -- URL patterns that are candidates for a host.
-use Rattle.std.specs.Prelude.{ℕ, ◌+◌, Bool, if◌then◌else◌, List, [], ◌∷◌}
+use Rattle.std.specs.Prelude.{ℕ, ◌+◌, Bool, true, if◌then◌else◌, List, [], ◌∷◌}
 use Rattle.px_patterns.specs.Hosts.{is_candidate}
 use Rattle.px_patterns.specs.declared.hosts.HostPart.{HostPart}
 use Rattle.px_patterns.specs.declared.hosts.HostPart.TheVariants as part
@@ -7,9 +7,10 @@ use Rattle.px_action_files.specs.declared.patterns.Pattern.{Pattern}
 use Rattle.px_action_files.specs.declared.patterns.Pattern.TheVariants as pattern
 use Rattle.px_merge.specs.declared.places.Placed.{Placed}
 
--- whether a host part is a candidate for a host
+-- whether a host part is a candidate for a host; an expression is one for every host
 abbrev pub part_is_candidate : HostPart → List ℕ → Bool
 part_is_candidate (part.Pattern host_pattern) host = is_candidate host_pattern host
+part_is_candidate (part.Expression expression) host = true
 
 -- 1 for a URL pattern that is a candidate for a host
 abbrev pub cost : List ℕ → Pattern → ℕ

@@ -2,8 +2,9 @@
 use Rattle.std.specs.Prelude.{◌≡◌, ℕ, ◌<◌, ◌≤◌, ◌+◌, ◌==◌, Bool, true, false, if◌then◌else◌, List, [], ◌∷◌, ◌++◌, length, slice_get, Option, None, Some}
 use Rattle.std.specs.List.{flat_map, list_any}
 use Rattle.std.specs.Str.{str_eq_ignore_ascii_case}
-use Rattle.px_patterns.specs.Hosts.{host_labels}
+use Rattle.px_patterns.specs.Hosts.{host_labels, host_matches}
 use Rattle.px_patterns.specs.Patterns.{url_matches}
+use Rattle.px_patterns.specs.declared.hosts.HostPattern.{HostPattern}
 use Rattle.px_patterns.specs.declared.labels.LabelPattern.{LabelPattern}
 use Rattle.px_patterns.specs.declared.labels.LabelPattern.TheVariants.{Plain}
 use Rattle.px_patterns.specs.declared.patterns.UrlPattern.{UrlPattern}
@@ -76,10 +77,13 @@ Grows old new = (keys : List (List ℕ)) (test : Place → Bool) → list_any te
 abbrev pub FindsUnder : Index → Place → List (List ℕ) → Type 0
 FindsUnder index place keys = (test : Place → Bool) → test place ≡ true → list_any test (gathered index.always index.slots.items keys) ≡ true
 
--- each host that a URL pattern matches has a text among its labels, or is that text, without case
+-- each host that a pattern matches has a text among its labels, or is that text, without case
 abbrev pub keeps_under : Option (List ℕ) → List ℕ → Bool
 keeps_under None host = true
 keeps_under (Some text) host = list_any (str_eq_ignore_ascii_case text) (host_keys host)
+
+abbrev pub HostKeepsUnder : HostPattern → Option (List ℕ) → Type 0
+HostKeepsUnder own text = (host : List ℕ) → host_matches own host ≡ true → keeps_under text host ≡ true
 
 abbrev pub KeepsUnder : UrlPattern → Option (List ℕ) → Type 0
 KeepsUnder pattern text = (url : Url) → url_matches pattern url ≡ true → keeps_under text url.host ≡ true

@@ -1,13 +1,13 @@
 // Expressions that patterns search for.
-ghost use Rattle.std.specs.Prelude.{◌≡◌, ◌++◌, IfOk, IfSome, IsTrue, OnOk, Some, is_some, option_copied, slice_get};
-ghost use Rattle.px_merge.specs.Expressions.{expression_at, expression_in, expression_places, places_in};
+ghost use Rattle.std.specs.Prelude.{◌≡◌, ◌++◌, IfOk, IfSome, IsTrue, OnOk, Some, option_copied, slice_get};
+ghost use Rattle.px_merge.specs.Expressions.{expression_in, expression_places, has_expression, host_in, kept_at, places_in};
 ghost use Rattle.px_merge.specs.Indexes.{pattern_at};
 
 use crate::places::{Place, Placed};
 use crate::selections::section_at;
 use px_action_files::Pattern;
 use px_base::Mem;
-use px_patterns::Expression;
+use px_patterns::{Expression, Kept, KeptPattern};
 use std::alloc::Global;
 
 /// The pattern at a place, if there is one.
@@ -31,7 +31,20 @@ fn nth(patterns: &[Pattern], number: usize) -> Option<&Pattern>
     }
 }
 
-/// The expression of a pattern, if it has one.
+/// The expression that a pattern searches in hosts, if it has one.
+fn host_in(pattern: &Pattern) -> Option<&Expression>
+    ensures { option_copied result ≡ host_in pattern.now }
+{
+    match pattern {
+        Pattern::Url(pattern) => pattern.host.expression(),
+        Pattern::Tag(_) => None,
+        Pattern::NoRequestTag(_) => None,
+        Pattern::NoResponseTag(_) => None,
+        Pattern::ClientTag(_) => None,
+    }
+}
+
+/// The expression that a pattern searches in paths or in tags, if it has one.
 fn expression_in(pattern: &Pattern) -> Option<&Expression>
     ensures { option_copied result ≡ expression_in pattern.now }
 {
@@ -44,21 +57,34 @@ fn expression_in(pattern: &Pattern) -> Option<&Expression>
     }
 }
 
-/// The expression of the pattern at a place, if there is one.
-pub fn expression_at(sections: &[Placed], place: Place) -> Option<&Expression>
-    ensures { option_copied result ≡ expression_at sections.now place }
+/// What is kept of an expression, if there is one, that hasn't been searched for.
+fn keep(expression: Option<&Expression>) -> Option<Kept<'_>>
+    ensures { result ≡ option_copied expression.entry }
+{
+    match expression {
+        Some(expression) => Some(Kept::new(expression)),
+        None => None,
+    }
+}
+
+/// What is kept of the pattern at a place, if there is one, that hasn't searched.
+pub fn kept_at(sections: &[Placed], place: Place) -> KeptPattern<'_>
+    ensures { result ≡ kept_at sections.now place }
 {
     match pattern_at(sections, place) {
-        Some(pattern) => expression_in(pattern),
-        None => None,
+        Some(pattern) => KeptPattern {
+            host: keep(host_in(pattern)),
+            own: keep(expression_in(pattern)),
+        },
+        None => KeptPattern::none(),
     }
 }
 
 /// Whether a pattern has an expression.
 fn has_expression(pattern: &Pattern) -> bool
-    ensures { result ≡ is_some (expression_in pattern.now) }
+    ensures { result ≡ has_expression pattern.now }
 {
-    expression_in(pattern).is_some()
+    host_in(pattern).is_some() || expression_in(pattern).is_some()
 }
 
 /// Adds the places of those patterns of the section with a number that have an expression.

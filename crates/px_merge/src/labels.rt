@@ -1,12 +1,12 @@
 // The label under which a URL pattern is kept.
 ghost use Rattle.std.specs.Prelude.{◌≡◌, ℕ, Bool, IfOk, List, length, option_copied, true};
-ghost use Rattle.px_merge.specs.Indexes.{KeepsUnder, PassesPlain, PlainPass};
+ghost use Rattle.px_merge.specs.Indexes.{HostKeepsUnder, KeepsUnder, PassesPlain, PlainPass};
 
 use crate::keys::slot_number;
 use crate::places::Placed;
 use px_action_files::Pattern;
 use px_base::Mem;
-use px_patterns::{Bucket, LabelPattern, UrlPattern};
+use px_patterns::{Bucket, HostPattern, LabelPattern, UrlPattern};
 use std::alloc::Global;
 
 /// Counts a label.
@@ -25,10 +25,19 @@ fn count_label(counts: &mut Vec<usize>, label: &LabelPattern)
 fn count_labels(counts: &mut Vec<usize>, pattern: &Pattern)
     ensures { length counts.new.items ≡ length counts.old.items }
 {
-    if let Pattern::Url(pattern) = pattern {
-        'labels: for label in pattern.host().labels() {
-            count_label(counts, label);
-        }
+    'labels: for label in labels_of(pattern) {
+        count_label(counts, label);
+    }
+}
+
+/// The labels of a pattern; none where it isn't a URL pattern with labels.
+fn labels_of(pattern: &Pattern) -> &[LabelPattern] {
+    let Pattern::Url(pattern) = pattern else {
+        return &[];
+    };
+    match pattern.host() {
+        Some(own) => own.labels(),
+        None => &[],
     }
 }
 
@@ -86,11 +95,20 @@ fn rarest<'a>(counts: &[usize], first: &'a [u8], labels: &'a [LabelPattern]) -> 
 }
 
 /// The text under which a URL pattern is kept, if there is one: the address of each host that it matches, or a label of each
-/// such host, one that few patterns have.
+/// such host, one that few patterns have. A host expression has none.
 pub fn key_of<'a>(counts: &[usize], pattern: &'a UrlPattern) -> Option<&'a [u8]>
     ensures { KeepsUnder pattern.now (option_copied result) }
 {
-    let own = pattern.host();
+    match pattern.host() {
+        Some(own) => host_key(counts, own),
+        None => None,
+    }
+}
+
+/// The same of a host pattern.
+fn host_key<'a>(counts: &[usize], own: &'a HostPattern) -> Option<&'a [u8]>
+    ensures { HostKeepsUnder own.now (option_copied result) }
+{
     match own.bucket() {
         Bucket::Always => None,
         Bucket::Label(text) => Some(rarest(counts, text, own.labels())),

@@ -1,17 +1,16 @@
 // Patterns with what they keep from search to search.
 ghost use Rattle.std.specs.Prelude.{◌≡◌, ◌+◌, ◌≤◌, IfOk, length, slice_get};
-ghost use Rattle.px_merge.specs.Expressions.{expression_at};
 ghost use Rattle.px_merge.specs.Indexes.{cost_of, passes, pattern_at};
 ghost use Rattle.px_merge.specs.Merging.{is_for_url};
 ghost use Rattle.px_merge.specs.Selections.{is_for_test, patterns_in};
 
-use crate::expressions::{expression_at, number_at, pattern_at};
+use crate::expressions::{kept_at, number_at, pattern_at};
 use crate::places::{Place, Placed};
 use crate::selections::section_at;
 use crate::sides::TagTest;
 use crate::tries::{may_fit, try_tags, try_url};
 use px_base::{Mem, Steps, Text};
-use px_patterns::{Kept, Url};
+use px_patterns::{KeptPattern, Url};
 use std::alloc::Global;
 use std::marker::Model;
 use std::sync::ledger::Ledger;
@@ -22,20 +21,20 @@ pub struct Matchers<'c> {
     sections: &'c [Placed],
     /// Where patterns with an expression stand, in ascending order.
     places: &'c [Place],
-    /// At each of these places, the expression of the pattern and what it keeps.
-    kept: Vec<Option<Kept<'c>>>,
+    /// At each of these places, the expressions of the pattern and what they keep.
+    kept: Vec<KeptPattern<'c>>,
 }
 
 impl<'c> Model for Matchers<'c> {
     ghost use Rattle.std.specs.Prelude.{◌≡◌, List, map};
     ghost use Rattle.px_merge.specs.declared.places.Placed.{Placed};
-    ghost use Rattle.px_merge.specs.Expressions.{expression_at};
+    ghost use Rattle.px_merge.specs.Expressions.{kept_at};
 
     ghost Value = { List Placed };
 
     ghost view = { λ m. m.sections.now };
 
-    ghost invariant = { λ m. m.kept.items ≡ map (expression_at m.sections.now) m.places.now };
+    ghost invariant = { λ m. m.kept.items ≡ map (kept_at m.sections.now) m.places.now };
 }
 
 impl<'c> Matchers<'c> {
@@ -49,7 +48,7 @@ impl<'c> Matchers<'c> {
     {
         let mut kept = Vec::with_capacity(alloc, places.len())?;
         'places: for place in places {
-            kept.push(keep(sections, *place))?;
+            kept.push(kept_at(sections, *place))?;
         }
         Ok(Matchers {
             sections,
@@ -85,7 +84,7 @@ impl<'c> Matchers<'c> {
         };
         match number_at(self.places, place, pattern) {
             Some(number) => try_tags(alloc, pattern, &mut self.kept[number], test),
-            None => try_tags(alloc, pattern, &mut None, test),
+            None => try_tags(alloc, pattern, &mut KeptPattern::none(), test),
         }
     }
 
@@ -110,17 +109,7 @@ impl<'c> Matchers<'c> {
         }
         match number_at(self.places, place, pattern) {
             Some(number) => { try_url(alloc, pattern, &mut self.kept[number], url, tags, steps) }
-            None => try_url(alloc, pattern, &mut None, url, tags, steps),
+            None => try_url(alloc, pattern, &mut KeptPattern::none(), url, tags, steps),
         }
-    }
-}
-
-/// The expression at a place, if there is one, that hasn't been searched for.
-fn keep(sections: &[Placed], place: Place) -> Option<Kept<'_>>
-    ensures { result ≡ expression_at sections.now place }
-{
-    match expression_at(sections, place) {
-        Some(expression) => Some(Kept::new(expression)),
-        None => None,
     }
 }

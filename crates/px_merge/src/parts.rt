@@ -100,7 +100,7 @@ fn path_in(alloc: Global, pattern: &Pattern) -> Result<Option<&Expression>, Mem>
     }
 }
 
-/// The expression of a URL pattern, if its host part is empty. One that finds something in the path `/` already, as that of the
+/// The expression of a URL pattern, if its host part is empty; one with a host expression is tried by itself. One that finds something in the path `/` already, as that of the
 /// path pattern `/`, would find something in most paths, so it isn't asked with others.
 fn path_of(alloc: Global, pattern: &UrlPattern) -> Result<Option<&Expression>, Mem>
     ensures { IfOk result (λ path. IfSome (option_copied path) (λ text. pattern.now.path ≡ Some text)) }
@@ -119,8 +119,7 @@ fn path_of(alloc: Global, pattern: &UrlPattern) -> Result<Option<&Expression>, M
 
 fn is_for_every_host(pattern: &UrlPattern) -> bool {
     match pattern.host() {
-        HostPattern::Always => true,
-        HostPattern::Address(_) => false,
-        HostPattern::Labels(_) => false,
+        Some(own) => matches!(own, HostPattern::Always),
+        None => false,
     }
 }

@@ -1,16 +1,17 @@
 // Patterns that are tried.
 ghost use Rattle.std.specs.Prelude.{◌≡◌, ◌+◌, ◌≤◌, ℕ, List, IfOk, IsTrue, Some, false, if◌then◌else◌, not};
-ghost use Rattle.px_patterns.specs.Hosts.{host_part_matches};
+ghost use Rattle.px_patterns.specs.Expressions.{IsKeptOf};
+ghost use Rattle.px_patterns.specs.Hosts.{host_expression_in, host_part_matches};
 ghost use Rattle.px_patterns.specs.Patterns.{tag_matches, url_matches};
 ghost use Rattle.px_merge.specs.Candidates.{cost, part_is_candidate};
-ghost use Rattle.px_merge.specs.Expressions.{IsKeptOf, expression_in};
+ghost use Rattle.px_merge.specs.Expressions.{IsKeptFor};
 ghost use Rattle.px_merge.specs.Merging.{is_for_url, matches_some};
 ghost use Rattle.px_merge.specs.Selections.{is_for_test};
 
 use crate::sides::{Side, TagTest};
 use px_action_files::Pattern;
 use px_base::{Mem, Steps, Text};
-use px_patterns::{Kept, TagPattern, Url, UrlPattern};
+use px_patterns::{Kept, KeptPattern, TagPattern, Url, UrlPattern};
 use std::alloc::Global;
 use std::sync::ledger::Ledger;
 
@@ -70,20 +71,22 @@ fn matches_none(
 pub fn try_tags(
     alloc: Global,
     pattern: &Pattern,
-    kept: &mut Option<Kept<'_>>,
+    kept: &mut KeptPattern<'_>,
     test: TagTest<'_>,
 ) -> Result<bool, Mem>
-    requires { IsKeptOf (expression_in pattern.now) kept.old }
+    requires { IsKeptFor pattern.now kept.old }
     ensures value { IfOk result (λ yes. yes ≡ is_for_test test.entry pattern.now) }
     ensures same { kept.new ≡ kept.old }
 {
     match (pattern, test) {
-        (Pattern::Tag(pattern), TagTest::Present(tag)) => matches_tag(alloc, pattern, kept, tag),
+        (Pattern::Tag(pattern), TagTest::Present(tag)) => {
+            matches_tag(alloc, pattern, &mut kept.own, tag)
+        }
         (Pattern::NoRequestTag(pattern), TagTest::Absent(Side::Request, tags)) => {
-            matches_none(alloc, pattern, kept, tags)
+            matches_none(alloc, pattern, &mut kept.own, tags)
         }
         (Pattern::NoResponseTag(pattern), TagTest::Absent(Side::Response, tags)) => {
-            matches_none(alloc, pattern, kept, tags)
+            matches_none(alloc, pattern, &mut kept.own, tags)
         }
         (Pattern::Tag(_), TagTest::Absent(_, _)) => Ok(false),
         (Pattern::NoRequestTag(_), TagTest::Present(_)) => Ok(false),
@@ -95,22 +98,26 @@ pub fn try_tags(
     }
 }
 
-/// Whether the host part of a URL pattern matches a host. Where it does the pattern is a candidate for the host.
-fn fits_host(pattern: &UrlPattern, host: &[u8]) -> bool
-    ensures value { result ≡ host_part_matches pattern.now.host host.now }
+/// Whether the host part of a URL pattern may match a host: an expression always may, and other host parts where they match.
+/// Where it may the pattern is a candidate for the host.
+fn may_fit_host(pattern: &UrlPattern, host: &[u8]) -> bool
+    ensures other { result ≡ false → host_part_matches pattern.now.host host.now ≡ false }
     ensures candidate { IsTrue result → IsTrue (part_is_candidate pattern.now.host host.now) }
 {
-    pattern.host().matches(host)
+    match pattern.host() {
+        Some(own) => own.matches(host),
+        None => true,
+    }
 }
 
-/// Whether a pattern may match a URL or tags: not where the host part of a URL pattern doesn't match, so that its expression isn't
+/// Whether a pattern may match a URL or tags: not where the host part of a URL pattern can't, so that its expressions aren't
 /// looked up.
 #[tactic(auto, using(crate::proofs::CandidateLemmas::no_host))]
 pub fn may_fit(pattern: &Pattern, url: &Url) -> bool
     ensures { result ≡ false → (tags : List (List ℕ)) → is_for_url url.now tags pattern.now ≡ false }
 {
     match pattern {
-        Pattern::Url(pattern) => fits_host(pattern, url.host.as_bytes()),
+        Pattern::Url(pattern) => may_fit_host(pattern, url.host.as_bytes()),
         Pattern::ClientTag(_) => true,
         Pattern::Tag(_) => false,
         Pattern::NoRequestTag(_) => false,
@@ -123,41 +130,39 @@ pub fn may_fit(pattern: &Pattern, url: &Url) -> bool
 fn matches_url<L: Ledger>(
     alloc: Global,
     pattern: &UrlPattern,
-    kept: &mut Option<Kept<'_>>,
+    kept: &mut KeptPattern<'_>,
     url: &Url,
     steps: &mut Steps<L>,
 ) -> Result<bool, Mem>
-    requires { IsKeptOf pattern.now.path kept.old }
+    requires host { IsKeptOf (host_expression_in pattern.now.host) kept.old.host }
+    requires path { IsKeptOf pattern.now.path kept.old.own }
     ensures value { IfOk result (λ yes. yes ≡ url_matches pattern.now url.now) }
     ensures steps { steps.new ≤ steps.old + (if part_is_candidate pattern.now.host url.now.host then 1 else 0) }
     ensures same { kept.new ≡ kept.old }
 {
-    if !fits_host(pattern, url.host.as_bytes()) {
+    if !may_fit_host(pattern, url.host.as_bytes()) {
         return Ok(false);
     }
-    match kept {
-        Some(kept) => pattern.matches_with(alloc, kept, url, steps),
-        None => pattern.matches(alloc, url, steps),
-    }
+    pattern.matches_with(alloc, kept, url, steps)
 }
 
 /// Whether a pattern matches a URL or one of a client's tags.
 pub fn try_url<L: Ledger>(
     alloc: Global,
     pattern: &Pattern,
-    kept: &mut Option<Kept<'_>>,
+    kept: &mut KeptPattern<'_>,
     url: &Url,
     tags: &[Text],
     steps: &mut Steps<L>,
 ) -> Result<bool, Mem>
-    requires { IsKeptOf (expression_in pattern.now) kept.old }
+    requires { IsKeptFor pattern.now kept.old }
     ensures value { IfOk result (λ yes. yes ≡ is_for_url url.now tags.now pattern.now) }
     ensures steps { steps.new ≤ steps.old + cost url.now.host pattern.now }
     ensures same { kept.new ≡ kept.old }
 {
     match pattern {
         Pattern::Url(pattern) => matches_url(alloc, pattern, kept, url, steps),
-        Pattern::ClientTag(pattern) => matches_some(alloc, pattern, kept, tags),
+        Pattern::ClientTag(pattern) => matches_some(alloc, pattern, &mut kept.own, tags),
         Pattern::Tag(_) => Ok(false),
         Pattern::NoRequestTag(_) => Ok(false),
         Pattern::NoResponseTag(_) => Ok(false),

@@ -19,8 +19,10 @@ use Rattle.regex.specs.contracts.bytes.regex.Regex as regex
 use Rattle.px_patterns.specs.contracts.expressions.Expression as expression
 use Rattle.px_patterns.specs.contracts.expressions.Expression.TheInside as expression_inside
 use Rattle.px_patterns.specs.contracts.expressions.Search as searched
+use Rattle.px_patterns.specs.contracts.hosts.HostPart as host
 use Rattle.px_patterns.specs.contracts.kept.Kept as kept
 use Rattle.px_patterns.specs.contracts.kept.Kept.TheInside as kept_inside
+use Rattle.px_patterns.specs.contracts.kept.KeptPattern as kept_pattern
 use Rattle.px_patterns.specs.contracts.patterns.TagPattern as tag
 use Rattle.px_patterns.specs.contracts.patterns.UrlPattern as url
 use Rattle.px_patterns.specs.contracts.unions.Union as union
@@ -71,13 +73,19 @@ tag_send = declared_send tag.the_type (search (sendable, expression_send) depth 
 pub tag_sync : IsSync tag.the_row
 tag_sync = declared_sync tag.the_type (search (sendable, expression_sync) depth 40, tt)
 
--- ---- URL patterns, whose host part holds no expression
+-- ---- URL patterns
+
+host_send : IsSend host.the_row
+host_send = variants_send host.enum ((search (sendable, crosses, list.the_send, text.the_send) depth 40, tt), ((search (sendable, crosses, expression_send) depth 40, tt), tt))
+
+host_sync : IsSync host.the_row
+host_sync = variants_sync host.enum ((search (sendable, crosses, list.the_sync, text.the_sync) depth 40, tt), ((search (sendable, crosses, expression_sync) depth 40, tt), tt))
 
 pub url_send : IsSend url.the_row
-url_send = declared_send url.the_type (search (sendable, crosses, list.the_send, text.the_send) depth 40, (search (sendable, crosses, ports.the_send) depth 40, (search (sendable, crosses, expression_send) depth 40, tt)))
+url_send = declared_send url.the_type (search (sendable, host_send) depth 40, (search (sendable, crosses, ports.the_send) depth 40, (search (sendable, crosses, expression_send) depth 40, tt)))
 
 pub url_sync : IsSync url.the_row
-url_sync = declared_sync url.the_type (search (sendable, crosses, list.the_sync, text.the_sync) depth 40, (search (sendable, crosses, ports.the_sync) depth 40, (search (sendable, crosses, expression_sync) depth 40, tt)))
+url_sync = declared_sync url.the_type (search (sendable, host_sync) depth 40, (search (sendable, crosses, ports.the_sync) depth 40, (search (sendable, crosses, expression_sync) depth 40, tt)))
 
 -- ---- matchers, which may go to another thread with what they search for
 
@@ -103,6 +111,9 @@ matcher_send κ = declared_send (matcher.the_type κ) (search (sendable, engine_
 
 pub kept_send : (κ : NamedLft) → IsSend (kept.the_row κ)
 kept_send κ = view_send (kept_inside.the_row κ) _ _ _ _ (declared_send (kept_inside.the_type κ) (search (sendable, expression_sync) depth 40, (search (sendable, crosses, matcher_send) depth 40, tt)))
+
+pub kept_pattern_send : (κ : NamedLft) → IsSend (kept_pattern.the_row κ)
+kept_pattern_send κ = declared_send (kept_pattern.the_type κ) (search (sendable, crosses, kept_send) depth 40, (search (sendable, crosses, kept_send) depth 40, tt))
 
 -- ---- unions
 

@@ -13,3 +13,4 @@ pub mod EndLabelLemmas
 pub mod FirstLabelLemmas
 mod SlashLemmas
 pub mod UnionLemmas
+pub mod KeptLemmas

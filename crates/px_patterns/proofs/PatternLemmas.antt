@@ -13,7 +13,7 @@ use Rattle.px_patterns.specs.declared.patterns.TagPattern.{TagPattern}
 use Rattle.px_patterns.specs.Expressions.{expression_of}
 use Rattle.px_patterns.specs.Faults.{IsPatternRefusal}
 use Rattle.px_patterns.specs.Hosts.{host_pattern}
-use Rattle.px_patterns.specs.Patterns.{address_end, addressed_pattern, behind_slash, has_protocol, is_addressed, is_colon, is_slash, pattern_of_parts, port_text, ports_of, tag_pattern, url_pattern, with_parts}
+use Rattle.px_patterns.specs.Patterns.{address_end, addressed_pattern, behind_slash, expression_pattern, has_protocol, host_expression, is_addressed, is_colon, is_slash, pattern_of_parts, port_text, ports_of, tag_pattern, url_pattern, with_expression, with_parts}
 use Rattle.px_patterns.specs.Places.{BeginsWith, IsCut, LacksPlace}
 use Rattle.px_patterns.specs.Urls.{is_address}
 use Rattle.px_patterns.proofs.FaultLemmas.{refusal_on}
@@ -45,6 +45,16 @@ pattern_slash text part path fails cut =
 pub pattern_no_slash : (text : List ℕ) → has_protocol text ≡ false → LacksPlace is_slash text → url_pattern text ≡ pattern_of_parts text (behind_slash None)
 unfolding url_pattern
 pattern_no_slash text fails lacks = rw (fails, lacks.none) (ap (λ l. pattern_of_parts l None) lacks.whole)
+
+-- the same of a host expression
+pub expression_slash : (text part path : List ℕ) → IsCut is_slash text part path → expression_pattern text ≡ with_expression (host_expression part) (behind_slash (Some path))
+unfolding expression_pattern
+expression_slash text part path cut =
+    rw cut.some (ap (λ l. with_expression (host_expression l) (Some (SLASH ∷ after_first is_slash text))) (sym cut.before) ∙ ap (λ l. with_expression (host_expression part) (Some (SLASH ∷ l))) (sym cut.behind))
+
+pub expression_no_slash : (text : List ℕ) → LacksPlace is_slash text → expression_pattern text ≡ with_expression (host_expression text) (behind_slash None)
+unfolding expression_pattern
+expression_no_slash text lacks = rw lacks.none (ap (λ l. with_expression (host_expression l) None) lacks.whole)
 
 pub parts_addressed : (part rest : List ℕ) (path : Option (List ℕ)) → BeginsWith ADDRESS_BEGIN part rest → pattern_of_parts part path ≡ addressed_pattern rest path
 parts_addressed part rest path begins = rw begins.first (ap (λ l. addressed_pattern l path) (sym begins.behind))

@@ -1,5 +1,5 @@
 -- Expressions without case, in the words of the library that reads them.
-use Rattle.std.specs.Prelude.{◌≡◌, ℕ, Bool, true, false, nat_le, if◌then◌else◌, List, Option, None, Some, chars, option_and_then, is_some, Result, Ok, Err}
+use Rattle.std.specs.Prelude.{◌≡◌, ℕ, Bool, true, false, nat_le, if◌then◌else◌, List, Option, None, Some, chars, option_and_then, is_some, Result, Ok, Err, IfSome}
 use Rattle.regex_hir.specs.Re.{Re}
 use Rattle.regex_hir.specs.Find.{find}
 use Rattle.regex_syntax.specs.Grammar.{read}
@@ -28,6 +28,10 @@ finds text bytes = is_some (option_and_then (λ re. find re bytes 0) (expression
 -- the text of an expression, or its refusal
 abbrev pub expression_of : List ℕ → Result (List ℕ) PatternFault
 expression_of text = if is_expression text then Ok text else Err BadRegex
+
+-- what is kept of an expression, if anything is, is of this one
+abbrev pub IsKeptOf : Option (List ℕ) → Option (List ℕ) → Type 0
+IsKeptOf expression kept = IfSome kept (λ text. expression ≡ Some text)
 
 -- the library read it with these options
 abbrev pub IsBuilt : Regex → Type 0

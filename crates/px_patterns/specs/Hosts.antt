@@ -18,6 +18,7 @@ use Rattle.px_patterns.specs.declared.hosts.Rest.{Rest}
 use Rattle.px_patterns.specs.declared.hosts.Rest.TheVariants as rest
 use Rattle.px_patterns.specs.declared.labels.LabelPattern.{LabelPattern}
 use Rattle.px_patterns.specs.declared.labels.LabelPattern.TheVariants.{Glob, Plain}
+use Rattle.px_patterns.specs.Expressions.{finds}
 use Rattle.px_patterns.specs.Globs.{CanBeCut, items_in, label_matches, label_of, some_tail}
 
 -- ---- dots and labels
@@ -115,8 +116,23 @@ host_matches Always host = true
 host_matches (Address text) host = str_eq_ignore_ascii_case text host
 host_matches (Labels pattern) host = fitting_labels pattern (host_labels host)
 
+-- the expression that is searched in hosts, if the host part has one
+abbrev pub host_expression_in : HostPart → Option (List ℕ)
+host_expression_in (part.Pattern pattern) = None
+host_expression_in (part.Expression expression) = expression
+
+abbrev pub IsHostExpression : HostPart → Type 0
+IsHostExpression (part.Pattern pattern) = ⊥
+IsHostExpression (part.Expression expression) = Unit {0}
+
+-- an empty host expression matches every host; another one is searched in the host without one dot at its end
+abbrev pub expression_matches : Option (List ℕ) → List ℕ → Bool
+expression_matches None host = true
+expression_matches (Some text) host = finds text (without_last_dot host)
+
 abbrev pub host_part_matches : HostPart → List ℕ → Bool
 host_part_matches (part.Pattern pattern) host = host_matches pattern host
+host_part_matches (part.Expression expression) host = expression_matches expression host
 
 -- ---- the first and the last label of a host
 

@@ -1,5 +1,5 @@
 -- URL patterns and tag patterns: what their texts stand for, and what they match.
-use Rattle.std.specs.Prelude.{◌≡◌, ℕ, ◌==◌, ◌&&◌, ◌||◌, Bool, true, if◌then◌else◌, List, ◌∷◌, length, drop, slice_index, Option, None, Some, Result, Ok, Err, codes}
+use Rattle.std.specs.Prelude.{◌≡◌, ℕ, ◌==◌, ◌&&◌, ◌||◌, Bool, true, if◌then◌else◌, List, ◌∷◌, ◌++◌, length, drop, slice_index, Option, None, Some, Result, Ok, Err, codes}
 use Rattle.std.specs.List.{after_first, before_first, list_any}
 use Rattle.px_patterns.specs.Results.{result_map}
 use Rattle.px_base.specs.Ports.{allows, port_list}
@@ -7,14 +7,15 @@ use Rattle.px_base.specs.declared.ports.PortRange.{PortRange}
 use Rattle.px_patterns.specs.declared.TheConstants.{ADDRESS_BEGIN, ADDRESS_END, CARET, COLON, SLASH}
 use Rattle.px_patterns.specs.declared.faults.PatternFault.{PatternFault}
 use Rattle.px_patterns.specs.declared.faults.PatternFault.TheVariants.{BadAddress, BadPort, HasProtocol}
-use Rattle.px_patterns.specs.declared.hosts.HostPart.TheVariants.{Pattern}
+use Rattle.px_patterns.specs.declared.hosts.HostPart.{HostPart}
+use Rattle.px_patterns.specs.declared.hosts.HostPart.TheVariants.{Expression, Pattern}
 use Rattle.px_patterns.specs.declared.hosts.HostPattern.{HostPattern}
 use Rattle.px_patterns.specs.declared.hosts.HostPattern.TheVariants.{Address}
 use Rattle.px_patterns.specs.declared.patterns.UrlPattern.{UrlPattern}
 use Rattle.px_patterns.specs.declared.patterns.TagPattern.{TagPattern}
 use Rattle.px_patterns.specs.declared.urls.Url.{Url}
 use Rattle.px_patterns.specs.Expressions.{expression_of, finds}
-use Rattle.px_patterns.specs.Hosts.{host_part_matches, host_pattern}
+use Rattle.px_patterns.specs.Hosts.{host_expression_in, host_part_matches, host_pattern}
 use Rattle.px_patterns.specs.Urls.{begins_with, is_address}
 
 -- ---- what a text stands for
@@ -60,13 +61,13 @@ path_of None = Ok None
 path_of (Some pattern) = result_map (λ text. Some text) (expression_of (CARET ∷ pattern))
 
 -- the refusals of the parts in their order: the ports, the host, the path
-abbrev pub with_path : HostPattern → Option (List PortRange) → Result (Option (List ℕ)) PatternFault → Result UrlPattern PatternFault
+abbrev pub with_path : HostPart → Option (List PortRange) → Result (Option (List ℕ)) PatternFault → Result UrlPattern PatternFault
 with_path host ports (Err fault) = Err fault
-with_path host ports (Ok path) = Ok record { host = Pattern host; ports = ports; path = path }
+with_path host ports (Ok path) = Ok record { host = host; ports = ports; path = path }
 
 abbrev pub with_host : Option (List PortRange) → Result HostPattern PatternFault → Option (List ℕ) → Result UrlPattern PatternFault
 with_host ports (Err fault) path = Err fault
-with_host ports (Ok host) path = with_path host ports (path_of path)
+with_host ports (Ok host) path = with_path (Pattern host) ports (path_of path)
 
 abbrev pub with_parts : Result HostPattern PatternFault → Result (Option (List PortRange)) PatternFault → Option (List ℕ) → Result UrlPattern PatternFault
 with_parts host (Err fault) path = Err fault
@@ -98,6 +99,31 @@ pattern_of_parts part path = if slice_index part 0 == ADDRESS_BEGIN then address
 unfoldable pub url_pattern : List ℕ → Result UrlPattern PatternFault
 url_pattern text = if has_protocol text then Err HasProtocol else pattern_of_parts (pattern_host_part text) (path_pattern text)
 
+-- ---- a host expression, which goes to the first slash, and a path pattern
+
+-- an expression that must match a host from its front to its end
+abbrev pub whole_host : List ℕ → List ℕ
+whole_host text = codes "^(?:" ++ text ++ codes ")$"
+
+-- a first reading's refusal, or else what a second reading gives
+abbrev pub then_reads : {X Y : Type 0} → Result X PatternFault → Result Y PatternFault → Result Y PatternFault
+then_reads (Err fault) second = Err fault
+then_reads (Ok x) second = second
+
+-- the expression of a host part: it is read alone, and again as one of a whole host; an empty one stands for every host
+unfoldable pub host_expression : List ℕ → Result (Option (List ℕ)) PatternFault
+host_expression text =
+    if length text == 0 then Ok None
+    else then_reads (expression_of text) (result_map (λ whole. Some whole) (expression_of (whole_host text)))
+
+abbrev pub with_expression : Result (Option (List ℕ)) PatternFault → Option (List ℕ) → Result UrlPattern PatternFault
+with_expression (Err fault) path = Err fault
+with_expression (Ok expression) path = with_path (Expression expression) None (path_of path)
+
+-- the URL pattern whose host is an expression that a text stands for, or the first refusal
+unfoldable pub expression_pattern : List ℕ → Result UrlPattern PatternFault
+expression_pattern text = with_expression (host_expression (pattern_host_part text)) (path_pattern text)
+
 -- the tag pattern that a text stands for, or its refusal
 unfoldable pub tag_pattern : List ℕ → Result TagPattern PatternFault
 tag_pattern text = result_map (λ expression. record { expression = expression }) (expression_of text)
@@ -121,6 +147,10 @@ url_matches pattern url = (host_part_matches pattern.host url.host && ports_matc
 abbrev pub NeedsNoSearch : Option (List ℕ) → Type 0
 NeedsNoSearch None = Unit {0}
 NeedsNoSearch (Some expression) = expression ≡ codes "^/"
+
+-- nor is one for a host part without an expression
+abbrev pub NeedsNoHostSearch : HostPart → Type 0
+NeedsNoHostSearch host = host_expression_in host ≡ None
 
 -- a tag pattern matches a tag where its expression has a match somewhere in it
 abbrev pub tag_matches : TagPattern → List ℕ → Bool

@@ -1,5 +1,5 @@
 // Host patterns.
-ghost use Rattle.std.specs.Prelude.{◌≡◌, ◌<◌, ◌↔◌, ◌==◌, ◌++◌, ◌∷◌, [], true, false, IfSome, IsTrue, MatchOption, length, option_copied};
+ghost use Rattle.std.specs.Prelude.{◌≡◌, ◌<◌, ◌↔◌, ◌==◌, ◌++◌, ◌∷◌, [], true, false, IfOk, IfSome, IsOk, IsTrue, MatchOption, length, option_copied};
 ghost use Rattle.std.specs.List.{slice_split};
 ghost use Rattle.px_base.specs.Cuts.{parts_of};
 ghost use Rattle.px_patterns.specs.Globs.{some_tail};
@@ -8,8 +8,9 @@ ghost use Rattle.px_patterns.specs.declared.labels.LabelPattern.TheVariants.{Glo
 ghost use Rattle.px_patterns.specs.declared.labels.Item.TheVariants.{AnyRun};
 
 use crate::labels::{glob_matches, run_matches};
-use crate::{DOT, Item, LabelPattern};
-use px_base::{List, Text, same_without_case};
+use crate::{DOT, Expression, Item, Kept, LabelPattern};
+use px_base::{List, Mem, Text, same_without_case};
+use std::alloc::Global;
 
 /// The labels of a host pattern.
 #[derive(Drop)]
@@ -35,7 +36,10 @@ pub enum HostPattern {
 /// The host part of a URL pattern.
 #[derive(Drop)]
 pub enum HostPart {
+    /// Labels, an address, or nothing.
     Pattern(HostPattern),
+    /// An expression that must match a host from its front to its end; none for an empty one, which matches every host.
+    Expression(Option<Expression>),
 }
 
 /// Under what an index keeps a host pattern: hosts that the pattern matches have this label, or are this address.
@@ -50,14 +54,50 @@ pub enum Bucket<'a> {
 }
 
 impl HostPart {
-    ghost use Rattle.px_patterns.specs.Hosts.{host_part_matches};
+    ghost use Rattle.px_patterns.specs.Expressions.{IsKeptOf};
+    ghost use Rattle.px_patterns.specs.Hosts.{host_expression_in, host_part_matches};
+    ghost use Rattle.px_patterns.specs.Patterns.{NeedsNoHostSearch};
 
-    /// Whether it matches a host. It takes no memory.
-    pub fn matches(&self, host: &[u8]) -> bool
-        ensures { result ≡ host_part_matches self.now host.now }
+    /// The expression that is searched in hosts, if it has one.
+    pub fn expression(&self) -> Option<&Expression>
+        ensures { option_copied result ≡ host_expression_in self.now }
     {
         match self {
-            HostPart::Pattern(pattern) => pattern.matches(host),
+            HostPart::Pattern(_) => None,
+            HostPart::Expression(expression) => expression.as_ref(),
+        }
+    }
+
+    /// Whether it matches a host, which loses one dot at its end. Without an expression it takes no memory.
+    pub fn matches(&self, alloc: Global, host: &[u8]) -> Result<bool, Mem>
+        ensures value { IfOk result (λ yes. yes ≡ host_part_matches self.now host.now) }
+        ensures no_memory { NeedsNoHostSearch self.now → IsOk result }
+    {
+        match self {
+            HostPart::Pattern(pattern) => Ok(pattern.matches(host)),
+            HostPart::Expression(None) => Ok(true),
+            HostPart::Expression(Some(expression)) => {
+                expression.finds(alloc, without_last_dot(host))
+            }
+        }
+    }
+
+    /// The same with what is kept of its expression, if anything is.
+    #[tactic(auto, using(crate::proofs::KeptLemmas::kept_host))]
+    pub(crate) fn matches_with(
+        &self,
+        alloc: Global,
+        kept: &mut Option<Kept<'_>>,
+        host: &[u8],
+    ) -> Result<bool, Mem>
+        requires { IsKeptOf (host_expression_in self.now) kept.old }
+        ensures value { IfOk result (λ yes. yes ≡ host_part_matches self.now host.now) }
+        ensures same { kept.new ≡ kept.old }
+        ensures no_memory { NeedsNoHostSearch self.now → IsOk result }
+    {
+        match kept {
+            Some(kept) => kept.finds(alloc, without_last_dot(host)),
+            None => self.matches(alloc, host),
         }
     }
 }

@@ -1,5 +1,5 @@
 // Expressions that keep what searches for them.
-ghost use Rattle.std.specs.Prelude.{◌≡◌, IfOk, IsOk, codes};
+ghost use Rattle.std.specs.Prelude.{◌≡◌, IfOk, IsOk, None, codes};
 ghost use Rattle.regex.specs.Bytes.{matcher_pattern, regex_pattern};
 ghost use Rattle.px_patterns.specs.Expressions.{finds};
 
@@ -57,6 +57,27 @@ impl<'r> Kept<'r> {
         let found = matcher.is_match(bytes);
         self.matcher = Some(matcher);
         Ok(found)
+    }
+}
+
+/// What is kept of the expressions of a pattern from search to search: that of a host part, and that of a path pattern or of
+/// a tag pattern.
+#[derive(Drop)]
+pub struct KeptPattern<'r> {
+    pub host: Option<Kept<'r>>,
+    pub own: Option<Kept<'r>>,
+}
+
+impl<'r> KeptPattern<'r> {
+    /// Nothing is kept.
+    pub fn none() -> KeptPattern<'r>
+        ensures host { result.host ≡ None }
+        ensures own { result.own ≡ None }
+    {
+        KeptPattern {
+            host: None,
+            own: None,
+        }
     }
 }
 

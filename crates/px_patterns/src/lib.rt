@@ -20,7 +20,7 @@ mod urls;
 pub use expressions::Expression;
 pub use faults::{PatternFault, UrlFault};
 pub use hosts::{Bucket, HostLabels, HostPart, HostPattern, without_last_dot};
-pub use kept::Kept;
+pub use kept::{Kept, KeptPattern};
 pub use labels::{ClassRange, Item, LabelPattern};
 pub use patterns::{TagPattern, UrlPattern};
 pub use unions::{KeptUnion, Union, UnionBuilder};

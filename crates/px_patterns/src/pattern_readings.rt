@@ -4,7 +4,7 @@ ghost use Rattle.px_patterns.specs.Expressions.{expression_of};
 ghost use Rattle.px_patterns.specs.Faults.{IsPatternRefusal};
 ghost use Rattle.px_patterns.specs.Hosts.{host_pattern};
 ghost use Rattle.px_patterns.specs.declared.hosts.HostPattern.TheVariants.{Address};
-ghost use Rattle.px_patterns.specs.Patterns.{addressed_pattern, behind_slash, has_protocol, path_of, pattern_of_parts, ports_of, with_parts, with_path};
+ghost use Rattle.px_patterns.specs.Patterns.{addressed_pattern, behind_slash, has_protocol, host_expression, path_of, pattern_of_parts, ports_of, whole_host, with_expression, with_parts, with_path};
 
 use crate::host_readings::read_host;
 use crate::places::{begins_with, behind_first, is_address, split_at};
@@ -70,7 +70,7 @@ fn read_named(
 {
     let ports = read_ports(alloc, ports)?;
     let host = read_host(alloc, name.as_bytes())?;
-    with_path(alloc, host, ports, path)
+    with_path(alloc, HostPart::Pattern(host), ports, path)
 }
 
 /// Reads ports, then a path, for a host by its address.
@@ -87,7 +87,7 @@ fn read_address(
 {
     let ports = read_ports(alloc, ports)?;
     let host = HostPattern::Address(Text::from_bytes(alloc, address.as_bytes())?);
-    with_path(alloc, host, ports, path)
+    with_path(alloc, HostPart::Pattern(host), ports, path)
 }
 
 /// Reads the ports behind a colon, if there is one.
@@ -111,18 +111,55 @@ fn read_ports(alloc: Global, text: Option<&str>) -> Result<Option<Ports>, Patter
     }
 }
 
+/// Reads a host expression, and what stands behind the slash that ends it.
+pub fn read_expression_parts(
+    alloc: Global,
+    part: &str,
+    path: Option<&str>,
+) -> Result<UrlPattern, PatternFault>
+    ensures pattern { IfOk result (λ pattern. with_expression (host_expression part.now) (behind_slash (option_copied path.entry)) ≡ Ok pattern) }
+    ensures refused { IfErr result (IsPatternRefusal (with_expression (host_expression part.now) (behind_slash (option_copied path.entry)))) }
+{
+    let expression = read_host_expression(alloc, part)?;
+    with_path(alloc, HostPart::Expression(expression), None, path)
+}
+
+/// Reads the expression of a host part: alone, and again as one of a whole host.
+#[tactic(auto, unfolding(crate::specs::Patterns::host_expression))]
+fn read_host_expression(alloc: Global, text: &str) -> Result<Option<Expression>, PatternFault>
+    ensures expression { IfOk result (λ expression. host_expression text.now ≡ Ok expression) }
+    ensures refused { IfErr result (IsPatternRefusal (host_expression text.now)) }
+{
+    if text.is_empty() {
+        return Ok(None);
+    }
+    let _alone = Expression::read(alloc, text)?;
+    let expression = read_whole_host(alloc, text)?;
+    Ok(Some(expression))
+}
+
+/// Reads an expression as one that must match a host from its front to its end.
+fn read_whole_host(alloc: Global, text: &str) -> Result<Expression, PatternFault>
+    ensures expression { IfOk result (λ expression. expression_of (whole_host text.now) ≡ Ok expression) }
+    ensures refused { IfErr result (IsPatternRefusal (expression_of (whole_host text.now))) }
+{
+    let mut whole = String::from_str(alloc, "^(?:")?;
+    whole.push_str(text)?;
+    whole.push_str(")$")?;
+    Expression::read(alloc, whole.as_str())
+}
+
 /// A pattern of a host and ports, with the path that stands behind a slash, if there is one.
 #[tactic(auto, unfolding(crate::specs::Patterns::path_of))]
 fn with_path(
     alloc: Global,
-    host: HostPattern,
+    host: HostPart,
     ports: Option<Ports>,
     path: Option<&str>,
 ) -> Result<UrlPattern, PatternFault>
     ensures pattern { IfOk result (λ pattern. with_path host ports (path_of (behind_slash (option_copied path.entry))) ≡ Ok pattern) }
     ensures refused { IfErr result (IsPatternRefusal (with_path host ports (path_of (behind_slash (option_copied path.entry))))) }
 {
-    let host = HostPart::Pattern(host);
     match path {
         Some(path) => {
             let expression = read_path(alloc, path)?;

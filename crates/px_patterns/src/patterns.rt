@@ -1,10 +1,12 @@
 // URL patterns and tag patterns.
-ghost use Rattle.std.specs.Prelude.{◌≡◌, ◌+◌, ◌&&◌, Ok, Some, IfErr, IfOk, IsOk};
-ghost use Rattle.px_patterns.specs.Patterns.{NeedsNoSearch, ports_match};
+ghost use Rattle.std.specs.Prelude.{◌≡◌, ◌+◌, Ok, IfErr, IfOk, IsOk, MatchOption};
+ghost use Rattle.px_patterns.specs.Expressions.{IsKeptOf};
+ghost use Rattle.px_patterns.specs.Hosts.{host_expression_in};
+ghost use Rattle.px_patterns.specs.Patterns.{NeedsNoHostSearch, NeedsNoSearch, path_matches, ports_match};
 
-use crate::pattern_readings::{has_protocol, read_parts};
+use crate::pattern_readings::{has_protocol, read_expression_parts, read_parts};
 use crate::places::split_at;
-use crate::{Expression, HostPart, HostPattern, Kept, PatternFault, Url};
+use crate::{Expression, HostPart, HostPattern, Kept, KeptPattern, PatternFault, Url};
 use px_base::{Mem, Ports, Steps};
 use std::alloc::Global;
 use std::sync::ledger::Ledger;
@@ -22,8 +24,8 @@ pub struct UrlPattern {
 
 impl UrlPattern {
     ghost use Rattle.px_patterns.specs.Faults.{IsPatternRefusal};
-    ghost use Rattle.px_patterns.specs.Hosts.{host_part_matches};
-    ghost use Rattle.px_patterns.specs.Patterns.{url_matches, url_pattern};
+    ghost use Rattle.px_patterns.specs.Hosts.{IsHostExpression};
+    ghost use Rattle.px_patterns.specs.Patterns.{expression_pattern, url_matches, url_pattern};
 
     /// Reads a pattern. The first refusal is answered, in the order `HasProtocol`, `BadAddress`, `BadPort`, `EmptyLabel`,
     /// `BadClass`, `BadRegex`.
@@ -40,18 +42,31 @@ impl UrlPattern {
         }
     }
 
-    /// The pattern of its host part.
-    pub fn host(&self) -> &HostPattern
-        ensures { self.now.host ≡ HostPart.Pattern result.now }
+    /// Reads a pattern whose host is an expression. The text is what stands behind the word of such a line,
+    /// `<expression>/<path>`, the path optional (Privoxy's manual, "The Host Pattern"). The expression goes to the first `/`,
+    /// or to the end; there is no port part. Of refusals only `BadRegex` comes, first for the host and then for the path.
+    pub fn read_expression(alloc: Global, text: &str) -> Result<UrlPattern, PatternFault>
+        ensures pattern { IfOk result (λ pattern. expression_pattern text.now ≡ Ok pattern) }
+        ensures refused { IfErr result (IsPatternRefusal (expression_pattern text.now)) }
     {
-        match &self.host {
-            HostPart::Pattern(pattern) => pattern,
+        match split_at(text, '/') {
+            Some((host_part, path)) => read_expression_parts(alloc, host_part, Some(path)),
+            None => read_expression_parts(alloc, text, None),
         }
     }
 
-    /// Whether host, port and path match. It adds one to the steps. Without a path pattern, and for the path pattern `/`, it
-    /// takes no memory.
-    #[tactic(auto, unfolding(crate::specs::Patterns::url_matches))]
+    /// The pattern of its host part, unless that is an expression.
+    pub fn host(&self) -> Option<&HostPattern>
+        ensures { MatchOption result (IsHostExpression self.now.host) (λ pattern. self.now.host ≡ HostPart.Pattern pattern.now) }
+    {
+        match &self.host {
+            HostPart::Pattern(pattern) => Some(pattern),
+            HostPart::Expression(_) => None,
+        }
+    }
+
+    /// Whether host, port and path match. It adds one to the steps. Without a host expression and a path pattern, or with the
+    /// path pattern `/`, it takes no memory.
     pub fn matches<L: Ledger>(
         &self,
         alloc: Global,
@@ -60,45 +75,68 @@ impl UrlPattern {
     ) -> Result<bool, Mem>
         ensures value { IfOk result (λ yes. yes ≡ url_matches self.now url.now) }
         ensures ticks { steps.new ≡ steps.old + 1 }
-        ensures no_memory { NeedsNoSearch self.now.path → IsOk result }
+        ensures no_memory { NeedsNoHostSearch self.now.host → NeedsNoSearch self.now.path → IsOk result }
     {
-        if !self.is_met(url, steps) {
-            return Ok(false);
-        }
-        match &self.path {
-            Some(expression) => expression.finds(alloc, url.path.as_bytes()),
-            None => Ok(true),
-        }
+        self.matches_with(alloc, &mut KeptPattern::none(), url, steps)
     }
 
-    /// The same with the expression of the path pattern and what it keeps.
+    /// The same with what is kept of its expressions, if anything is.
     #[tactic(auto, unfolding(crate::specs::Patterns::url_matches))]
     pub fn matches_with<L: Ledger>(
         &self,
         alloc: Global,
-        kept: &mut Kept<'_>,
+        kept: &mut KeptPattern<'_>,
         url: &Url,
         steps: &mut Steps<L>,
     ) -> Result<bool, Mem>
-        requires { self.now.path ≡ Some kept.old }
+        requires host { IsKeptOf (host_expression_in self.now.host) kept.old.host }
+        requires path { IsKeptOf self.now.path kept.old.own }
         ensures value { IfOk result (λ yes. yes ≡ url_matches self.now url.now) }
         ensures ticks { steps.new ≡ steps.old + 1 }
         ensures same { kept.new ≡ kept.old }
-        ensures no_memory { NeedsNoSearch self.now.path → IsOk result }
-    {
-        if !self.is_met(url, steps) {
-            return Ok(false);
-        }
-        kept.finds(alloc, url.path.as_bytes())
-    }
-
-    /// Whether host and port match. It adds one to the steps.
-    fn is_met<L: Ledger>(&self, url: &Url, steps: &mut Steps<L>) -> bool
-        ensures value { result ≡ (host_part_matches self.now.host url.now.host && ports_match self.now.ports url.now.port) }
-        ensures ticks { steps.new ≡ steps.old + 1 }
+        ensures no_memory { NeedsNoHostSearch self.now.host → NeedsNoSearch self.now.path → IsOk result }
     {
         steps.tick();
-        self.host.matches(url.host.as_bytes()) && allow(&self.ports, url.port)
+        if !self
+            .host
+            .matches_with(alloc, &mut kept.host, url.host.as_bytes())?
+        {
+            return Ok(false);
+        }
+        if !allow(&self.ports, url.port) {
+            return Ok(false);
+        }
+        path_matches_with(alloc, &self.path, &mut kept.own, url.path.as_bytes())
+    }
+}
+
+/// Whether a path pattern finds something in a path; an absent one does in each.
+fn path_matches(alloc: Global, pattern: &Option<Expression>, path: &[u8]) -> Result<bool, Mem>
+    ensures value { IfOk result (λ yes. yes ≡ path_matches pattern.now path.now) }
+    ensures no_memory { NeedsNoSearch pattern.now → IsOk result }
+{
+    match pattern {
+        Some(expression) => expression.finds(alloc, path),
+        None => Ok(true),
+    }
+}
+
+/// The same with what is kept of its expression, if anything is.
+#[tactic(auto, using(crate::proofs::KeptLemmas::kept_path))]
+fn path_matches_with(
+    alloc: Global,
+    pattern: &Option<Expression>,
+    kept: &mut Option<Kept<'_>>,
+    path: &[u8],
+) -> Result<bool, Mem>
+    requires { IsKeptOf pattern.now kept.old }
+    ensures value { IfOk result (λ yes. yes ≡ path_matches pattern.now path.now) }
+    ensures same { kept.new ≡ kept.old }
+    ensures no_memory { NeedsNoSearch pattern.now → IsOk result }
+{
+    match kept {
+        Some(kept) => kept.finds(alloc, path),
+        None => path_matches(alloc, pattern, path),
     }
 }
 

@@ -2,10 +2,10 @@
 use Rattle.std.proofs.Common.{◌≡◌, ◌⊎◌, ℕ, true, false, cond, List, [], ◌∷◌, ◌++◌, Option, None, Some, Result, Ok, Err, refl, sym, ap, ap₂, ◌∙◌, subst, inl, inr}
 use Rattle.std.specs.Prelude.{OnErr, fold}
 use mathlib.Core.Logic.{⊎_elim}
-use Rattle.px_actions.specs.Sets.{IsUpdatedByFront, is_among}
+use Rattle.px_actions.specs.Sets.{IsUpdatedByFront}
 use Rattle.px_merge.specs.Merging.{tagged, updates_in}
 use Rattle.px_taggers.specs.Fronts.{IsFront, IsWithinLine, IsWithinLines, IsWithinTag, IsWithinTagger}
-use Rattle.px_taggers.specs.Tagging.{Rules, Tagged, after_line, after_tag, after_tagger, in_force, put, state, tag_of}
+use Rattle.px_taggers.specs.Tagging.{Rules, Tagged, after_line, after_tag, after_tagger, in_force, is_left_out, put, state, tag_of}
 
 -- ---- item by item
 
@@ -56,13 +56,13 @@ lines_pause rules start lines s rest runs = runs.fronts s (lines_begin rules s r
 pub made_none : (rules : Rules) (s : Tagged) (made : Option (List ℕ)) → made ≡ None → s ≡ after_tag rules s made
 made_none rules s made is = ap (after_tag rules s) (sym is)
 
-pub made_old : (rules : Rules) (s : Tagged) (made : Option (List ℕ)) (tag : List ℕ) → made ≡ Some tag → is_among tag s.tags ≡ true → s ≡ after_tag rules s made
-made_old rules s made tag is among = sym (ap (after_tag rules s) is ∙ ap (λ b. cond b s (put rules s tag)) among)
+pub made_left_out : (rules : Rules) (s : Tagged) (made : Option (List ℕ)) (tag : List ℕ) → made ≡ Some tag → is_left_out s tag ≡ true → s ≡ after_tag rules s made
+made_left_out rules s made tag is among = sym (ap (after_tag rules s) is ∙ ap (λ b. cond b s (put rules s tag)) among)
 
-pub made_new : (rules : Rules) (s now : Tagged) (made : Option (List ℕ)) (tag : List ℕ) → made ≡ Some tag → is_among tag s.tags ≡ false → now ≡ put rules s tag → now ≡ after_tag rules s made
+pub made_new : (rules : Rules) (s now : Tagged) (made : Option (List ℕ)) (tag : List ℕ) → made ≡ Some tag → is_left_out s tag ≡ false → now ≡ put rules s tag → now ≡ after_tag rules s made
 made_new rules s now made tag is new done = done ∙ sym (ap (after_tag rules s) is ∙ ap (λ b. cond b s (put rules s tag)) new)
 
-pub put_stopped : (rules : Rules) (s now : Tagged) (made : Option (List ℕ)) (tag : List ℕ) → made ≡ Some tag → is_among tag s.tags ≡ false
+pub put_stopped : (rules : Rules) (s now : Tagged) (made : Option (List ℕ)) (tag : List ℕ) → made ≡ Some tag → is_left_out s tag ≡ false
     → ((now.set ≡ s.set) × (now.tags ≡ s.tags)) ⊎ ((now.tags ≡ s.tags ++ tag ∷ []) × IsUpdatedByFront s.set (updates_in (tagged rules.sections tag)) now.set)
     → IsWithinTag rules s made now
 put_stopped rules s now made tag is new stopped =

@@ -1,17 +1,17 @@
 -- Set and tags where tagging stopped for want of memory: those of a front of the work.
 use Rattle.std.specs.Prelude.{◌≡◌, ◌⊎◌, ℕ, false, List, [], ◌∷◌, ◌++◌, Option, None, Some}
-use Rattle.px_actions.specs.Sets.{IsUpdatedByFront, is_among}
+use Rattle.px_actions.specs.Sets.{IsUpdatedByFront}
 use Rattle.px_merge.specs.Merging.{absent, tagged, updates_in}
-use Rattle.px_taggers.specs.Tagging.{Rules, Tagged, after_line, after_lines, after_tagger, in_force, tag_of}
+use Rattle.px_taggers.specs.Tagging.{Rules, Tagged, after_line, after_lines, after_tagger, in_force, is_left_out, tag_of}
 
 -- within the work of some item, or before all of it, or behind the last; the items before it are done
 abbrev pub IsFront : {X : Type 0} → (Tagged → X → Tagged → Type 0) → (Tagged → X → Tagged) → Tagged → List X → Tagged → Type 0
 IsFront part step s [] now = now ≡ s
 IsFront part step s (x ∷ rest) now = part s x now ⊎ IsFront part step (step s x) rest now
 
--- a tag that is new stands last, and some first ones of the updates of its sections are made
+-- a tag that isn't left out stands last, and some first ones of the updates of its sections are made
 pub record IsPartlyPut (rules : Rules) (s : Tagged) (tag : List ℕ) (now : Tagged) : Type 0 where
-  pub is_new : is_among tag s.tags ≡ false
+  pub is_new : is_left_out s tag ≡ false
   pub tags : now.tags ≡ s.tags ++ tag ∷ []
   pub updates : IsUpdatedByFront s.set (updates_in (tagged rules.sections tag)) now.set
 

@@ -1,8 +1,8 @@
 -- Tags that are made of header lines (the manual's chapters on taggers and on tag patterns).
-use Rattle.std.specs.Prelude.{ℕ, ◌≡◌, ◌==◌, List, [], ◌∷◌, ◌++◌, length, fold, Option, None, Some, if◌then◌else◌}
+use Rattle.std.specs.Prelude.{ℕ, ◌≡◌, ◌==◌, ◌||◌, Bool, List, [], ◌∷◌, ◌++◌, length, fold, Option, None, Some, if◌then◌else◌}
 use Rattle.px_actions.specs.Sets.{is_among, values}
 use Rattle.px_actions.specs.declared.kinds.Kind.{Kind}
-use Rattle.px_actions.specs.declared.kinds.Kind.TheVariants.{ClientHeaderTagger, ServerHeaderTagger}
+use Rattle.px_actions.specs.declared.kinds.Kind.TheVariants.{ClientHeaderTagger, ServerHeaderTagger, SuppressTag}
 use Rattle.px_actions.specs.declared.settings.Setting.{Setting}
 use Rattle.px_filter_files.specs.FilterFiles.{FiltersOfFiles, jobs_of}
 use Rattle.px_filter_files.specs.declared.kinds.FilterKind.{FilterKind}
@@ -63,10 +63,17 @@ state set tags = record { set = set; tags = tags }
 abbrev pub put : Rules → Tagged → List ℕ → Tagged
 put rules s tag = state (applied s.set (tagged rules.sections tag)) (s.tags ++ tag ∷ [])
 
--- a tag that stands among the others changes nothing
+-- a tag isn't made that the set at that moment has as a value of `suppress-tag`, with case
+abbrev pub is_suppressed : List Setting → List ℕ → Bool
+is_suppressed set tag = is_among tag (values set SuppressTag)
+
+-- such a tag, and one that stands among the others, changes nothing
+abbrev pub is_left_out : Tagged → List ℕ → Bool
+is_left_out s tag = is_suppressed s.set tag || is_among tag s.tags
+
 abbrev pub after_tag : Rules → Tagged → Option (List ℕ) → Tagged
 after_tag rules s None = s
-after_tag rules s (Some tag) = if is_among tag s.tags then s else put rules s tag
+after_tag rules s (Some tag) = if is_left_out s tag then s else put rules s tag
 
 -- after one tagger on a line
 abbrev pub after_tagger : Rules → List ℕ → Tagged → List ℕ → Tagged

@@ -96,10 +96,11 @@ pub fn has_taggers(set: &ActionSet, side: Side) -> bool
 
 /// Makes tags of header lines and applies what the sections set for them. The lines are the first line and the lines of the
 /// fields, all as received. On each line the taggers run that are in force when its turn begins, in the order of the list. A
-/// tagger makes a tag where it hits and its text isn't empty; a tag that isn't among `tags` goes last, and the sections that
-/// apply to it are applied at once. Behind the last line those on absent tags of the side are applied. A name that no filter
-/// has does nothing. After `Mem` set and tags are those of a front of this work (Privoxy's manual, "Actions Files",
-/// `client-header-tagger`, `server-header-tagger` and "The Tag Pattern").
+/// tagger makes a tag where it hits and its text isn't empty, unless the set at that moment has the same text, with case, as a
+/// value of `suppress-tag`; a tag that isn't among `tags` goes last, and the sections that apply to it are applied at once.
+/// Behind the last line those on absent tags of the side are applied. A name that no filter has does nothing. After `Mem` set
+/// and tags are those of a front of this work (Privoxy's manual, "Actions Files", `client-header-tagger`,
+/// `server-header-tagger`, `suppress-tag` and "The Tag Pattern").
 #[tactic(auto, unfolding(crate::specs::Tagging::tag_headers))]
 pub fn tag_headers_with(
     alloc: Global,

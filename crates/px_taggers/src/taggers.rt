@@ -6,7 +6,7 @@ ghost use Rattle.px_taggers.specs.Fronts.{IsWithinLine};
 ghost use Rattle.px_taggers.specs.Places.{AreInForce, IsPlaceOf, IsWithinPlace, after_place, tag_by};
 ghost use Rattle.px_taggers.specs.Tagging.{action_of, after_line, filters_of, rules, state, tag_in};
 
-use crate::tags::{is_among, put};
+use crate::tags::{is_left_out, put};
 use crate::turns::Turn;
 use px_actions::{ActionSet, Kind};
 use px_base::{List, Mem, Text};
@@ -70,7 +70,7 @@ fn make_tag(
 }
 
 /// Runs the tagger at a place on a line. Whether its tag is new.
-#[tactic(auto, using(crate::proofs::FrontLemmas::made_none, crate::proofs::FrontLemmas::made_old, crate::proofs::FrontLemmas::made_new, crate::proofs::FrontLemmas::put_stopped, crate::proofs::FrontLemmas::tag_begins))]
+#[tactic(auto, using(crate::proofs::FrontLemmas::made_none, crate::proofs::FrontLemmas::made_left_out, crate::proofs::FrontLemmas::made_new, crate::proofs::FrontLemmas::put_stopped, crate::proofs::FrontLemmas::tag_begins))]
 fn run_tagger(
     alloc: Global,
     sections: &mut Warm<'_>,
@@ -90,7 +90,7 @@ fn run_tagger(
     let Some(tag) = make_tag(alloc, filters, place, turn)? else {
         return Ok(false);
     };
-    if is_among(tag.as_bytes(), tags.as_slice()) {
+    if is_left_out(set, tags.as_slice(), tag.as_bytes()) {
         return Ok(false);
     }
     put(alloc, sections, set, tags, tag)?;

@@ -2,14 +2,22 @@
 ghost use Rattle.std.specs.Prelude.{◌≡◌, ◌⊎◌, ◌++◌, ◌∷◌, [], OnErr, OnOk};
 ghost use Rattle.px_actions.specs.Sets.{IsUpdatedByFront, is_among};
 ghost use Rattle.px_merge.specs.Merging.{applied, tagged, updates_in};
+ghost use Rattle.px_taggers.specs.Tagging.{is_left_out, state};
 
-use px_actions::ActionSet;
+use px_actions::{ActionSet, Kind};
 use px_base::{List, Mem, Text};
 use px_merge::Warm;
 use std::alloc::Global;
 
+/// Whether a set has a tag as a value of `suppress-tag`, or it stands among others already: then it isn't made.
+pub fn is_left_out(set: &ActionSet, tags: &[Text], tag: &[u8]) -> bool
+    ensures { result ≡ is_left_out (state set.now tags.now) tag.now }
+{
+    is_among(tag, set.values(Kind::SuppressTag)) || is_among(tag, tags)
+}
+
 /// Whether a tag stands among others.
-pub fn is_among(tag: &[u8], tags: &[Text]) -> bool
+fn is_among(tag: &[u8], tags: &[Text]) -> bool
     ensures { result ≡ is_among tag.now tags.now }
 {
     tags.iter().any(|other| other.as_bytes() == tag)

@@ -1,4 +1,4 @@
-use Rattle.std.proofs.Common.{◌≡◌, ◌∙◌, Option, Result, subst, sym}
+use Rattle.std.proofs.Common.{◌≡◌, ◌∙◌, Result, subst, sym}
 use Rattle.std.specs.Prelude.{IfOk}
 use Rattle.px_subst.specs.declared.faults.JobFault.{JobFault}
 use Rattle.px_subst.specs.Jobs.{JobParts, job_of}

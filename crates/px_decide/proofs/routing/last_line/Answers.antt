@@ -1,9 +1,9 @@
 use Rattle.std.proofs.Common.{◌-◌, ◌∙◌, Some, ap, arith, get_or}
 use Rattle.std.proofs.lemmas.List.{get_or_default}
 use Rattle.px_decide.specs.declared.forwards.ForwardLine.{ForwardLine}
-use Rattle.px_decide.specs.Lines.{next_of}
-use Rattle.px_decide.proofs.RouteLemmas.{hop_earlier, hop_found, hop_none}
-use Rattle.px_decide.proofs.routing.last_next.Goals as goal
+use Rattle.px_decide.specs.Lines.{line_of}
+use Rattle.px_decide.proofs.RouteLemmas.{line_earlier, line_found, line_none}
+use Rattle.px_decide.proofs.routing.last_line.Goals as goal
 
 pub returns-then-branch : goal.returns-then-branch
 returns-then-branch g c =
@@ -12,8 +12,8 @@ returns-then-branch g c =
     let at = c.lines.at - 1 in
     let first = c.index-lines-at.result in
     let line = get_or lines at first in
-    ap (λ (l : ForwardLine). Some (next_of l.next)) (get_or_default lines at c.index-lines-at-then-branch.result first (omega arith))
-    ∙ hop_found c.args.url.now lines at c.lines.at line c.in_ok-matches.field-0 (omega arith) (omega arith) (get_or_default lines at first line (omega arith))
+    ap (λ (l : ForwardLine). Some (line_of l)) (c.index-lines-at-then-branch.is ∙ get_or_default lines at c.index-lines-at-then-branch.result first (omega arith))
+    ∙ line_found c.args.url.now lines at c.lines.at line c.in_ok-matches.field-0 (omega arith) (omega arith) (get_or_default lines at first line (omega arith))
     c.in_ok-matches.ensures.value c.if-branch.true c.lines.invariant.1
 
 pub lines-preserved : goal.lines-preserved
@@ -24,9 +24,9 @@ lines-preserved g c =
     let first = c.index-lines-at.result in
     let line = get_or lines at first in (
       omega arith,
-      hop_earlier c.args.url.now lines at c.lines.at line c.in_ok-matches.field-0 (omega arith) (omega arith) (get_or_default lines at first line (omega arith))
+      line_earlier c.args.url.now lines at c.lines.at line c.in_ok-matches.field-0 (omega arith) (omega arith) (get_or_default lines at first line (omega arith))
           c.in_ok-matches.ensures.value c.if-branch.false c.lines.invariant.1,
     )
 
 pub returns : goal.returns
-returns g c = hop_none c.args.url.now c.args.lines.now c.lines.at (omega arith) c.lines.invariant.1
+returns g c = line_none c.args.url.now c.args.lines.now c.lines.at (omega arith) c.lines.invariant.1
