@@ -1,5 +1,6 @@
 -- What a command did, step by step.
-use Rattle.std.proofs.Common.{rules, ◌≡◌, ℕ, List, [], ◌∷◌, IsTrue, Option, Some, Result, Ok, Err, refl, sym, ◌∙◌, inl, inr, subst}
+use Rattle.std.proofs.Common.{rules, ◌≡◌, ℕ, Bool, true, false, List, [], ◌∷◌, ap, IsTrue, Option, Some, Result, Ok, Err, refl, sym, ◌∙◌, inl, inr, subst}
+use Rattle.std.specs.Prelude.{MatchBool}
 use Rattle.px_base.specs.Contents.{Contents, FilesState, FilesGoOn, Unchanged, Puts}
 use Rattle.px_base.specs.Sources.{SourceState, SourceGoesOn}
 use Rattle.px_base.specs.Sinks.{SinkState, SinkGoesOn}
@@ -7,6 +8,7 @@ use Rattle.px_base.specs.Moments.{ClockState, ClockGoesOn}
 use Rattle.px_base.specs.declared.dials.Answer.{Answer}
 use Rattle.px_base.specs.declared.faults.FilesFault.{FilesFault}
 use Rattle.px_base.specs.Dials.{DialerState, fresh_dialer, finished_links}
+use Rattle.px_decide.specs.Forwards.{has_socks}
 use Rattle.px_config.specs.declared.configs.Config.{Config}
 use Rattle.px_commands.specs.Loads.{Loads}
 use Rattle.px_commands.specs.Passing.{RunsPass}
@@ -17,7 +19,9 @@ use Rattle.px_serve.specs.Histories.{IsFixed, Looks}
 use Rattle.px_serve.specs.Sessions.{Caller, Serves}
 use Rattle.px_commands.specs.Sents.{sent_text}
 use Rattle.px_commands.specs.declared.statuses.Status.{Status}
-use Rattle.px_commands.specs.Passes.{Outside, IsSame, HasAnswers, PutsAfter, HasServed, caller_of, Passes, RunsLoaded}
+use Rattle.px_socks.specs.Dialers.{Kept, outer_state}
+use Rattle.px_socks.specs.Handshakes.{Handshakes}
+use Rattle.px_commands.specs.Passes.{Outside, IsSame, HasAnswers, PutsAfter, HasServed, IsServed, IsServedThrough, Passes, RunsLoaded, ServesInput, begun_socks, caller_of}
 
 -- files that were only read
 pub record OnlyRead (old new : FilesState) : Type 0 where
@@ -121,22 +125,67 @@ pub has_served : {tags : List (List ℕ)} {answers : List Answer} {i i' : Source
     → caller ≡ caller_of tags → d ≡ fresh_dialer answers → IsFixed looks config
     → ReadEndCause i i' e → WriteEndCause o o' e
     → ((x : List ℕ) → made ≡ Some x → x ≡ sent_text (finished_links d'.dials))
+    → has_socks config.forwards ≡ false
     → HasServed config tags answers i i' o o' t t' e made
-has_served {looks = looks} {looks' = looks'} {d' = d'} {notes = notes} serves client fresh fixed read write made_is = record {
+has_served {tags = tags} {answers = answers} {i = i} {i' = i'} {o = o} {o' = o'} {t = t} {t' = t'} {e = e} {looks = looks} {looks' = looks'} {config = config} {d' = d'} {notes = notes} serves client fresh fixed read write made_is plain = record {
   text = sent_text (finished_links d'.dials);
-  served = record {
-    looks = looks;
-    looks_after = looks';
-    fixed = fixed;
-    dialer = d';
-    notes = notes;
-    serves = rw (client, fresh) at serves;
-    text_is = refl;
-    read_cause = read;
-    write_cause = write;
-  };
+  served = whole;
   made_is = made_is;
 }
+  where
+    text : List ℕ
+    text = sent_text (finished_links d'.dials)
+
+    session : IsServed config tags answers i i' o o' t t' e text
+    session = record {
+      looks = looks;
+      looks_after = looks';
+      fixed = fixed;
+      dialer = d';
+      notes = notes;
+      serves = rw (client, fresh) at serves;
+      text_is = refl;
+      read_cause = read;
+      write_cause = write;
+    }
+
+    whole : ServesInput config tags answers i i' o o' t t' e text
+    whole = subst (λ b. MatchBool b (IsServedThrough config tags answers i i' o o' t t' e text) (IsServed config tags answers i i' o o' t t' e text)) (sym plain) session
+
+-- the same through SOCKS servers
+pub has_served_through : {tags : List (List ℕ)} {answers : List Answer} {i i' : SourceState} {o o' : SinkState} {t t' : ClockState} {e : SessionEnd} {made : Option (List ℕ)} {looks looks' : Looks} {config : Config} {k : Kept} (k' : Kept) {notes : List ExchangeNote} {caller : Caller}
+    → Serves caller looks looks' i i' (record { client_out = o; dialer = outer_state k; clock = t }) (record { client_out = o'; dialer = outer_state k'; clock = t' }) notes e
+    → caller ≡ caller_of tags → k ≡ begun_socks answers → IsFixed looks config
+    → ReadEndCause i i' e → WriteEndCause o o' e
+    → ((x : List ℕ) → made ≡ Some x → x ≡ sent_text (finished_links k'.inner.dials))
+    → k'.inner.tells ≡ k.inner.tells → (IsTrue k'.inner.tells → Handshakes (outer_state k').dials k'.inner.dials)
+    → has_socks config.forwards ≡ true
+    → HasServed config tags answers i i' o o' t t' e made
+has_served_through {tags = tags} {answers = answers} {i = i} {i' = i'} {o = o} {o' = o'} {t = t} {t' = t'} {e = e} {looks = looks} {looks' = looks'} {config = config} k' {notes = notes} serves client begun fixed read write made_is tells handshakes socks = record {
+  text = sent_text (finished_links k'.inner.dials);
+  served = whole;
+  made_is = made_is;
+}
+  where
+    text : List ℕ
+    text = sent_text (finished_links k'.inner.dials)
+
+    session : IsServedThrough config tags answers i i' o o' t t' e text
+    session = record {
+      looks = looks;
+      looks_after = looks';
+      fixed = fixed;
+      dialer = k';
+      notes = notes;
+      serves = rw (client, begun) at serves;
+      handshakes = handshakes (tells ∙ ap (λ (m : Kept). m.inner.tells) begun);
+      text_is = refl;
+      read_cause = read;
+      write_cause = write;
+    }
+
+    whole : ServesInput config tags answers i i' o o' t t' e text
+    whole = subst (λ b. MatchBool b (IsServedThrough config tags answers i i' o o' t t' e text) (IsServed config tags answers i i' o o' t t' e text)) (sym socks) session
 
 -- the configuration loads
 pub pass_loaded : (config origin sent : List ℕ) (tags : List (List ℕ)) (old new : Outside) (loaded : Config) (s : Status)

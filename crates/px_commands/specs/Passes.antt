@@ -1,5 +1,5 @@
 -- What `pass` does: with its words, the files, the input, the output, the error output and the clock.
-use Rattle.std.specs.Prelude.{◌≡◌, ℕ, ◌≤◌, false, ◌⊎◌, List, ◌++◌, length, Option, None, Some, Result, codes, IsTrue}
+use Rattle.std.specs.Prelude.{◌≡◌, ℕ, ◌≤◌, false, ◌⊎◌, List, [], ◌++◌, length, Option, None, Some, Result, codes, IsTrue, MatchBool}
 use Rattle.px_base.specs.Causes.{Rose}
 use Rattle.px_base.specs.Contents.{FilesState, FilesGoOn, FilesCause, Unchanged, Puts, OthersUnchanged}
 use Rattle.px_base.specs.Sources.{SourceState, SourceGoesOn}
@@ -8,12 +8,15 @@ use Rattle.px_base.specs.Moments.{ClockState, ClockGoesOn}
 use Rattle.px_base.specs.Dials.{DialerState, fresh_dialer, finished_links}
 use Rattle.px_base.specs.declared.dials.Answer.{Answer}
 use Rattle.px_base.specs.declared.faults.FilesFault.{FilesFault}
+use Rattle.px_decide.specs.Forwards.{has_socks}
 use Rattle.px_config.specs.declared.configs.Config.{Config}
 use Rattle.px_exchange.specs.declared.notes.ExchangeNote.{ExchangeNote}
 use Rattle.px_serve.specs.declared.ends.SessionEnd.{SessionEnd}
 use Rattle.px_serve.specs.Ends.{ReadEndCause, WriteEndCause}
 use Rattle.px_serve.specs.Histories.{IsFixed, Looks}
 use Rattle.px_serve.specs.Sessions.{Caller, Serves}
+use Rattle.px_socks.specs.Dialers.{Kept, outer_state}
+use Rattle.px_socks.specs.Handshakes.{Handshakes}
 use Rattle.px_commands.specs.declared.statuses.Status.{Status}
 use Rattle.px_commands.specs.declared.statuses.Status.TheVariants as status
 use Rattle.px_commands.specs.Origins.{IsOrigin}
@@ -95,7 +98,8 @@ PutsAfter old new sent text e s = PutsSent old new sent text e s ⊎ Withholds o
 abbrev pub caller_of : List (List ℕ) → Caller
 caller_of tags = record { tags = tags; peer = codes "127.0.0.1" }
 
--- a session over the input and the answers, with that configuration, and the text of SENT
+-- a session over the input and the answers, with that configuration, and the text of SENT: no forward line has a SOCKS server, so
+-- each dial takes an answer
 pub record IsServed (config : Config) (tags : List (List ℕ)) (answers : List Answer) (i i' : SourceState) (o o' : SinkState) (t t' : ClockState) (e : SessionEnd) (text : List ℕ) : Type 0 where
   pub looks : Looks
   pub looks_after : Looks
@@ -110,10 +114,36 @@ pub record IsServed (config : Config) (tags : List (List ℕ)) (answers : List A
   pub read_cause : ReadEndCause i i' e
   pub write_cause : WriteEndCause o o' e
 
+-- a dialer through SOCKS servers that is just made, over one in memory with these answers
+abbrev pub begun_socks : List Answer → Kept
+begun_socks answers = record { inner = fresh_dialer answers; notes = []; names = 0; reach = 0; link_reads = 0; link_writes = 0 }
+
+-- the same through SOCKS servers: the session is one over the outer dials; the inner ones, which take the answers, are those that
+-- stand behind the outer ones, and SENT has the inner links
+pub record IsServedThrough (config : Config) (tags : List (List ℕ)) (answers : List Answer) (i i' : SourceState) (o o' : SinkState) (t t' : ClockState) (e : SessionEnd) (text : List ℕ) : Type 0 where
+  pub looks : Looks
+  pub looks_after : Looks
+  pub fixed : IsFixed looks config
+  pub dialer : Kept
+  pub notes : List ExchangeNote
+  pub serves : Serves (caller_of tags) looks looks_after i i'
+      (record { client_out = o; dialer = outer_state (begun_socks answers); clock = t })
+      (record { client_out = o'; dialer = outer_state dialer; clock = t' }) notes e
+  pub handshakes : Handshakes (outer_state dialer).dials dialer.inner.dials
+  pub text_is : text ≡ sent_text (finished_links dialer.inner.dials)
+  -- the session's own faults
+  pub read_cause : ReadEndCause i i' e
+  pub write_cause : WriteEndCause o o' e
+
+-- a session over the input and the answers: through SOCKS servers where a forward line has one
+abbrev pub ServesInput : Config → List (List ℕ) → List Answer → SourceState → SourceState → SinkState → SinkState → ClockState → ClockState → SessionEnd → List ℕ → Type 0
+ServesInput config tags answers i i' o o' t t' e text =
+    MatchBool (has_socks config.forwards) (IsServedThrough config tags answers i i' o o' t t' e text) (IsServed config tags answers i i' o o' t t' e text)
+
 -- the same with the text that was made, if memory was there for it
 pub record HasServed (config : Config) (tags : List (List ℕ)) (answers : List Answer) (i i' : SourceState) (o o' : SinkState) (t t' : ClockState) (e : SessionEnd) (made : Option (List ℕ)) : Type 0 where
   pub text : List ℕ
-  pub served : IsServed config tags answers i i' o o' t t' e text
+  pub served : ServesInput config tags answers i i' o o' t t' e text
   pub made_is : (x : List ℕ) → made ≡ Some x → x ≡ text
 
 -- ORIGIN couldn't be read
@@ -134,7 +164,7 @@ pub record Passes (config : Config) (origin sent : List ℕ) (tags : List (List 
   pub has_answers : IsTrue old.files.tells → HasAnswers (old.files.contents origin) answers
   pub session_end : SessionEnd
   pub text : List ℕ
-  pub served : IsServed config tags answers old.input new.input old.out new.out old.clock new.clock session_end text
+  pub served : ServesInput config tags answers old.input new.input old.out new.out old.clock new.clock session_end text
   pub put : PutsAfter old.files new.files sent text session_end s
   pub unprinted : new.errors ≡ old.errors
 

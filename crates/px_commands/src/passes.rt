@@ -1,9 +1,10 @@
 // The command `pass`: one session over the input, with the answers of a file.
-ghost use Rattle.std.specs.Prelude.{◌≡◌, ◌∷◌, [], List, ℕ, IfOk, OnErr, map, string_bytes};
+ghost use Rattle.std.specs.Prelude.{◌≡◌, ◌∷◌, [], List, ℕ, IfOk, OnErr, false, map, string_bytes, true};
 ghost use Rattle.px_base.specs.Contents.{FilesGoOn};
 ghost use Rattle.px_base.specs.Sources.{SourceGoesOn};
 ghost use Rattle.px_base.specs.Sinks.{SinkState, SinkGoesOn};
 ghost use Rattle.px_base.specs.Moments.{ClockGoesOn};
+ghost use Rattle.px_decide.specs.Forwards.{has_socks};
 ghost use Rattle.px_commands.specs.Passes.{Outside, OutsideGoesOn, RunsLoaded, HasServed, PutsAfter};
 ghost use Rattle.px_commands.specs.Passing.{RunsPass};
 
@@ -17,6 +18,7 @@ use px_base::{Answer, Clock, Files, List, Mem, MemDialer, Peer, Sink, Source, Te
 use px_config::{Config, load};
 use px_publish::{Configs, FixedConfig};
 use px_serve::{SessionEnd, serve_connection};
+use px_socks::SocksDialer;
 use px_ways::Way;
 use std::alloc::Global;
 use std::sync::Arc;
@@ -96,7 +98,8 @@ fn fixed_config(alloc: Global, loaded: Config) -> Result<FixedConfig<Config>, Me
     Ok(FixedConfig::new(Arc::new(alloc, loaded)?))
 }
 
-/// Serves the input as one client, whose dials have the answers. After `Mem` nothing was read, asked or returned.
+/// Serves the input as one client, whose dials have the answers; where a forward line has a SOCKS server, the dials go through
+/// such servers. After `Mem` nothing was read, asked or returned.
 fn serve_input<R: Threads + Sync, S: Source, O: Sink, T: Clock>(
     alloc: Global,
     way: &Way<'_, R>,
@@ -107,6 +110,31 @@ fn serve_input<R: Threads + Sync, S: Source, O: Sink, T: Clock>(
     out: &mut O,
     clock: &mut T,
 ) -> Result<Served, Mem>
+    ensures served { IfOk result (λ s. HasServed loaded (map string_bytes tags.now) answers (S.state input.old) (S.state input.new) (O.state out.old) (O.state out.new) (T.state clock.old) (T.state clock.new) s.end s.sent) }
+    ensures unused { OnErr result ((S.state input.new ≡ S.state input.old) × (O.state out.new ≡ O.state out.old) × (T.state clock.new ≡ T.state clock.old)) }
+    ensures input_goes_on { SourceGoesOn (S.state input.old) (S.state input.new) }
+    ensures out_goes_on { SinkGoesOn (O.state out.old) (O.state out.new) }
+    ensures clock_goes_on { ClockGoesOn (T.state clock.old) (T.state clock.new) }
+{
+    if loaded.forwards.has_socks() {
+        serve_through(alloc, way, loaded, tags, answers, input, out, clock)
+    } else {
+        serve_plain(alloc, way, loaded, tags, answers, input, out, clock)
+    }
+}
+
+/// The same where no forward line has a SOCKS server.
+fn serve_plain<R: Threads + Sync, S: Source, O: Sink, T: Clock>(
+    alloc: Global,
+    way: &Way<'_, R>,
+    loaded: Config,
+    tags: &[String],
+    answers: List<Answer>,
+    input: &mut S,
+    out: &mut O,
+    clock: &mut T,
+) -> Result<Served, Mem>
+    requires plain { has_socks loaded.forwards ≡ false }
     ensures served { IfOk result (λ s. HasServed loaded (map string_bytes tags.now) answers (S.state input.old) (S.state input.new) (O.state out.old) (O.state out.new) (T.state clock.old) (T.state clock.new) s.end s.sent) }
     ensures unused { OnErr result ((S.state input.new ≡ S.state input.old) × (O.state out.new ≡ O.state out.old) × (T.state clock.new ≡ T.state clock.old)) }
     ensures input_goes_on { SourceGoesOn (S.state input.old) (S.state input.new) }
@@ -133,6 +161,48 @@ fn serve_input<R: Threads + Sync, S: Source, O: Sink, T: Clock>(
     Ok(Served {
         end: session.end,
         sent: made_sent(alloc, dialer.links()),
+    })
+}
+
+/// The same through SOCKS servers. SENT has the links to them.
+fn serve_through<R: Threads + Sync, S: Source, O: Sink, T: Clock>(
+    alloc: Global,
+    way: &Way<'_, R>,
+    loaded: Config,
+    tags: &[String],
+    answers: List<Answer>,
+    input: &mut S,
+    out: &mut O,
+    clock: &mut T,
+) -> Result<Served, Mem>
+    requires through { has_socks loaded.forwards ≡ true }
+    ensures served { IfOk result (λ s. HasServed loaded (map string_bytes tags.now) answers (S.state input.old) (S.state input.new) (O.state out.old) (O.state out.new) (T.state clock.old) (T.state clock.new) s.end s.sent) }
+    ensures unused { OnErr result ((S.state input.new ≡ S.state input.old) × (O.state out.new ≡ O.state out.old) × (T.state clock.new ≡ T.state clock.old)) }
+    ensures input_goes_on { SourceGoesOn (S.state input.old) (S.state input.new) }
+    ensures out_goes_on { SinkGoesOn (O.state out.old) (O.state out.new) }
+    ensures clock_goes_on { ClockGoesOn (T.state clock.old) (T.state clock.new) }
+{
+    let tags = tag_texts(alloc, tags)?;
+    let peer = Peer {
+        address: Text::from_bytes(alloc, CLIENT)?,
+    };
+    let mut configs = fixed_config(alloc, loaded)?;
+    let mut dialer = SocksDialer::new(alloc, MemDialer::new(alloc, answers)?);
+    let session = serve_connection(
+        alloc,
+        way,
+        &mut configs,
+        input,
+        out,
+        &mut dialer,
+        clock,
+        &peer,
+        tags.as_slice(),
+    );
+    let inner = dialer.into_inner();
+    Ok(Served {
+        end: session.end,
+        sent: made_sent(alloc, inner.links()),
     })
 }
 

@@ -9,6 +9,7 @@ use px_base::{Clock, Dialer, Failed, Sink, Source, SystemClock, as_text};
 use px_sockets::{
     Caller, CallerFault, ListenFault, SocketDialer, SocketListener, SocketSink, SocketSource, Times,
 };
+use px_socks::SocksDialer;
 use std::alloc::Global;
 use std::fmt;
 use std::fmt::{Display, Formatter, Write};
@@ -17,7 +18,7 @@ use std::fmt::{Display, Formatter, Write};
 pub type SocketConn<'r> = Conn<
     SocketSource<'r>,
     SocketSink<'r>,
-    SocketDialer<'r>,
+    SocksDialer<SocketDialer<'r>>,
     SystemClock<'r, HostRuntime>,
 >;
 
@@ -25,12 +26,13 @@ pub type SocketConn<'r> = Conn<
 pub type SocketParted<'r> = Parted<
     SocketSource<'r>,
     SocketSink<'r>,
-    SocketDialer<'r>,
+    SocksDialer<SocketDialer<'r>>,
     SystemClock<'r, HostRuntime>,
 >;
 
 /// Takes connections over TCP from clients of this machine, and says on the error output where it listens, or why it can't. What
-/// clients still send to connections that ended is thrown away for a while before they are closed.
+/// clients still send to connections that ended is thrown away for a while before they are closed. Each connection's dialer goes
+/// through SOCKS servers where a host is a dial name.
 #[derive(Drop)]
 pub struct SocketDoors<'r> {
     alloc: Global,
@@ -125,7 +127,7 @@ impl<'r> Doors for SocketDoors<'r> {
 
     type Out = SocketSink<'r>;
 
-    type Dial = SocketDialer<'r>;
+    type Dial = SocksDialer<SocketDialer<'r>>;
 
     type Time = SystemClock<'r, HostRuntime>;
 
@@ -162,7 +164,7 @@ impl<'r> Doors for SocketDoors<'r> {
                 let conn = Conn {
                     client_in: caller.client_in,
                     client_out: caller.client_out,
-                    dialer,
+                    dialer: SocksDialer::new(self.alloc, dialer),
                     clock: SystemClock::new(self.rt),
                     peer: caller.peer,
                 };
@@ -178,7 +180,7 @@ impl<'r> Doors for SocketDoors<'r> {
     }
 
     fn part(&mut self, parted: SocketParted<'r>)
-        ensures parts { Parts (⟦<SocketDoors<'r> as Doors>⟧.state self.old) (⟦<SocketDoors<'r> as Doors>⟧.state self.new) (parted_as ⟦<SocketSource<'r> as Source>⟧.state ⟦<SocketSink<'r> as Sink>⟧.state ⟦<SocketDialer<'r> as Dialer>⟧.state ⟦<SystemClock<'r, HostRuntime> as Clock>⟧.state parted.entry) }
+        ensures parts { Parts (⟦<SocketDoors<'r> as Doors>⟧.state self.old) (⟦<SocketDoors<'r> as Doors>⟧.state self.new) (parted_as ⟦<SocketSource<'r> as Source>⟧.state ⟦<SocketSink<'r> as Sink>⟧.state ⟦<SocksDialer<SocketDialer<'r>> as Dialer>⟧.state ⟦<SystemClock<'r, HostRuntime> as Clock>⟧.state parted.entry) }
         ensures listens { (⟦<SocketDoors<'r> as Doors>⟧.state self.new).listens_at ≡ (⟦<SocketDoors<'r> as Doors>⟧.state self.old).listens_at }
         ensures goes_on { DoorsGoesOn (⟦<SocketDoors<'r> as Doors>⟧.state self.old) (⟦<SocketDoors<'r> as Doors>⟧.state self.new) }
     {

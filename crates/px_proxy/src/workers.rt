@@ -7,6 +7,7 @@ ghost use Rattle.px_doors.specs.Conns.{conn_as, parted_as};
 ghost use Rattle.px_desk.specs.Facts.{Closes, Made, IsOut, Stands};
 ghost use Rattle.px_publish.specs.Views.{GoesOn};
 ghost use Rattle.px_desk.specs.Sessions.{IsNth, IsServed, ServedBy};
+ghost use Rattle.px_serve.specs.Keeping.{IsStored};
 ghost use Rattle.px_desk.specs.Desks.{handed_as, made_of, StandsAfter};
 ghost use Rattle.px_desk.specs.declared.desks.ServeEnd.TheVariants.{DoorsFailed};
 
@@ -14,8 +15,8 @@ use px_base::{Clock, Dialer, Files, Mem, Sink, Source};
 use px_config::Config;
 use px_desk::{Desk, Handed, Next, Served};
 use px_doors::{Conn, Doors, Parted};
-use px_publish::{ConfigReader, Configs};
-use px_serve::serve_connection;
+use px_publish::{ConfigReader, Configs, CountFull};
+use px_serve::{Store, serve_stored};
 use px_ways::Way;
 use std::alloc::Global;
 use std::marker::Brand;
@@ -64,14 +65,20 @@ struct Worker<N: Making> {
     ghost pair: { reader_pair reader ≡ N.made.pair },
 }
 
+/// A connection to serve: its number, that of the entry with which it was handed out, and its ends.
+struct Task<S, O, D, T> {
+    number: u64,
+    handed: u64,
+    conn: Conn<S, O, D, T>,
+}
+
 /// Serves a connection without client tags, and gives it back with its session.
 fn served_by<R, K, S, O, D, T>(
     alloc: Global,
     way: &Way<'_, R>,
+    store: &mut Store<'_>,
     configs: &mut K,
-    number: u64,
-    handed: u64,
-    conn: Conn<S, O, D, T>,
+    task: Task<S, O, D, T>,
 ) -> Parted<S, O, D, T>
 where
     R: Threads + Sync,
@@ -80,13 +87,20 @@ where
     O: Sink,
     D: Dialer,
     T: Clock,
-    ensures number { result.number ≡ number }
-    ensures handed { result.handed ≡ handed }
+    requires stored { IsStored (K.view configs.old) store.old }
+    ensures number { result.number ≡ task.number }
+    ensures handed { result.handed ≡ task.handed }
     ensures served { ServedBy
         (record { tells = K.tells; view = K.view configs.old; pair = K.pair configs.old; coming = K.coming configs.old })
         (record { tells = K.tells; view = K.view configs.new; pair = K.pair configs.new; coming = K.coming configs.new })
-        (conn_as S.state O.state D.state T.state conn) (parted_as S.state O.state D.state T.state result) }
+        (conn_as S.state O.state D.state T.state task.conn) (parted_as S.state O.state D.state T.state result) }
+    ensures stored { IsStored (K.view configs.new) store.new }
 {
+    let Task {
+        number,
+        handed,
+        conn,
+    } = task;
     let Conn {
         mut client_in,
         mut client_out,
@@ -94,9 +108,10 @@ where
         mut clock,
         peer,
     } = conn;
-    let session = serve_connection(
+    let session = serve_stored(
         alloc,
         way,
+        store,
         configs,
         &mut client_in,
         &mut client_out,
@@ -119,18 +134,37 @@ where
     }
 }
 
-/// Serves a connection, once the configuration with which it was handed out is learnt.
+/// Serves a connection by a reader that has learnt the entry with which it was handed out.
 fn served<N: Making, R: Threads + Sync, S: Source, O: Sink, D: Dialer, T: Clock>(
     alloc: Global,
     way: &Way<'_, R>,
+    store: &mut Store<'_>,
     reader: &mut ConfigReader<Config>,
-    handed: Handed<S, O, D, T>,
+    task: Task<S, O, D, T>,
 ) -> Parted<S, O, D, T>
     requires pair { reader_pair reader.old ≡ N.made.pair }
-    requires receipt_pair { receipt_pair handed.receipt ≡ N.made.pair }
-    requires nth { IsNth N.made.doors.tells N.made.doors.conns handed.number (conn_as S.state O.state D.state T.state handed.conn) }
+    requires stored { IsStored (seen_by reader.old) store.old }
+    requires learnt { task.handed < length (seen_by reader.old) }
+    requires nth { IsNth N.made.doors.tells N.made.doors.conns task.number (conn_as S.state O.state D.state T.state task.conn) }
     ensures pair { reader_pair reader.new ≡ N.made.pair }
     ensures served { IsServed N.made.doors.tells N.made.doors.conns (seen_by reader.new) (parted_as S.state O.state D.state T.state result) }
+    ensures stored { IsStored (seen_by reader.new) store.new }
+{
+    served_by(alloc, way, store, reader, task)
+}
+
+/// What is to be served of a connection that was handed out, once its receipt is learnt.
+fn task_of<N: Making, S: Source, O: Sink, D: Dialer, T: Clock>(
+    reader: &mut ConfigReader<Config>,
+    handed: Handed<S, O, D, T>,
+) -> Task<S, O, D, T>
+    requires pair { reader_pair reader.old ≡ N.made.pair }
+    requires receipt_pair { receipt_pair handed.receipt ≡ N.made.pair }
+    ensures pair { reader_pair reader.new ≡ N.made.pair }
+    ensures learnt { result.handed < length (seen_by reader.new) }
+    ensures on { GoesOn (seen_by reader.old) (seen_by reader.new) }
+    ensures number { result.number ≡ handed.number }
+    ensures conn { conn_as S.state O.state D.state T.state result.conn ≡ conn_as S.state O.state D.state T.state handed.conn }
 {
     let Handed {
         number,
@@ -140,7 +174,11 @@ fn served<N: Making, R: Threads + Sync, S: Source, O: Sink, D: Dialer, T: Clock>
     } = handed;
     let handed = receipt.snapshot().number;
     reader.learn(receipt);
-    served_by(alloc, way, reader, number, handed, conn)
+    Task {
+        number,
+        handed,
+        conn,
+    }
 }
 
 impl<N: Making, F: Files, A: Doors, E: Sink> Shared<N, F, A, E> {
@@ -202,23 +240,30 @@ impl<N: Making, F: Files, A: Doors, E: Sink> Shared<N, F, A, E> {
     }
 }
 
-/// Takes the next connection from a desk that others use too.
+/// Takes the next connection from a desk that others use too, and learns its receipt.
 fn take<N: Making, F: Files, A: Doors, E: Sink, R: Wait>(
     rt: &R,
     shared: &Mutex<Shared<N, F, A, E>>,
     mine: &mut Share<N>,
-) -> Next<A::In, A::Out, A::Dial, A::Time>
+    reader: &mut ConfigReader<Config>,
+) -> Option<Task<A::In, A::Out, A::Dial, A::Time>>
     requires part { 0 < mine.old.parts }
+    requires pair { reader_pair reader.old ≡ N.made.pair }
     ensures parts { mine.new.parts ≡ mine.old.parts }
-    ensures conn { IfSome (handed_as A.In.state A.Out.state A.Dial.state A.Time.state result) (λ h. mine.new.amount ≡ mine.old.amount + 1) }
-    ensures nth { IfSome (handed_as A.In.state A.Out.state A.Dial.state A.Time.state result) (λ h. IsNth N.made.doors.tells N.made.doors.conns h.number h.conn) }
-    ensures pair { IfSome (handed_as A.In.state A.Out.state A.Dial.state A.Time.state result) (λ h. h.pair ≡ N.made.pair) }
-    ensures closed { IfNone (handed_as A.In.state A.Out.state A.Dial.state A.Time.state result) (mine.new.amount ≡ mine.old.amount) }
+    ensures pair { reader_pair reader.new ≡ N.made.pair }
+    ensures on { GoesOn (seen_by reader.old) (seen_by reader.new) }
+    ensures counted { IfSome result (λ _. mine.new.amount ≡ mine.old.amount + 1) }
+    ensures closed { IfNone result (mine.new.amount ≡ mine.old.amount) }
+    ensures nth { IfSome result (λ task. IsNth N.made.doors.tells N.made.doors.conns task.number (conn_as A.In.state A.Out.state A.Dial.state A.Time.state task.conn)) }
+    ensures learnt { IfSome result (λ task. task.handed < length (seen_by reader.new)) }
 {
     let mut desk = shared.lock(rt);
     let next = desk.next(rt, mine);
     MutexGuard::unlock(desk);
-    next
+    match next {
+        Next::Conn(handed) => Some(task_of::<N, A::In, A::Out, A::Dial, A::Time>(reader, handed)),
+        Next::Closed(_closing) => None,
+    }
 }
 
 /// Gives a connection back to a desk that others use too.
@@ -247,28 +292,121 @@ fn give_back<N: Making, F: Files, A: Doors, E: Sink, R: Wait>(
     unreachable!()
 }
 
+/// Serves connections with one store, as long as they are handed out with its entry. Gives the first that isn't, if one comes.
+fn serve_while_stored<N: Making, F: Files, A: Doors, E: Sink, R: Threads + Wait + Sync>(
+    rt: &R,
+    alloc: Global,
+    shared: &Mutex<Shared<N, F, A, E>>,
+    share: &mut Share<N>,
+    reader: &mut ConfigReader<Config>,
+    store: &mut Store<'_>,
+    task: Task<A::In, A::Out, A::Dial, A::Time>,
+) -> Option<Task<A::In, A::Out, A::Dial, A::Time>>
+    requires part { 0 < share.old.parts }
+    requires one { share.old.amount ≡ 1 }
+    requires pair { reader_pair reader.old ≡ N.made.pair }
+    requires stored { IsStored (seen_by reader.old) store.old }
+    requires nth { IsNth N.made.doors.tells N.made.doors.conns task.number (conn_as A.In.state A.Out.state A.Dial.state A.Time.state task.conn) }
+    requires learnt { task.handed < length (seen_by reader.old) }
+    ensures parts { share.new.parts ≡ share.old.parts }
+    ensures pair { reader_pair reader.new ≡ N.made.pair }
+    ensures counted { IfSome result (λ _. share.new.amount ≡ 1) }
+    ensures closed { IfNone result (share.new.amount ≡ 0) }
+    ensures nth { IfSome result (λ task. IsNth N.made.doors.tells N.made.doors.conns task.number (conn_as A.In.state A.Out.state A.Dial.state A.Time.state task.conn)) }
+    ensures learnt { IfSome result (λ task. task.handed < length (seen_by reader.new)) }
+{
+    let mut task = task;
+    'same: for _ in rt.forever() {
+        let parted = served::<N, R, A::In, A::Out, A::Dial, A::Time>(
+            alloc,
+            &Way::AtOnce(rt),
+            store,
+            reader,
+            task,
+        );
+        give_back(rt, shared, share, reader, parted);
+        match take(rt, shared, share, reader) {
+            Some(next) => {
+                if !store.is_of(next.handed) {
+                    return Some(next);
+                }
+                task = next;
+            }
+            None => return None,
+        }
+    }
+    unreachable!()
+}
+
+/// Serves a connection, and those behind it that are handed out with the same entry, with a store of that entry. Gives the first
+/// that isn't, if one comes.
+fn serve_entry<N: Making, F: Files, A: Doors, E: Sink, R: Threads + Wait + Sync>(
+    rt: &R,
+    alloc: Global,
+    shared: &Mutex<Shared<N, F, A, E>>,
+    share: &mut Share<N>,
+    reader: &mut ConfigReader<Config>,
+    task: Task<A::In, A::Out, A::Dial, A::Time>,
+) -> Option<Task<A::In, A::Out, A::Dial, A::Time>>
+    requires part { 0 < share.old.parts }
+    requires one { share.old.amount ≡ 1 }
+    requires pair { reader_pair reader.old ≡ N.made.pair }
+    requires nth { IsNth N.made.doors.tells N.made.doors.conns task.number (conn_as A.In.state A.Out.state A.Dial.state A.Time.state task.conn) }
+    requires learnt { task.handed < length (seen_by reader.old) }
+    ensures parts { share.new.parts ≡ share.old.parts }
+    ensures pair { reader_pair reader.new ≡ N.made.pair }
+    ensures counted { IfSome result (λ _. share.new.amount ≡ 1) }
+    ensures closed { IfNone result (share.new.amount ≡ 0) }
+    ensures nth { IfSome result (λ task. IsNth N.made.doors.tells N.made.doors.conns task.number (conn_as A.In.state A.Out.state A.Dial.state A.Time.state task.conn)) }
+    ensures learnt { IfSome result (λ task. task.handed < length (seen_by reader.new)) }
+{
+    let number = reader.current().number;
+    match reader.owner() {
+        Ok(owner) => {
+            let mut store = Store::new(alloc, number, &owner);
+            serve_while_stored(rt, alloc, shared, share, reader, &mut store, task)
+        }
+        Err(CountFull) => {
+            let mut store = Store::Wanting;
+            serve_while_stored(rt, alloc, shared, share, reader, &mut store, task)
+        }
+    }
+}
+
 /// Serves one connection after another, until no more come.
+fn serve_each<N: Making, F: Files, A: Doors, E: Sink, R: Threads + Wait + Sync>(
+    rt: &R,
+    alloc: Global,
+    shared: &Mutex<Shared<N, F, A, E>>,
+    share: &mut Share<N>,
+    reader: &mut ConfigReader<Config>,
+)
+    requires part { 0 < share.old.parts }
+    requires idle { share.old.amount ≡ 0 }
+    requires pair { reader_pair reader.old ≡ N.made.pair }
+    ensures parts { share.new.parts ≡ share.old.parts }
+    ensures idle { share.new.amount ≡ 0 }
+    ensures pair { reader_pair reader.new ≡ N.made.pair }
+{
+    let mut next = take(rt, shared, share, reader);
+    'more: for _ in rt.forever() {
+        match next {
+            Some(task) => next = serve_entry(rt, alloc, shared, share, reader, task),
+            None => return,
+        }
+    }
+    unreachable!()
+}
+
+/// Lets a worker serve until no more connections come.
 fn work<N: Making, F: Files, A: Doors, E: Sink, R: Threads + Wait + Sync>(
     rt: &R,
     alloc: Global,
     shared: &Mutex<Shared<N, F, A, E>>,
     worker: &mut Worker<N>,
 ) {
-    'more: for _ in rt.forever() {
-        let Worker { share, reader } = worker;
-        match take(rt, shared, share) {
-            Next::Conn(handed) => {
-                let parted = served::<N, R, A::In, A::Out, A::Dial, A::Time>(
-                    alloc,
-                    &Way::AtOnce(rt),
-                    reader,
-                    handed,
-                );
-                give_back(rt, shared, share, reader, parted);
-            }
-            Next::Closed(_closing) => return,
-        }
-    }
+    let Worker { share, reader } = worker;
+    serve_each(rt, alloc, shared, share, reader);
 }
 
 /// A worker for each reader.

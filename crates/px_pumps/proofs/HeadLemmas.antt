@@ -1,9 +1,9 @@
 -- What was read of the heads of an answer is what its bytes show.
-use Rattle.std.proofs.Common.{◌≡◌, ℕ, zero, suc, ◌+◌, ◌-◌, ◌<◌, ◌≤◌, ◌↔◌, ◌⊎◌, true, false, List, [], ◌++◌, length, take, drop, drop-drop, Option, Some, None, Result, Ok, Err, sym, ◌∙◌, refl, subst, arith, inl, inr, append_assoc, length-drop}
+use Rattle.std.proofs.Common.{◌≡◌, ℕ, zero, suc, ◌+◌, ◌-◌, ◌<◌, ◌≤◌, nat_lt, ◌↔◌, ◌⊎◌, true, false, List, [], ◌++◌, length, take, drop, drop-drop, Option, Some, None, Result, Ok, Err, sym, ◌∙◌, refl, subst, arith, inl, inr, append_assoc, length-drop}
 use Rattle.std.proofs.lemmas.List.{take-append-le, drop-append-le, length-take-le}
 use Rattle.px_head.specs.declared.TheConstants.{HEAD_LIMIT}
 use Rattle.px_head.specs.Blocks.{head_end, block_len, block_of, lines_of}
-use Rattle.px_head.specs.Heads.{IsResponse}
+use Rattle.px_head.specs.Heads.{IsResponse, is_interim}
 use Rattle.px_head.specs.Searches.{BeginsSearched, Searched}
 use Rattle.px_head.specs.Faults.{IsReadAs}
 use Rattle.px_head.specs.declared.searches.HeadSearch.{HeadSearch}
@@ -14,7 +14,7 @@ use Rattle.px_head.specs.declared.responses.ResponseHead.{ResponseHead}
 use Rattle.px_framing.specs.declared.rules.BodyRule.{BodyRule}
 use Rattle.px_pumps.specs.declared.heads.HeadRead.{HeadRead}
 use Rattle.px_pumps.specs.declared.heads.HeadRead.TheVariants as read
-use Rattle.px_pumps.specs.Answering.{Seen, Waiting, Bad, Good, Reads, Shows, ShowsRead, ShowsBlock, is_interim, seen_final}
+use Rattle.px_pumps.specs.Answering.{Seen, Waiting, Bad, Good, Reads, Shows, ShowsRead, ShowsBlock, seen_final}
 use Rattle.px_pumps.specs.Heads.{ShowsOnly, Leads, IsWaiting, seen_of, IsFinal, EndsBehind, BlockShows, HeadShows, ReadsHead, AtHead, Waits, heads_room}
 
 -- one reading of a block is its only one
@@ -164,10 +164,16 @@ leads_more n m method bytes rest piece l more seen = rw (append_assoc rest piece
 pub leads_self : (n : ℕ) (method bytes : List ℕ) → Leads n method bytes n bytes
 leads_self n method bytes more seen = (λ s. s, λ s. s)
 
--- no bytes
-nothing_waits : (held : List ℕ) → held ≡ [] → IsWaiting held
+-- no bytes, by whatever limit but 0: at a limit as large as that of a head it would be computed step by step
+none_ends : (less : ℕ) → nat_lt 0 (suc less) ≡ true → head_end (suc less) [] ≡ end.NotYet
 unfolding head_end block_len block_of lines_of
-nothing_waits held e = rw e (refl, omega arith)
+none_ends less h = rw h refl
+
+some_within : (limit : ℕ) → 0 < limit → length {A = ℕ} [] < limit
+some_within limit h = h
+
+nothing_waits : (held : List ℕ) → held ≡ [] → IsWaiting held
+nothing_waits held e = rw e (none_ends 131071 refl, some_within HEAD_LIMIT (omega arith))
 
 -- a search that has looked at none
 pub nothing_searched : (held : List ℕ) (search : HeadSearch) → held ≡ [] → ((limit : ℕ) → Searched limit [] search) → IsWaiting held × Searched HEAD_LIMIT held search

@@ -1,11 +1,11 @@
 -- Answering: what an origin's answer becomes for the client (RFC 9110, section 15.2; RFC 9112, section 6.3).
-use Rattle.std.specs.Prelude.{◌≡◌, ℕ, zero, suc, Bool, not, ◌&&◌, ◌==◌, nat_le, if◌then◌else◌, MatchBool, List, take, drop, Option, Some, None, Result, Ok, Err}
+use Rattle.std.specs.Prelude.{◌≡◌, ℕ, zero, suc, Bool, ◌==◌, if◌then◌else◌, MatchBool, List, take, drop, Option, Some, None, Result, Ok, Err}
 use Rattle.px_head.specs.declared.TheConstants.{HEAD_LIMIT}
 use Rattle.px_head.specs.declared.responses.ResponseHead.{ResponseHead}
 use Rattle.px_head.specs.declared.blocks.HeadEnd.{HeadEnd}
 use Rattle.px_head.specs.declared.blocks.HeadEnd.TheVariants as end
 use Rattle.px_head.specs.Blocks.{head_end}
-use Rattle.px_head.specs.Heads.{IsResponse}
+use Rattle.px_head.specs.Heads.{IsResponse, is_interim}
 use Rattle.px_framing.specs.Rules.{response_rule}
 use Rattle.px_framing.specs.declared.rules.BodyRule.{BodyRule}
 use Rattle.px_framing.specs.declared.rules.BodyFault.{BodyFault}
@@ -56,10 +56,6 @@ pub data Seen : Type 0 where
 abbrev pub Reads : List ℕ → Option ResponseHead → Type 0
 Reads block (Some head) = IsResponse block head
 Reads block None = (head : ResponseHead) → ¬ (IsResponse block head)
-
--- a head of this status comes before the answer's own: 1xx but 101, which changes the protocol
-abbrev pub is_interim : ℕ → Bool
-is_interim status = nat_le 100 status && nat_le status 199 && not (status == 101)
 
 abbrev pub seen_by : ResponseHead → Result BodyRule BodyFault → List ℕ → Seen
 seen_by head (Ok r) rest = Good head r rest

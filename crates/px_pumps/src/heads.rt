@@ -1,12 +1,12 @@
 // Reads the heads of an answer: the interim ones, and its own.
 ghost use Rattle.std.specs.Prelude.{◌≡◌, ◌&&◌, ◌==◌, ℕ, List, [], length, IfOk};
 ghost use Rattle.px_head.specs.Searches.{BeginsSearched, Searched};
-ghost use Rattle.px_pumps.specs.Answering.{Seen, is_interim, seen_final};
+ghost use Rattle.px_pumps.specs.Answering.{Seen, seen_final};
 ghost use Rattle.px_pumps.specs.Heads.{BlockShows, EndsBehind, IsFinal, ReadsHead, ReadsHeads, seen_of};
 
 use px_base::Mem;
 use px_framing::{BodyRule, response_body};
-use px_head::{HEAD_LIMIT, HeadEnd, HeadFault, HeadSearch, ResponseHead};
+use px_head::{HEAD_LIMIT, HeadEnd, HeadFault, HeadSearch, ResponseHead, is_interim};
 use std::alloc::Global;
 
 /// What the bytes of an answer show of the head at their front.
@@ -45,13 +45,6 @@ pub enum HeadsRead {
         rule: BodyRule,
         from: usize,
     },
-}
-
-/// Whether a head of this status comes before the answer's own (RFC 9110, section 15.2).
-fn is_interim(status: u16) -> bool
-    ensures { result ≡ is_interim status }
-{
-    100 <= status && status <= 199 && status != 101
 }
 
 /// What a head is that isn't an interim one.

@@ -1,11 +1,12 @@
 -- The store that a session keeps.
 use Rattle.std.specs.Prelude.{unwrap_or}
-use Rattle.std.proofs.Common.{◌≡◌, ℕ, ◌+◌, List, length, slice_get, Some, sym, ap, ◌∙◌}
+use Rattle.std.proofs.Common.{◌≡◌, ℕ, ◌+◌, List, length, slice_get, Some, refl, sym, ap, ◌∙◌}
 use Rattle.px_config.specs.declared.configs.Config.{Config}
-use Rattle.px_config.specs.declared.warm.Warm.{Warm}
 use Rattle.px_publish.specs.Views.{GoesOn, IsLast}
 use Rattle.px_serve.specs.declared.keeping.Kept.{Kept}
-use Rattle.px_serve.specs.Keeping.{IsKept, IsStoreOf}
+use Rattle.px_serve.specs.declared.keeping.Store.{Store}
+use Rattle.px_serve.specs.declared.keeping.Store.TheVariants as store
+use Rattle.px_serve.specs.Keeping.{IsKept, IsStored, IsStoreOf, OfEntry}
 
 -- entries may have come behind that one
 pub kept_on : (view view' : List Config) (kept kept' : Kept) → GoesOn view view' → kept'.number ≡ kept.number
@@ -27,8 +28,13 @@ store_of view view' kept number config on h entry e =
     let same : h.config ≡ config = same_entry h.config config (sym (on.stands kept.number h.config h.entry) ∙ ap (λ (n : ℕ). slice_get view' n) e ∙ entry) in
     record { sections = h.store.sections ∙ ap (λ (x : Config). x.sections) same; filters = h.store.filters ∙ ap (λ (x : Config). x.filters) same }
 
+-- the same of a store that there may be
+pub stored_on : (view view' : List Config) (s : Store) → GoesOn view view' → IsStored view s → IsStored view' s
+stored_on view view' (store.Of kept) on h = kept_on view view' kept kept on refl refl refl h
+stored_on view view' store.Wanting on h = tt
+
 -- a store of the entry that is held
-pub kept_new : (view : List Config) (number : ℕ) (config : Config) (warm : Warm) → length view ≡ number + 1 → IsLast view config
-    → warm.sections ≡ config.sections → warm.filters ≡ config.filters → IsKept view (record { number = number; warm = warm })
-kept_new view number config warm count last sections filters =
-    record { config = config; entry = last number count; store = record { sections = sections; filters = filters } }
+pub stored_new : (view : List Config) (number : ℕ) (config : Config) (s : Store) → length view ≡ number + 1 → IsLast view config → OfEntry number config s → IsStored view s
+stored_new view number config (store.Of kept) count last h =
+    record { config = config; entry = rw h.0 (last number count); store = h.1 }
+stored_new view number config store.Wanting count last h = tt

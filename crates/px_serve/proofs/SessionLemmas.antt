@@ -154,9 +154,10 @@ serves_to {n = n} {first = first} {i1 = i1} {i2 = i2} {ahead = ahead} {ahead' = 
   };
 }
 
--- no room for the notes
-pub serves_none : {caller : Caller} {looks : Looks} {i : SourceState} {o : Objects} (notes : List ExchangeNote) → notes ≡ [] → Serves caller looks looks i i o o notes end.NoMemory
-serves_none {looks = looks} {i = i} {o = o} notes e = record {
+-- memory was wanting before anything was read: nothing was dialled or returned, whether the client's sink was finished or not
+pub serves_none : {caller : Caller} {looks : Looks} {i : SourceState} {o : Objects} (out : SinkState) (notes : List ExchangeNote) → notes ≡ [] → out.taken ≡ o.client_out.taken
+    → Serves caller looks looks i i o (record { client_out = out; dialer = o.dialer; clock = o.clock }) notes end.NoMemory
+serves_none {looks = looks} {i = i} {o = o} out notes e same = record {
   begun = [];
   notes_are = e;
   noted = none_noted looks o.clock;
@@ -165,6 +166,6 @@ serves_none {looks = looks} {i = i} {o = o} notes e = record {
     middle = begin i.left o.dialer o.client_out.taken;
     rest = i.left;
     reached = refl;
-    ended = inl (record { undialled = refl; unreturned = refl; unbegun = refl; why = tt });
+    ended = inl (record { undialled = refl; unreturned = same; unbegun = refl; why = tt });
   };
 }

@@ -1,14 +1,14 @@
-// The store that a session keeps from request to request.
-ghost use Rattle.std.specs.Prelude.{◌≡◌, ◌++◌, IsTrue};
+// The store that a session keeps from request to request, and a worker from session to session.
+ghost use Rattle.std.specs.Prelude.{◌≡◌, ◌↔◌, ◌++◌, IsTrue, Some};
 ghost use Rattle.px_base.specs.Dials.{DialerGoesOn};
 ghost use Rattle.px_base.specs.Sinks.{SinkGoesOn};
 ghost use Rattle.px_base.specs.Sources.{SourceGoesOn};
 ghost use Rattle.px_exchange.specs.Causes.{ReadCause, StaysOpen, WriteCause};
 ghost use Rattle.px_exchange.specs.Exchange.{Answers};
-ghost use Rattle.px_serve.specs.Keeping.{IsStoreOf};
+ghost use Rattle.px_serve.specs.Keeping.{IsStoreOf, OfEntry, number_of};
 
-use px_base::{Dialer, Sink, Source};
-use px_config::Warm;
+use px_base::{Dialer, Mem, Sink, Source};
+use px_config::{Config, Warm};
 use px_exchange::{Conclusion, Handed, answer_cold, answer_request};
 use px_streams::Ahead;
 use px_ways::Way;
@@ -20,6 +20,36 @@ use std::thread::Threads;
 pub struct Kept<'c> {
     pub number: u64,
     pub warm: Warm<'c>,
+}
+
+/// The store with which sessions are served, if there was memory for one.
+#[derive(Drop)]
+pub enum Store<'c> {
+    Of(Kept<'c>),
+    /// Memory was wanting: a session that is served with it ends so, before anything is read.
+    Wanting,
+}
+
+impl<'c> Store<'c> {
+    /// A store of the configuration of the entry with that number.
+    pub fn new(alloc: Global, number: u64, config: &'c Config) -> Store<'c>
+        ensures { OfEntry number config.now result }
+    {
+        match config.warm(alloc) {
+            Ok(warm) => Store::Of(Kept { number, warm }),
+            Err(Mem) => Store::Wanting,
+        }
+    }
+
+    /// Whether it is the store of the entry with that number.
+    pub fn is_of(&self, number: u64) -> bool
+        ensures { IsTrue result ↔ (number_of self.now ≡ Some number) }
+    {
+        match self {
+            Store::Of(kept) => kept.number == number,
+            Store::Wanting => false,
+        }
+    }
 }
 
 /// Answers the request of an entry with that number: with the store kept where it is of that entry, and else with one of its own.

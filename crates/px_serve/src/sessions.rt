@@ -4,12 +4,12 @@ ghost use Rattle.px_base.specs.Sources.{SourceGoesOn};
 ghost use Rattle.px_publish.specs.Views.{Entry};
 ghost use Rattle.px_serve.specs.Ends.{end_of_bytes, ReadEndCause, WriteEndCause, ReadTurnCause, StaysOpen, TurnStaysOpen, WriteTurnCause};
 ghost use Rattle.px_serve.specs.Histories.{Looks};
-ghost use Rattle.px_serve.specs.Keeping.{IsKept};
+ghost use Rattle.px_serve.specs.Keeping.{IsKept, IsStored};
 ghost use Rattle.px_serve.specs.Sessions.{Caller, Objects, Lasts, Begins, Turned, Serves};
 
 use crate::ends::{REQUEST_LIMIT, SessionEnd, end_after, is_empty_lines};
-use crate::keeping::{Kept, answer};
-use px_base::{Clock, Dialer, List, Mem, Peer, Sink, Source, Text};
+use crate::keeping::{Kept, Store, answer};
+use px_base::{Clock, Dialer, List, Peer, Sink, Source, Text};
 use px_exchange::{Config, ExchangeNote, Handed, HeadSeen};
 use px_head::HEAD_LIMIT;
 use px_publish::{Configs, CountFull};
@@ -244,6 +244,7 @@ where
         notes.new.items result }
     ensures read_cause { ReadEndCause (S.state client_in.old) (S.state client_in.new) result }
     ensures write_cause { WriteEndCause (O.state client_out.old) (O.state client_out.new) result }
+    ensures kept { IsKept (K.view configs.new) kept.new }
     ensures open { StaysOpen (O.state client_out.old) (O.state client_out.new) result }
     ensures in_goes_on { SourceGoesOn (S.state client_in.old) (S.state client_in.new) }
     ensures lasts { Lasts
@@ -263,63 +264,13 @@ where
     }
 }
 
-/// Serves with a store of the entry that is held as the session begins. Without memory for the store nothing is read.
-fn serve_kept<R, K, S, O, D, T>(
-    alloc: Global,
-    way: &Way<'_, R>,
-    client: &Client<'_>,
-    configs: &mut K,
-    client_in: &mut S,
-    client_out: &mut O,
-    dialer: &mut D,
-    clock: &mut T,
-    notes: &mut Vec<ExchangeNote>,
-) -> SessionEnd
-where
-    R: Threads + Sync,
-    K: Configs<Held = Config>,
-    S: Source,
-    O: Sink,
-    D: Dialer,
-    T: Clock,
-    requires none { notes.old.items ≡ [] }
-    requires room { REQUEST_LIMIT ≤ vec_capacity notes.old }
-    ensures serves { Serves (record { tags = client.now.tags.now; peer = client.now.peer.now.address })
-        (record { tells = K.tells; view = K.view configs.old; pair = K.pair configs.old; coming = K.coming configs.old })
-        (record { tells = K.tells; view = K.view configs.new; pair = K.pair configs.new; coming = K.coming configs.new })
-        (S.state client_in.old) (S.state client_in.new)
-        (record { client_out = O.state client_out.old; dialer = D.state dialer.old; clock = T.state clock.old })
-        (record { client_out = O.state client_out.new; dialer = D.state dialer.new; clock = T.state clock.new })
-        notes.new.items result }
-    ensures read_cause { ReadEndCause (S.state client_in.old) (S.state client_in.new) result }
-    ensures write_cause { WriteEndCause (O.state client_out.old) (O.state client_out.new) result }
-    ensures open { StaysOpen (O.state client_out.old) (O.state client_out.new) result }
-    ensures in_goes_on { SourceGoesOn (S.state client_in.old) (S.state client_in.new) }
-    ensures lasts { Lasts
-        (record { client_out = O.state client_out.old; dialer = D.state dialer.old; clock = T.state clock.old })
-        (record { client_out = O.state client_out.new; dialer = D.state dialer.new; clock = T.state clock.new }) }
-{
-    let number = configs.current().number;
-    match configs.owner() {
-        Ok(owner) => match owner.warm(alloc) {
-            Ok(warm) => {
-                let mut kept = Kept { number, warm };
-                serve(
-                    alloc, way, client, &mut kept, configs, client_in, client_out, dialer, clock,
-                    notes,
-                )
-            }
-            Err(Mem) => SessionEnd::NoMemory,
-        },
-        Err(CountFull) => SessionEnd::NoMemory,
-    }
-}
-
-/// Takes room for the notes and serves. The client's sink is left open.
+/// Takes room for the notes and serves, with a store of an entry that the configurations have had. The client's sink is left
+/// open.
 fn serve_noted<R, K, S, O, D, T>(
     alloc: Global,
     way: &Way<'_, R>,
     client: &Client<'_>,
+    kept: &mut Kept<'_>,
     configs: &mut K,
     client_in: &mut S,
     client_out: &mut O,
@@ -333,6 +284,7 @@ where
     O: Sink,
     D: Dialer,
     T: Clock,
+    requires kept { IsKept (K.view configs.old) kept.old }
     ensures serves { Serves (record { tags = client.now.tags.now; peer = client.now.peer.now.address })
         (record { tells = K.tells; view = K.view configs.old; pair = K.pair configs.old; coming = K.coming configs.old })
         (record { tells = K.tells; view = K.view configs.new; pair = K.pair configs.new; coming = K.coming configs.new })
@@ -342,6 +294,7 @@ where
         result.exchanges result.end }
     ensures read_cause { ReadEndCause (S.state client_in.old) (S.state client_in.new) result.end }
     ensures write_cause { WriteEndCause (O.state client_out.old) (O.state client_out.new) result.end }
+    ensures kept { IsKept (K.view configs.new) kept.new }
     ensures open { StaysOpen (O.state client_out.old) (O.state client_out.new) result.end }
     ensures in_goes_on { SourceGoesOn (S.state client_in.old) (S.state client_in.new) }
     ensures lasts { Lasts
@@ -350,8 +303,8 @@ where
 {
     match Vec::with_capacity(alloc, REQUEST_LIMIT as usize) {
         Ok(mut notes) => {
-            let end = serve_kept(
-                alloc, way, client, configs, client_in, client_out, dialer, clock, &mut notes,
+            let end = serve(
+                alloc, way, client, kept, configs, client_in, client_out, dialer, clock, &mut notes,
             );
             Session {
                 exchanges: List::from_vec(notes),
@@ -365,8 +318,65 @@ where
     }
 }
 
-/// Serves one connection: its requests one after the other, up to `REQUEST_LIMIT`. Before anything is read, room for the notes
-/// is taken. Whatever the end, the client's sink is finished behind it.
+/// Serves one connection as `serve_connection` does, with a store of an entry that the configurations have had: where it is the
+/// one that a request looks up, the request is answered with it. A worker so keeps its store from connection to connection.
+pub fn serve_stored<R, K, S, O, D, T>(
+    alloc: Global,
+    way: &Way<'_, R>,
+    store: &mut Store<'_>,
+    configs: &mut K,
+    client_in: &mut S,
+    client_out: &mut O,
+    dialer: &mut D,
+    clock: &mut T,
+    peer: &Peer,
+    tags: &[Text],
+) -> Session
+where
+    R: Threads + Sync,
+    K: Configs<Held = Config>,
+    S: Source,
+    O: Sink,
+    D: Dialer,
+    T: Clock,
+    requires stored { IsStored (K.view configs.old) store.old }
+    ensures serves { Serves (record { tags = tags.now; peer = peer.now.address })
+        (record { tells = K.tells; view = K.view configs.old; pair = K.pair configs.old; coming = K.coming configs.old })
+        (record { tells = K.tells; view = K.view configs.new; pair = K.pair configs.new; coming = K.coming configs.new })
+        (S.state client_in.old) (S.state client_in.new)
+        (record { client_out = O.state client_out.old; dialer = D.state dialer.old; clock = T.state clock.old })
+        (record { client_out = O.state client_out.new; dialer = D.state dialer.new; clock = T.state clock.new })
+        result.exchanges result.end }
+    ensures read_cause { ReadEndCause (S.state client_in.old) (S.state client_in.new) result.end }
+    ensures write_cause { WriteEndCause (O.state client_out.old) (O.state client_out.new) result.end }
+    ensures finished { IsTrue (O.state client_out.old).tells → IsTrue (O.state client_out.new).finished }
+    ensures in_goes_on { SourceGoesOn (S.state client_in.old) (S.state client_in.new) }
+    ensures lasts { Lasts
+        (record { client_out = O.state client_out.old; dialer = D.state dialer.old; clock = T.state clock.old })
+        (record { client_out = O.state client_out.new; dialer = D.state dialer.new; clock = T.state clock.new }) }
+    ensures stored { IsStored (K.view configs.new) store.new }
+{
+    let client = Client { tags, peer };
+    match store {
+        Store::Of(kept) => {
+            let session = serve_noted(
+                alloc, way, &client, kept, configs, client_in, client_out, dialer, clock,
+            );
+            client_out.finish();
+            session
+        }
+        Store::Wanting => {
+            client_out.finish();
+            Session {
+                exchanges: List::new(alloc),
+                end: SessionEnd::NoMemory,
+            }
+        }
+    }
+}
+
+/// Serves one connection: its requests one after the other, up to `REQUEST_LIMIT`. Before anything is read, a store of the entry
+/// that is held is made, and room for the notes is taken. Whatever the end, the client's sink is finished behind it.
 pub fn serve_connection<R, K, S, O, D, T>(
     alloc: Global,
     way: &Way<'_, R>,
@@ -400,10 +410,19 @@ where
         (record { client_out = O.state client_out.old; dialer = D.state dialer.old; clock = T.state clock.old })
         (record { client_out = O.state client_out.new; dialer = D.state dialer.new; clock = T.state clock.new }) }
 {
-    let client = Client { tags, peer };
-    let session = serve_noted(
-        alloc, way, &client, configs, client_in, client_out, dialer, clock,
-    );
-    client_out.finish();
-    session
+    let number = configs.current().number;
+    match configs.owner() {
+        Ok(owner) => {
+            let mut store = Store::new(alloc, number, &owner);
+            serve_stored(
+                alloc, way, &mut store, configs, client_in, client_out, dialer, clock, peer, tags,
+            )
+        }
+        Err(CountFull) => {
+            let mut store = Store::Wanting;
+            serve_stored(
+                alloc, way, &mut store, configs, client_in, client_out, dialer, clock, peer, tags,
+            )
+        }
+    }
 }

@@ -1,5 +1,5 @@
 // A dialer over TCP.
-ghost use Rattle.std.specs.Prelude.{◌≡◌, ◌≢◌, ◌↔◌, Err, true, false, IfOk};
+ghost use Rattle.std.specs.Prelude.{◌≡◌, ◌≢◌, ◌↔◌, Err, true, false, IfErr, IfOk};
 ghost use Rattle.std.specs.IoError.{error_kind};
 ghost use Rattle.std.specs.Net.Grammar.{IsIpText};
 ghost use Rattle.std.specs.Str.{is_utf8};
@@ -81,17 +81,21 @@ fn name_fault(error: &io::Error) -> DialFault
 }
 
 /// A stream to the first of these addresses that answers, within the time that is left. Each that others follow is tried for as
-/// long as the times grant one address.
+/// long as the times grant one address. Its one refusal is that none was reached.
 pub fn connect_in_turn<R: Net<Listener = TcpListener, Stream = TcpStream> + rt::Clock>(
     rt: &R,
     times: &Times,
     left: Duration,
     mut addresses: HostAddrs,
-) -> Option<TcpStream> {
+) -> Result<TcpStream, DialFault>
+    ensures refusal { IfErr result (λ fault. fault ≡ DialFault.NotReached) }
+{
     let began = now_millis(rt);
     let mut next = addresses.next();
     for _ in 0..u64::MAX {
-        let address = next?;
+        let Some(address) = next else {
+            return Err(DialFault::NotReached);
+        };
         next = addresses.next();
         let left = left.saturating_sub(between(began, now_millis(rt)));
         let wait = if next.is_some() {
@@ -100,13 +104,13 @@ pub fn connect_in_turn<R: Net<Listener = TcpListener, Stream = TcpStream> + rt::
             left
         };
         if wait.is_zero() {
-            return None;
+            return Err(DialFault::NotReached);
         }
         if let Ok(stream) = rt.connect_timeout(address, wait) {
-            return Some(stream);
+            return Ok(stream);
         }
     }
-    None
+    Err(DialFault::NotReached)
 }
 
 /// A link to the first address of a host that answers in time. An address in text isn't looked up, and a host that isn't UTF-8
@@ -132,9 +136,7 @@ fn connect<'r>(
         Err(error) => return Err(name_fault(&error)),
     };
     let left = times.dial.saturating_sub(between(began, now_millis(rt)));
-    let Some(stream) = connect_in_turn(rt, &times, left, addresses) else {
-        return Err(DialFault::NotReached);
-    };
+    let stream = connect_in_turn(rt, &times, left, addresses)?;
     match both_ends(alloc, rt, times, Side::Link, stream, mark) {
         Ok(ends) => Ok(ends),
         Err(EndsFault::Failed) => Err(DialFault::NotReached),

@@ -7,10 +7,10 @@ use Rattle.px_proxy.proofs.workers.served.Goals as goal
 
 pub returns-clause-served : goal.returns-clause-served
 returns-clause-served g c =
-    let conn = conn_as g.S.Source.state g.O.Sink.state g.D.Dialer.state g.T.Clock.state c.args.handed.conn in
+    let conn = conn_as g.S.Source.state g.O.Sink.state g.D.Dialer.state g.T.Clock.state c.args.task.conn in
     record {
       conn = conn;
       is_nth = subst (λ (n : ℕ). IsNth g.N.Making.made.doors.tells g.N.Making.made.doors.conns n conn) (sym c.served_by.ensures.number) c.requires.nth;
       served = serves_conn _ _ _ _ _ c.served_by.ensures.served ([], append-nil (seen_by c.served_by.new.configs))
-          (omega (arith, c.learn.ensures.heard.longer, c.snapshot-handed.ensures.number, c.served_by.ensures.handed));
+          (omega (arith, c.requires.learnt, c.served_by.ensures.handed));
     }

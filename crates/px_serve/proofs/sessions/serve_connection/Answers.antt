@@ -1,7 +1,6 @@
-use Rattle.px_base.proofs.SinkLemmas.{sink_goes_on}
+use Rattle.px_serve.proofs.KeepingLemmas.{stored_new}
 use Rattle.px_serve.proofs.sessions.serve_connection.Goals as goal
 
-pub returns-clause-lasts : goal.returns-clause-lasts
-returns-clause-lasts g c =
-    let lasts = c.serve_noted-session.ensures.lasts in
-    record { client_out = sink_goes_on lasts.client_out c.finish.ensures.goes_on; dialer = lasts.dialer; clock = lasts.clock }
+pub serve_stored-requires-clause-stored : goal.serve_stored-requires-clause-stored
+serve_stored-requires-clause-stored g c κs within =
+    stored_new (g.K.Configs.view c.args.configs.now) c.current-number.result.number _ _ c.current-number.ensures.number c.in-Ok.ensures (rw c.deref.ensures at c.new-store.ensures)
