@@ -1,0 +1,199 @@
+-- A session over links whose sources offer just what was heard.
+use Rattle.std.proofs.Common.{◌≡◌, ◌≢◌, ◌⊎◌, inl, inr, ℕ, zero, suc, Bool, true, false, List, [], ◌∷◌, ◌++◌, if◌then◌else◌, sym, ap, refl, subst, ◌∙◌, append-nil, Some, None}
+use Rattle.std.specs.List.{AllByRecursion}
+use Rattle.px_base.specs.Dials.{DialerState}
+use Rattle.px_base.specs.declared.dials.Dial.{Dial}
+use Rattle.px_base.specs.declared.dials.DialOutcome.{DialOutcome}
+use Rattle.px_base.specs.declared.dials.DialOutcome.TheVariants as outcome
+use Rattle.px_base.specs.declared.dials.LinkSeen.{LinkSeen}
+use Rattle.px_decide.specs.declared.routes.Route.{Route}
+use Rattle.px_templates.specs.declared.pages.Page.{Page}
+use Rattle.px_sending.specs.declared.messages.Message.{Message}
+use Rattle.px_sending.specs.declared.messages.Sent.{Sent}
+use Rattle.px_sending.specs.declared.messages.Sent.TheVariants as sent
+use Rattle.px_config.specs.declared.configs.Config.{Config}
+use Rattle.px_judging.specs.Given.{Given}
+use Rattle.px_judging.specs.declared.judgements.Judgement.{Judgement}
+use Rattle.px_judging.specs.declared.judgements.Judgement.TheVariants as judgement
+use Rattle.px_judging.specs.declared.judgements.TunnelPlan.{TunnelPlan}
+use Rattle.px_pool_ends.specs.Answers.{IsAnswer}
+use Rattle.px_pumps.specs.Answering.{Ask, Answered}
+use Rattle.px_pumps.specs.Returning.{broken}
+use Rattle.px_pumps.specs.declared.dues.Due.{Due}
+use Rattle.px_pumps.specs.declared.notes.After.TheVariants as after
+use Rattle.px_pumps.specs.declared.notes.Conclusion.{Conclusion}
+use Rattle.px_pumps.specs.declared.notes.Ending.TheVariants as ending
+use Rattle.px_exchange.specs.Dialling.{DialsOnce, OutcomeCause}
+use Rattle.px_exchange.specs.Exchange.{Answers, Does, asking, tunnel_page_due}
+use Rattle.px_exchange.specs.Forwarding.{Client, Says, Follows, Forwards, concluded}
+use Rattle.px_exchange.specs.Tunnels.{Tunnels, TunnelsOver}
+use Rattle.px_serve.specs.declared.ends.SessionEnd.{SessionEnd}
+use Rattle.px_serve.specs.declared.ends.SessionEnd.TheVariants as end
+use Rattle.px_serve.specs.Ends.{end_after}
+use Rattle.px_serve.specs.Histories.{Begun}
+use Rattle.px_serve.specs.Sessions.{Caller, State, Step, Reaches, EndsSession, IsSession, is_last, given_of, begin}
+use Rattle.px_shared.specs.Links.{IsOneAnswer, HeardOne, EachAnswered, NoTunnel, offers_heard, offering_heard, with_heard}
+use Rattle.px_shared.proofs.AnswerLemmas.{answered_any}
+
+-- ---- lists
+
+-- what is so of each is so of those before the last, and of the last
+all_but_last : {A : Type 0} (P : A → Type 0) (xs ys : List A) (x : A) → ys ≡ xs ++ x ∷ [] → AllByRecursion P ys → AllByRecursion P xs × P x
+all_but_last P xs ys x e all = by xs (subst (λ zs. AllByRecursion P zs) e all)
+  where
+    by : (zs : List _) → AllByRecursion P (zs ++ x ∷ []) → AllByRecursion P zs × P x
+    by [] h = (tt, h.0)
+    by (z ∷ zs) h = let r = by zs h.1 in ((h.0, r.0), r.1)
+
+offering-append : (xs ys : List Dial) → offering_heard (xs ++ ys) ≡ offering_heard xs ++ offering_heard ys
+offering-append [] ys = refl
+offering-append (x ∷ xs) ys = ap (λ (zs : List Dial). record { host = x.host; port = x.port; outcome = offers_heard x.outcome } ∷ zs) (offering-append xs ys)
+
+-- ---- one dial
+
+-- what is due for what was offered is due for what was heard
+heard_due : (ask : Ask) (offered heard behind : List ℕ) (due : Due) → offered ≡ heard ++ behind → IsAnswer 8 heard ⊎ (behind ≡ []) → (failed : Bool)
+    → Answered ask (if failed then heard else offered) failed due → Answered ask (if failed then heard else heard) failed due
+heard_due ask offered heard behind due e w true a = a
+heard_due ask offered heard behind due e (inl w) false a = (answered_any ask heard behind false due w).0 (rw e at a)
+heard_due ask offered heard behind due e (inr none) false a = rw (e ∙ ap (λ (bs : List ℕ). heard ++ bs) none ∙ append-nil heard) at a
+
+-- a link as it is heard
+abbrev as_heard : LinkSeen → LinkSeen
+as_heard seen = record { offered = seen.heard; heard = seen.heard; sent = seen.sent; read_failed = seen.read_failed; write_failed = seen.write_failed }
+
+follows_heard : (ask : Ask) (says : Says) (seen : LinkSeen) (mid : List ℕ) (how : Sent) → IsOneAnswer seen → Follows ask says seen mid how → Follows ask says (as_heard seen) mid how
+follows_heard ask says seen mid sent.Whole w h = record { due = h.due; is_due = heard_due ask seen.offered seen.heard w.behind h.due w.offered w.whole seen.read_failed h.is_due; is_so = h.is_so }
+follows_heard ask says seen mid sent.LinkFailed w h = h
+follows_heard ask says seen mid sent.Misframed w h = h
+follows_heard ask says seen mid sent.Cut w h = h
+follows_heard ask says seen mid sent.ReadFailed w h = h
+follows_heard ask says seen mid sent.WriteFailed w h = h
+follows_heard ask says seen mid sent.NoMemory w h = h
+
+forwards_heard : (ask : Ask) (route : Route) (m : Message) (c : Client) (says : Says) (taken : List ℕ) (o : DialOutcome) → HeardOne o → Forwards ask route m c says taken o → Forwards ask route m c says taken (offers_heard o)
+forwards_heard ask route m c says taken outcome.NoName w h = h
+forwards_heard ask route m c says taken outcome.NotReached w h = h
+forwards_heard ask route m c says taken (outcome.Open mark offered) w h = h
+forwards_heard ask route m c says taken (outcome.Link seen) w h = record { how = h.how; mid = h.mid; sends = h.sends; by_link = h.by_link; follows = follows_heard ask says seen h.mid h.how w h.follows }
+
+-- a tunnel that wasn't carried
+uncarried : (page_due : Page → Due) (t : TunnelPlan) (c : Client) (x : Conclusion) (taken taken' : List ℕ) (seen : LinkSeen) → x.ending ≢ ending.Tunnel
+    → TunnelsOver page_due t c (concluded taken' x) taken seen → TunnelsOver page_due t c (concluded taken' x) taken (as_heard seen)
+uncarried page_due t c x taken taken' seen n (inl h) = absurd (n (ap (λ (y : Conclusion). y.ending) h.says_so.1))
+uncarried page_due t c x taken taken' seen n (inr (inl h)) = inr (inl (record { sent = h.sent; failed = h.failed; unread = h.unread; says_so = h.says_so }))
+uncarried page_due t c x taken taken' seen n (inr (inr h)) = inr (inr (record { sent = h.sent; unfailed = h.unfailed; unread = h.unread; mid = h.mid; greeted = h.greeted; says_so = h.says_so }))
+
+tunnels_heard : (page_due : Page → Due) (t : TunnelPlan) (c : Client) (x : Conclusion) (taken taken' : List ℕ) (o : DialOutcome) → x.ending ≢ ending.Tunnel
+    → Tunnels page_due t c (concluded taken' x) taken o → Tunnels page_due t c (concluded taken' x) taken (offers_heard o)
+tunnels_heard page_due t c x taken taken' outcome.NoName n h = h
+tunnels_heard page_due t c x taken taken' outcome.NotReached n h = h
+tunnels_heard page_due t c x taken taken' (outcome.Open mark offered) n h = h
+tunnels_heard page_due t c x taken taken' (outcome.Link seen) n h = uncarried page_due t c x taken taken' seen n h
+
+cause_heard : (old new : DialerState) (o : DialOutcome) → OutcomeCause old new o → OutcomeCause (with_heard old) (with_heard new) (offers_heard o)
+cause_heard old new outcome.NoName h = h
+cause_heard old new outcome.NotReached h = h
+cause_heard old new (outcome.Open mark offered) h = h
+cause_heard old new (outcome.Link seen) h = h
+
+-- the dials before, and the one that was added
+before_last : (route : Route) (G : DialOutcome → Type 0) (old new : DialerState) → EachAnswered new.dials → (d : DialsOnce route G old new) → EachAnswered old.dials × HeardOne d.dial.outcome
+before_last route G old new all d = all_but_last (λ (x : Dial). HeardOne x.outcome) old.dials new.dials d.dial d.added all
+
+dials_heard : (route : Route) (G H : DialOutcome → Type 0) (old new : DialerState) → ((o : DialOutcome) → HeardOne o → G o → H (offers_heard o)) → EachAnswered new.dials → DialsOnce route G old new
+    → DialsOnce route H (with_heard old) (with_heard new)
+dials_heard route G H old new f all d = record {
+  dial = record { host = d.dial.host; port = d.dial.port; outcome = offers_heard d.dial.outcome };
+  added = ap offering_heard d.added ∙ offering-append old.dials (d.dial ∷ []);
+  to_host = d.to_host;
+  to_port = d.to_port;
+  gives = f d.dial.outcome (before_last route G old new all d).1 d.gives;
+  comes = λ t. absurd (cc);
+  coming_left = λ t. absurd (cc);
+  cause = cause_heard old new d.dial.outcome d.cause;
+}
+
+-- ---- one exchange
+
+-- what comes before it was answered, too, and it is the same over what was heard
+record Alone (old : DialerState) (Same : Type 0) : Type 0 where
+  pub before : EachAnswered old.dials
+  pub same : Same
+
+undialled : (old new : DialerState) → new ≡ old → EachAnswered new.dials → EachAnswered old.dials
+undialled old new e all = subst (λ (d : DialerState). EachAnswered d.dials) e all
+
+does_alone : (config : Config) (j : Judgement) (c : Client) (old new : DialerState) (taken taken' : List ℕ) (x : Conclusion) → EachAnswered new.dials → x.ending ≢ ending.Tunnel
+    → Does config j c old new taken taken' x → Alone old (Does config j c (with_heard old) (with_heard new) taken taken' x)
+does_alone config (judgement.Local reply) c old new taken taken' x all n h = record { before = undialled old new h.0 all; same = (ap with_heard h.0, h.1, h.2) }
+does_alone config (judgement.Forward plan) c old new taken taken' x all n h = record {
+  before = (before_last plan.route (Forwards (asking config plan) plan.route plan.message c (concluded taken' x) taken) old new all h).0;
+  same = dials_heard plan.route (Forwards (asking config plan) plan.route plan.message c (concluded taken' x) taken) (Forwards (asking config plan) plan.route plan.message c (concluded taken' x) taken) old new
+      (λ o w f. forwards_heard (asking config plan) plan.route plan.message c (concluded taken' x) taken o w f) all h;
+}
+does_alone config (judgement.Tunnel t) c old new taken taken' x all n h = record {
+  before = (before_last t.route (Tunnels (tunnel_page_due config t) t c (concluded taken' x) taken) old new all h).0;
+  same = dials_heard t.route (Tunnels (tunnel_page_due config t) t c (concluded taken' x) taken) (Tunnels (tunnel_page_due config t) t c (concluded taken' x) taken) old new
+      (λ o w f. tunnels_heard (tunnel_page_due config t) t c x taken taken' o n f) all h;
+}
+
+answers_alone : (g : Given) (c : Client) (old new : DialerState) (taken taken' : List ℕ) (x : Conclusion) → EachAnswered new.dials → x.ending ≢ ending.Tunnel → x ≢ broken after.NoMemory
+    → Answers g c old new taken taken' x → Alone old (Answers g c (with_heard old) (with_heard new) taken taken' x)
+answers_alone g c old new taken taken' x all n m (inl h) =
+    let d = does_alone g.config h.judgement c old new taken taken' x all n h.does in
+    record { before = d.before; same = inl (record { judgement = h.judgement; judged = h.judged; does = d.same }) }
+answers_alone g c old new taken taken' x all n m (inr h) = absurd (m h.concluded)
+
+-- ---- sessions
+
+abbrev heard_state : State → State
+heard_state s = record { stream = s.stream; dialer = with_heard s.dialer; taken = s.taken; begun = s.begun }
+
+step_alone : (caller : Caller) (n : ℕ) (s t : State) (b : Begun) → EachAnswered t.dialer.dials → b.concluded.ending ≢ ending.Tunnel → b.concluded ≢ broken after.NoMemory → Step caller n s t b
+    → Alone s.dialer (Step caller n (heard_state s) (heard_state t) b)
+step_alone caller n s t b all k m h =
+    let a = answers_alone (given_of caller n h.seen b) (record { stream = h.rest; behind = t.stream }) s.dialer t.dialer s.taken t.taken b.concluded all k m h.answers in
+    record { before = a.before; same = record { seen = h.seen; rest = h.rest; head = h.head; noted = h.noted; answers = a.same } }
+
+-- an exchange that wanted memory ends the session so
+goes_on_with : (last : Bool) (x : Conclusion) → end_after last x ≡ None → x ≢ broken after.NoMemory
+goes_on_with last x e m = let o = ap (end_after last) (sym m) ∙ e in absurd (cc)
+
+ends_with : (last : Bool) (x : Conclusion) (e : SessionEnd) → end_after last x ≡ Some e → e ≢ end.NoMemory → x ≢ broken after.NoMemory
+ends_with last x e h n m = let o = ap (end_after last) (sym m) ∙ h in n (cc)
+
+no_tunnel_in : (s t : State) (b : Begun) → t.begun ≡ s.begun ++ b ∷ [] → NoTunnel t.begun → NoTunnel s.begun × (b.concluded.ending ≢ ending.Tunnel)
+no_tunnel_in s t b e n = all_but_last (λ (x : Begun). x.concluded.ending ≢ ending.Tunnel) s.begun t.begun b e n
+
+reaches_alone : (caller : Caller) (s : State) (n : ℕ) (t : State) → EachAnswered t.dialer.dials → NoTunnel t.begun → Reaches caller s n t → Reaches caller (heard_state s) n (heard_state t)
+reaches_alone caller s zero t all none h = ap heard_state h
+reaches_alone caller s (suc n) t all none (m, h, k) =
+    let u = no_tunnel_in m t k.begun k.step.noted none in
+    let a = step_alone caller n m t k.begun all u.1 (goes_on_with (is_last n) k.begun.concluded k.goes_on) k.step in
+    (heard_state m, reaches_alone caller s n m a.before u.0 h, record { begun = k.begun; step = a.same; goes_on = k.goes_on })
+
+-- what ends it, and that the states before were so
+record EndsAlone (caller : Caller) (n : ℕ) (s t : State) (left : List ℕ) (e : SessionEnd) : Type 0 where
+  pub before : EachAnswered s.dialer.dials
+  pub none : NoTunnel s.begun
+  pub same : EndsSession caller n (heard_state s) (heard_state t) left e
+
+ends_alone : (caller : Caller) (n : ℕ) (s t : State) (left : List ℕ) (e : SessionEnd) → EachAnswered t.dialer.dials → NoTunnel t.begun → e ≢ end.NoMemory → EndsSession caller n s t left e
+    → EndsAlone caller n s t left e
+ends_alone caller n s t left e all none m (inl h) = record {
+  before = undialled s.dialer t.dialer h.undialled all;
+  none = subst NoTunnel h.unbegun none;
+  same = inl (record { undialled = ap with_heard h.undialled; unreturned = h.unreturned; unbegun = h.unbegun; why = h.why });
+}
+ends_alone caller n s t left e all none m (inr h) =
+    let u = no_tunnel_in s t h.begun h.step.noted none in
+    let a = step_alone caller n s t h.begun all u.1 (ends_with (is_last n) h.begun.concluded e h.ends m) h.step in
+    record { before = a.before; none = u.0; same = inr (record { begun = h.begun; step = a.same; ends = h.ends }) }
+
+pub session_alone : (caller : Caller) (stream left : List ℕ) (old new : DialerState) (taken taken' : List ℕ) (begun : List Begun) (e : SessionEnd) → IsSession caller stream left old new taken taken' begun e
+    → EachAnswered new.dials → NoTunnel begun → e ≢ end.NoMemory → IsSession caller stream left (with_heard old) (with_heard new) taken taken' begun e
+session_alone caller stream left old new taken taken' begun e h all none m =
+    let last : State = record { stream = h.rest; dialer = new; taken = taken'; begun = begun } in
+    let a = ends_alone caller h.kept h.middle last left e all none m h.ended in
+    record { kept = h.kept; middle = heard_state h.middle; rest = h.rest; reached = reaches_alone caller (begin stream old taken) h.kept h.middle a.before a.none h.reached; ended = a.same }

@@ -1,0 +1,31 @@
+// What follows a whole answer, and sessions over links whose sources offer just that.
+ghost use Rattle.std.specs.Prelude.{◌↔◌, ◌≢◌, ◌++◌, List, ℕ, Bool, false};
+ghost use Rattle.px_base.specs.Dials.{DialerState};
+ghost use Rattle.px_pool_ends.specs.Answers.{IsAnswer};
+ghost use Rattle.px_pumps.specs.Answering.{Ask, Answered};
+ghost use Rattle.px_pumps.specs.declared.dues.Due.{Due};
+ghost use Rattle.px_serve.specs.declared.ends.SessionEnd.{SessionEnd};
+ghost use Rattle.px_serve.specs.declared.ends.SessionEnd.TheVariants as end;
+ghost use Rattle.px_serve.specs.Histories.{Begun};
+ghost use Rattle.px_serve.specs.Sessions.{Caller, IsSession};
+ghost use Rattle.px_shared.specs.Answers.{IsAnswerTo};
+ghost use Rattle.px_shared.specs.Links.{EachAnswered, NoTunnel, with_heard};
+
+/// What follows a whole answer changes nothing of what is due to the client for it: neither more bytes nor that their reading
+/// failed. So it is of an answer to a request of that method, and of what a pool of links takes for one, whatever the method.
+#[tactic(auto, using(crate::proofs::AnswerLemmas::answered_to, crate::proofs::AnswerLemmas::answered_any))]
+pub fn answers_end()
+    ensures to_method { (ask : Ask) (answer more : List ℕ) (failed : Bool) (due : Due) → IsAnswerTo ask.method 8 answer
+        → Answered ask (answer ++ more) failed due ↔ Answered ask answer false due }
+    ensures to_any { (ask : Ask) (answer more : List ℕ) (failed : Bool) (due : Due) → IsAnswer 8 answer
+        → Answered ask (answer ++ more) failed due ↔ Answered ask answer false due }
+{}
+
+/// A session over links each of whose origins answered one request by itself is the session over links of which each offers
+/// just what was heard, with the same bytes sent and returned: where no tunnel was carried and memory wasn't wanting.
+#[tactic(auto, using(crate::proofs::LinkLemmas::session_alone))]
+pub fn heard_is_enough()
+    ensures { (caller : Caller) (stream left : List ℕ) (old new : DialerState) (taken taken' : List ℕ) (begun : List Begun) (e : SessionEnd)
+        → IsSession caller stream left old new taken taken' begun e → EachAnswered new.dials → NoTunnel begun → e ≢ end.NoMemory
+        → IsSession caller stream left (with_heard old) (with_heard new) taken taken' begun e }
+{}
