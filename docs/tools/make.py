@@ -213,9 +213,9 @@ def directives():
     for comment in re.findall(r"/// (`.*)", body[1]):
         names, value = re.findall(r"`([\w-]+)`", comment), comment.rpartition("`")[2].lstrip(":, ").rstrip(".")
         taken += names
-        if not value.startswith("which are refused"):
+        if value != "refused":
             rows.update({it: value for it in names})
-    known = set(re.findall(r'same_without_case\(name, b"([\w-]+)"\)', text))
+    known = set(re.findall(r'Directive::\w+ => "([\w-]+)"', text))
     if known != set(taken):
         raise Stale(f"{DIRECTIVES}: the comments of Directive name {sorted(set(taken) ^ known)} otherwise than its code")
     return directive_rows(rows)

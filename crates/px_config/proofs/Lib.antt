@@ -5,5 +5,6 @@ pub mod MainLemmas
 pub mod NameLemmas
 pub mod SetLemmas
 pub mod SpellLemmas
+pub mod TableLemmas
 pub mod AddressLemmas
 pub mod Crossing

@@ -1,10 +1,10 @@
--- What the lines of the main file set, one line after another (Privoxy's manual, "The Main Configuration File").
-use Rattle.std.specs.Prelude.{ℕ, ◌+◌, ◌*◌, ◌==◌, ◌||◌, Bool, true, false, nat_lt, List, [], ◌∷◌, ◌++◌, length, Option, Some, None, Result, Ok, Err, codes, if◌then◌else◌}
-use Rattle.std.specs.List.{list_any}
+-- The directives of the main file, and what its lines set, one after another (Privoxy's manual, "The Main Configuration File").
+use Rattle.std.specs.Prelude.{ℕ, ◌+◌, ◌*◌, ◌==◌, ◌||◌, Bool, true, false, nat_lt, List, [], ◌∷◌, ◌++◌, length, Option, Some, None, option_map, Result, Ok, Err, codes, if◌then◌else◌}
+use Rattle.std.specs.List.{find, list_any}
 use Rattle.std.specs.Str.{bytes_eq, is_utf8}
 use Rattle.px_base.specs.Numbers.{decimal}
 use Rattle.px_text.specs.declared.lines.Line.{Line}
-use Rattle.px_action_files.specs.Faults.{Refused, and_then, refused}
+use Rattle.px_action_files.specs.Faults.{Refused, and_then, refused, result_map}
 use Rattle.px_decide.specs.Forwards.{Line as ForwardLine, forward_line, number_of, socks_line}
 use Rattle.px_decide.specs.declared.faults.ForwardFault.{ForwardFault}
 use Rattle.px_decide.specs.declared.faults.ForwardFault.TheVariants as forwarding
@@ -14,6 +14,7 @@ use Rattle.px_config.specs.Addresses.{AddressSeen, address_of}
 use Rattle.px_config.specs.Directives.{is_named, name_in, value_in}
 use Rattle.px_config.specs.declared.directives.Directive.{Directive}
 use Rattle.px_config.specs.declared.directives.Directive.TheVariants as directive
+use Rattle.px_config.specs.declared.directives.TheConstants.{DIRECTIVES}
 use Rattle.px_config.specs.declared.mains.Address.{Address}
 use Rattle.px_config.specs.declared.mains.Main.{Main}
 use Rattle.px_config.specs.declared.mains.TheConstants.{DEFAULT_PATTERNS, MOST_PATTERNS}
@@ -22,51 +23,89 @@ use Rattle.px_config.specs.declared.settings.MainParts.{MainParts}
 use Rattle.px_config.specs.declared.settings.Note.{Note}
 use Rattle.px_config.specs.declared.settings.Settings.{Settings}
 
--- the two directives of forward lines with a SOCKS5 server, which mean the same
-abbrev pub is_socks5 : List ℕ → Bool
-is_socks5 name = is_named name (codes "forward-socks5") || is_named name (codes "forward-socks5t")
+-- ---- what a line does
 
--- the two directives of SOCKS4 servers
-abbrev pub is_socks4 : List ℕ → Bool
-is_socks4 name = is_named name (codes "forward-socks4") || is_named name (codes "forward-socks4a")
+-- by the file's name, the line's number, what is set so far, and the line's value: what is set then, or a refusal
+abbrev pub Effect : Type 0
+Effect = List ℕ → ℕ → Main → List ℕ → Result Main Refused
 
-abbrev pub switch_or_tag : List ℕ → Directive
-switch_or_tag name =
-    if is_named name (codes "handle-as-empty-doc-returns-ok") then directive.EmptyReturnsOk
-    else if is_named name (codes "toggle") then directive.Toggle
-    else if is_named name (codes "pattern-limit") then directive.PatternLimit
-    else if is_named name (codes "client-specific-tag") then directive.ClientTag
-    else if is_socks4 name then directive.ForwardSocks4
-    else directive.Other
+-- what is set then; a value of another form is refused
+abbrev pub or_refused : ℕ → Option Main → Result Main Refused
+or_refused line None = refused line 29
+or_refused line (Some m) = Ok m
 
--- the directive of a name
-unfoldable pub directive_of : List ℕ → Directive
-directive_of name =
-    if is_named name (codes "actionsfile") then directive.ActionsFile
-    else if is_named name (codes "filterfile") then directive.FilterFile
-    else if is_named name (codes "confdir") || is_named name (codes "templdir") then directive.Folder
-    else if is_named name (codes "listen-address") then directive.ListenAddress
-    else if is_named name (codes "buffer-limit") then directive.BufferLimit
-    else if is_named name (codes "forward") then directive.Forward
-    else if is_socks5 name then directive.ForwardSocks5
-    else switch_or_tag name
+-- 0 or 1
+abbrev pub switch : List ℕ → Option Bool
+switch value = if bytes_eq value (codes "0") then Some false else if bytes_eq value (codes "1") then Some true else None
 
-abbrev pub is_other : Directive → Bool
-is_other directive.ActionsFile = false
-is_other directive.FilterFile = false
-is_other directive.Folder = false
-is_other directive.ListenAddress = false
-is_other directive.BufferLimit = false
-is_other directive.Forward = false
-is_other directive.ForwardSocks5 = false
-is_other directive.EmptyReturnsOk = false
-is_other directive.Toggle = false
-is_other directive.PatternLimit = false
-is_other directive.ClientTag = false
-is_other directive.ForwardSocks4 = false
-is_other directive.Other = true
+-- 0 or 1, and the last line counts
+abbrev pub sets_switch : (Bool → Main → Main) → Effect
+sets_switch put file line m value = or_refused line (option_map (λ on. put on m) (switch value))
 
--- before the first line
+-- a number up to a most, and the last line counts
+abbrev pub sets_number : ℕ → (ℕ → Main → Main) → Effect
+sets_number most put file line m value = or_refused line (option_map (λ number. put number m) (decimal most value))
+
+-- one file more of a kind; the seventeenth is refused
+abbrev pub one_more : ℕ → ℕ → Result ℕ Refused
+one_more line count = if nat_lt count FILES_OF_A_KIND then Ok (count + 1) else refused line 31
+
+-- a file's name, and each line adds one
+abbrev pub adds_file : (Main → ℕ) → (ℕ → Main → Main) → Effect
+adds_file count put file line m value = result_map (λ number. put number m) (one_more line (count m))
+
+-- a folder's name, which sets nothing more; which folder counts, `confdir` and `templdir` say
+abbrev pub names_folder : Effect
+names_folder file line m value = Ok m
+
+abbrev pub refuses : Effect
+refuses file line m value = refused line 29
+
+abbrev pub with_note : List ℕ → ℕ → List ℕ → Main → Main
+with_note file line text m = record m { notes = m.notes ++ record { file = file; line = line; text = text } ∷ [] }
+
+-- the first address counts, and later ones are noted
+abbrev pub with_address : List ℕ → ℕ → Main → Option Address → Result AddressSeen ℕ → Result Main Refused
+with_address file line m before (Err number) = refused line number
+with_address file line m None (Ok address) = Ok (record m { listen = Some (record { host = address.host; port = address.port_number }) })
+with_address file line m (Some first) (Ok address) = Ok (with_note file line (codes "listen-address ignored") m)
+
+-- a host, and optionally a colon and a port
+abbrev pub listens : Effect
+listens file line m value = with_address file line m m.listen (address_of value)
+
+-- a refused forward line as it is reported at a line
+abbrev pub seen_fault : ℕ → ForwardFault → FileFault
+seen_fault line forwarding.Bad = at.At line 29
+seen_fault line (forwarding.Pattern number) = at.At line number
+seen_fault line forwarding.Mem = at.Mem
+
+-- each line of either kind adds a forward line
+abbrev pub with_forward : ℕ → Main → Result ForwardLine ForwardFault → Result Main Refused
+with_forward line m (Ok forward) = Ok (record m { forwards = m.forwards ++ forward ∷ [] })
+with_forward line m (Err fault) = refused line (number_of fault)
+
+-- a forward line of a kind
+abbrev pub adds_forward : (List ℕ → Result ForwardLine ForwardFault) → ℕ → Main → List ℕ → Result Main Refused
+adds_forward meaning line m value = if is_utf8 value then with_forward line m (meaning value) else refused line 29
+
+-- a name, white space and a description; a name twice is refused
+abbrev pub adds_tag : ℕ → Main → List ℕ → Result Main Refused
+adds_tag line m value =
+    if length (value_in value) == 0 || list_any (λ tag. bytes_eq tag (name_in value)) m.tags then refused line 29
+    else Ok (record m { tags = m.tags ++ name_in value ∷ [] })
+
+-- ---- the table of directives
+
+pub record Row : Type 0 where
+  pub name : List ℕ
+  -- what a line with a value sets
+  pub effect : Effect
+
+abbrev pub row : List ℕ → Effect → Row
+row name effect = record { name = name; effect = effect }
+
+-- what is set where no line of a directive is
 abbrev pub nothing_set : Main
 nothing_set = record {
   listen = None;
@@ -81,92 +120,41 @@ nothing_set = record {
   notes = [];
 }
 
-abbrev pub with_note : List ℕ → ℕ → List ℕ → Main → Main
-with_note file line text m = record m { notes = m.notes ++ record { file = file; line = line; text = text } ∷ [] }
+-- a directive's name, and what its lines set
+unfoldable pub row_of : Directive → Row
+row_of directive.ActionsFile = row (codes "actionsfile") (adds_file (λ m. m.action_files) (λ n m. record m { action_files = n }))
+row_of directive.FilterFile = row (codes "filterfile") (adds_file (λ m. m.filter_files) (λ n m. record m { filter_files = n }))
+row_of directive.Confdir = row (codes "confdir") names_folder
+row_of directive.Templdir = row (codes "templdir") names_folder
+row_of directive.ListenAddress = row (codes "listen-address") listens
+row_of directive.BufferLimit = row (codes "buffer-limit") (sets_number 16384 (λ kilobytes m. record m { buffer_limit = kilobytes * 1024 }))
+row_of directive.Forward = row (codes "forward") (λ file. adds_forward forward_line)
+row_of directive.ForwardSocks5 = row (codes "forward-socks5") (λ file. adds_forward socks_line)
+row_of directive.ForwardSocks5t = row (codes "forward-socks5t") (λ file. adds_forward socks_line)
+row_of directive.ForwardSocks4 = row (codes "forward-socks4") refuses
+row_of directive.ForwardSocks4a = row (codes "forward-socks4a") refuses
+row_of directive.EmptyReturnsOk = row (codes "handle-as-empty-doc-returns-ok") (sets_switch (λ on m. record m { empty_returns_ok = on }))
+row_of directive.Toggle = row (codes "toggle") (sets_switch (λ on m. record m { toggle = on }))
+row_of directive.PatternLimit = row (codes "pattern-limit") (sets_number MOST_PATTERNS (λ patterns m. record m { pattern_limit = patterns }))
+row_of directive.ClientTag = row (codes "client-specific-tag") (λ file. adds_tag)
 
--- each line adds a file; the seventeenth is refused
-abbrev pub with_action_file : ℕ → Main → Result Main Refused
-with_action_file line m = if nat_lt m.action_files FILES_OF_A_KIND then Ok (record m { action_files = m.action_files + 1 }) else refused line 31
+-- the directive of a name, if it is one of these
+unfoldable pub directive_of : List ℕ → Option Directive
+directive_of name = find (λ d. is_named name (row_of d).name) DIRECTIVES
 
-abbrev pub with_filter_file : ℕ → Main → Result Main Refused
-with_filter_file line m = if nat_lt m.filter_files FILES_OF_A_KIND then Ok (record m { filter_files = m.filter_files + 1 }) else refused line 31
+abbrev pub is_other : Option Directive → Bool
+is_other None = true
+is_other (Some d) = false
 
--- the first address wins, and later ones are noted
-abbrev pub with_address : List ℕ → ℕ → Main → Option Address → Result AddressSeen ℕ → Result Main Refused
-with_address file line m before (Err number) = refused line number
-with_address file line m None (Ok address) = Ok (record m { listen = Some (record { host = address.host; port = address.port_number }) })
-with_address file line m (Some first) (Ok address) = Ok (with_note file line (codes "listen-address ignored") m)
-
--- the last limit wins; it is given in kilobytes of 1,024 bytes
-abbrev pub with_limit : ℕ → Main → Option ℕ → Result Main Refused
-with_limit line m None = refused line 29
-with_limit line m (Some kilobytes) = Ok (record m { buffer_limit = kilobytes * 1024 })
-
--- the last limit on patterns wins
-abbrev pub with_pattern_limit : ℕ → Main → Option ℕ → Result Main Refused
-with_pattern_limit line m None = refused line 29
-with_pattern_limit line m (Some patterns) = Ok (record m { pattern_limit = patterns })
-
--- 0 or 1
-abbrev pub switch : List ℕ → Option Bool
-switch value = if bytes_eq value (codes "0") then Some false else if bytes_eq value (codes "1") then Some true else None
-
-abbrev pub with_empty_ok : ℕ → Main → Option Bool → Result Main Refused
-with_empty_ok line m None = refused line 29
-with_empty_ok line m (Some on) = Ok (record m { empty_returns_ok = on })
-
-abbrev pub with_toggle : ℕ → Main → Option Bool → Result Main Refused
-with_toggle line m None = refused line 29
-with_toggle line m (Some on) = Ok (record m { toggle = on })
-
--- a refused forward line as it is reported at a line
-abbrev pub seen_fault : ℕ → ForwardFault → FileFault
-seen_fault line forwarding.Bad = at.At line 29
-seen_fault line (forwarding.Pattern number) = at.At line number
-seen_fault line forwarding.Mem = at.Mem
-
--- each line of either kind adds a forward line
-abbrev pub with_forward : ℕ → Main → Result ForwardLine ForwardFault → Result Main Refused
-with_forward line m (Ok forward) = Ok (record m { forwards = m.forwards ++ forward ∷ [] })
-with_forward line m (Err fault) = refused line (number_of fault)
-
-abbrev pub with_forward_value : ℕ → Main → List ℕ → Result Main Refused
-with_forward_value line m value = if is_utf8 value then with_forward line m (forward_line value) else refused line 29
-
-abbrev pub with_socks_value : ℕ → Main → List ℕ → Result Main Refused
-with_socks_value line m value = if is_utf8 value then with_forward line m (socks_line value) else refused line 29
-
--- each line adds a tag: a name, white space and a description; a name twice is refused
-abbrev pub with_tag : ℕ → Main → List ℕ → Result Main Refused
-with_tag line m value =
-    if length (value_in value) == 0 || list_any (λ tag. bytes_eq tag (name_in value)) m.tags then refused line 29
-    else Ok (record m { tags = m.tags ++ name_in value ∷ [] })
-
--- what a line with a value sets
-unfoldable pub with_value : List ℕ → ℕ → Main → List ℕ → Directive → Result Main Refused
-with_value file line m value directive.ActionsFile = with_action_file line m
-with_value file line m value directive.FilterFile = with_filter_file line m
-with_value file line m value directive.Folder = Ok m
-with_value file line m value directive.ListenAddress = with_address file line m m.listen (address_of value)
-with_value file line m value directive.BufferLimit = with_limit line m (decimal 16384 value)
-with_value file line m value directive.Forward = with_forward_value line m value
-with_value file line m value directive.ForwardSocks5 = with_socks_value line m value
-with_value file line m value directive.EmptyReturnsOk = with_empty_ok line m (switch value)
-with_value file line m value directive.Toggle = with_toggle line m (switch value)
-with_value file line m value directive.PatternLimit = with_pattern_limit line m (decimal MOST_PATTERNS value)
-with_value file line m value directive.ClientTag = with_tag line m value
-with_value file line m value directive.ForwardSocks4 = refused line 29
-with_value file line m value directive.Other = Ok m
+-- ---- the lines
 
 -- what a line sets: any other directive is ignored with a note, and one of these without a value is refused
-abbrev pub with_directive : List ℕ → ℕ → Main → List ℕ → List ℕ → Result Main Refused
-with_directive file line m name value =
-    if is_other (directive_of name) then Ok (with_note file line (codes "directive ignored: " ++ name) m)
-    else if length value == 0 then refused line 29
-    else with_value file line m value (directive_of name)
+abbrev pub with_directive : List ℕ → ℕ → Main → List ℕ → List ℕ → Option Directive → Result Main Refused
+with_directive file line m name value None = Ok (with_note file line (codes "directive ignored: " ++ name) m)
+with_directive file line m name value (Some d) = if length value == 0 then refused line 29 else (row_of d).effect file line m value
 
 unfoldable pub with_line : List ℕ → Main → Line → Result Main Refused
-with_line file m line = with_directive file line.number m (name_in line.text) (value_in line.text)
+with_line file m line = with_directive file line.number m (name_in line.text) (value_in line.text) (directive_of (name_in line.text))
 
 -- what lines set, or the first refusal
 unfoldable pub with_lines : List ℕ → Main → List Line → Result Main Refused

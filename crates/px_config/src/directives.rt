@@ -1,13 +1,103 @@
-// The lines of the main file.
+// The directives of the main file, and its lines.
 ghost use Rattle.std.specs.Prelude.{◌≡◌, ◌<◌, length, IfOk, IfSome, option_copied};
 ghost use Rattle.std.specs.List.{position};
 ghost use Rattle.px_base.specs.Blanks.{is_blank};
-ghost use Rattle.px_config.specs.Mains.{directive_of, is_other, is_socks4, is_socks5, switch_or_tag};
 ghost use Rattle.px_config.specs.Directives.{last_value, name_in, nonempty, value_for, value_in, values_of};
+ghost use Rattle.px_config.specs.Mains.{directive_of, row_of};
 
 use px_base::{Mem, Text, is_blank, same_without_case, trim};
 use px_text::Line;
 use std::alloc::Global;
+
+/// A directive of the main file (Privoxy's manual, "The Main Configuration File").
+#[derive(Clone, Copy, Debug, PartialEq, Eq)]
+pub(crate) enum Directive {
+    /// `actionsfile`: a file's name.
+    ActionsFile,
+    /// `filterfile`: a file's name.
+    FilterFile,
+    /// `confdir`: a folder's name.
+    Confdir,
+    /// `templdir`: a folder's name.
+    Templdir,
+    /// `listen-address`: a host, and optionally a colon and a port.
+    ListenAddress,
+    /// `buffer-limit`: kilobytes.
+    BufferLimit,
+    /// `forward`: a pattern and a parent.
+    Forward,
+    /// `forward-socks5`: a pattern, a SOCKS server and a parent.
+    ForwardSocks5,
+    /// `forward-socks5t`: a pattern, a SOCKS server and a parent.
+    ForwardSocks5t,
+    /// `forward-socks4`: refused.
+    ForwardSocks4,
+    /// `forward-socks4a`: refused.
+    ForwardSocks4a,
+    /// `handle-as-empty-doc-returns-ok`: 0 or 1.
+    EmptyReturnsOk,
+    /// `toggle`: 0 or 1.
+    Toggle,
+    /// `pattern-limit`: how many patterns all action files may have.
+    PatternLimit,
+    /// `client-specific-tag`: a name and a description.
+    ClientTag,
+}
+
+/// All directives.
+pub(crate) const DIRECTIVES: [Directive; 15] = [
+    Directive::ActionsFile,
+    Directive::FilterFile,
+    Directive::Confdir,
+    Directive::Templdir,
+    Directive::ListenAddress,
+    Directive::BufferLimit,
+    Directive::Forward,
+    Directive::ForwardSocks5,
+    Directive::ForwardSocks5t,
+    Directive::ForwardSocks4,
+    Directive::ForwardSocks4a,
+    Directive::EmptyReturnsOk,
+    Directive::Toggle,
+    Directive::PatternLimit,
+    Directive::ClientTag,
+];
+
+impl Directive {
+    #[tactic(auto, unfolding(crate::specs::Mains::row_of))]
+    pub(crate) fn name(self) -> &'static str
+        ensures { result.now ≡ (row_of self).name }
+    {
+        match self {
+            Directive::ActionsFile => "actionsfile",
+            Directive::FilterFile => "filterfile",
+            Directive::Confdir => "confdir",
+            Directive::Templdir => "templdir",
+            Directive::ListenAddress => "listen-address",
+            Directive::BufferLimit => "buffer-limit",
+            Directive::Forward => "forward",
+            Directive::ForwardSocks5 => "forward-socks5",
+            Directive::ForwardSocks5t => "forward-socks5t",
+            Directive::ForwardSocks4 => "forward-socks4",
+            Directive::ForwardSocks4a => "forward-socks4a",
+            Directive::EmptyReturnsOk => "handle-as-empty-doc-returns-ok",
+            Directive::Toggle => "toggle",
+            Directive::PatternLimit => "pattern-limit",
+            Directive::ClientTag => "client-specific-tag",
+        }
+    }
+
+    /// The directive of a name, which is compared without case.
+    #[tactic(auto, unfolding(crate::specs::Mains::directive_of))]
+    pub(crate) fn of(name: &[u8]) -> Option<Directive>
+        ensures { result ≡ directive_of name.now }
+    {
+        DIRECTIVES.iter().copied().find(|directive| same_without_case(
+            name,
+            directive.name().as_bytes(),
+        ))
+    }
+}
 
 /// The name of a line's directive, and its value, which is empty where there is none.
 #[tactic(auto, using(crate::proofs::DirectiveLemmas::split_rules))]
@@ -77,113 +167,4 @@ pub(crate) fn last_value<'l>(lines: &'l [Line], word: &[u8]) -> Option<&'l [u8]>
         rest = others;
     }
     last
-}
-
-/// A directive of the main file (Privoxy's manual, "The Main Configuration File").
-#[derive(Clone, Copy, Debug, PartialEq, Eq)]
-pub(crate) enum Directive {
-    /// `actionsfile`: a file's name.
-    ActionsFile,
-    /// `filterfile`: a file's name.
-    FilterFile,
-    /// `confdir` and `templdir`: a folder's name.
-    Folder,
-    /// `listen-address`: a host, and optionally a colon and a port.
-    ListenAddress,
-    /// `buffer-limit`: kilobytes.
-    BufferLimit,
-    /// `forward`: a pattern and a parent.
-    Forward,
-    /// `forward-socks5` and `forward-socks5t`: a pattern, a SOCKS server and a parent.
-    ForwardSocks5,
-    /// `handle-as-empty-doc-returns-ok`: 0 or 1.
-    EmptyReturnsOk,
-    /// `toggle`: 0 or 1.
-    Toggle,
-    /// `pattern-limit`: how many patterns all action files may have.
-    PatternLimit,
-    /// `client-specific-tag`: a name and a description.
-    ClientTag,
-    /// `forward-socks4` and `forward-socks4a`, which are refused.
-    ForwardSocks4,
-    /// Any other, which is ignored with a note.
-    Other,
-}
-
-impl Directive {
-    /// The directive of a name, which is compared without case.
-    #[tactic(auto, unfolding(crate::specs::Mains::directive_of))]
-    pub(crate) fn of(name: &[u8]) -> Directive
-        ensures { result ≡ directive_of name.now }
-    {
-        if same_without_case(name, b"actionsfile") {
-            Directive::ActionsFile
-        } else if same_without_case(name, b"filterfile") {
-            Directive::FilterFile
-        } else if same_without_case(name, b"confdir") || same_without_case(name, b"templdir") {
-            Directive::Folder
-        } else if same_without_case(name, b"listen-address") {
-            Directive::ListenAddress
-        } else if same_without_case(name, b"buffer-limit") {
-            Directive::BufferLimit
-        } else if same_without_case(name, b"forward") {
-            Directive::Forward
-        } else if is_socks5(name) {
-            Directive::ForwardSocks5
-        } else {
-            Directive::switch_or_tag(name)
-        }
-    }
-
-    fn switch_or_tag(name: &[u8]) -> Directive
-        ensures { result ≡ switch_or_tag name.now }
-    {
-        if same_without_case(name, b"handle-as-empty-doc-returns-ok") {
-            Directive::EmptyReturnsOk
-        } else if same_without_case(name, b"toggle") {
-            Directive::Toggle
-        } else if same_without_case(name, b"pattern-limit") {
-            Directive::PatternLimit
-        } else if same_without_case(name, b"client-specific-tag") {
-            Directive::ClientTag
-        } else if is_socks4(name) {
-            Directive::ForwardSocks4
-        } else {
-            Directive::Other
-        }
-    }
-
-    pub(crate) fn is_other(self) -> bool
-        ensures { result ≡ is_other self }
-    {
-        match self {
-            Directive::ActionsFile => false,
-            Directive::FilterFile => false,
-            Directive::Folder => false,
-            Directive::ListenAddress => false,
-            Directive::BufferLimit => false,
-            Directive::Forward => false,
-            Directive::ForwardSocks5 => false,
-            Directive::EmptyReturnsOk => false,
-            Directive::Toggle => false,
-            Directive::PatternLimit => false,
-            Directive::ClientTag => false,
-            Directive::ForwardSocks4 => false,
-            Directive::Other => true,
-        }
-    }
-}
-
-/// Whether a directive is of a forward line with a SOCKS5 server.
-fn is_socks5(name: &[u8]) -> bool
-    ensures { result ≡ is_socks5 name.now }
-{
-    same_without_case(name, b"forward-socks5") || same_without_case(name, b"forward-socks5t")
-}
-
-/// Whether a directive is of a SOCKS4 server.
-fn is_socks4(name: &[u8]) -> bool
-    ensures { result ≡ is_socks4 name.now }
-{
-    same_without_case(name, b"forward-socks4") || same_without_case(name, b"forward-socks4a")
 }

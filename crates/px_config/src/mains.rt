@@ -1,13 +1,11 @@
 // What the lines of the main file set.
-ghost use Rattle.std.specs.Prelude.{◌≡◌, Ok, IfErr, IfOk, OnOk, Option, codes};
+ghost use Rattle.std.specs.Prelude.{◌≡◌, ◌≤◌, None, Ok, Some, IfErr, IfOk, OnOk, codes};
 ghost use Rattle.px_action_files.specs.Faults.{IsReported};
 ghost use Rattle.std.specs.List.{list_any};
 ghost use Rattle.std.specs.Str.{bytes_eq};
 ghost use Rattle.px_base.specs.Numbers.{decimal};
 ghost use Rattle.px_decide.specs.Forwards.{forward_line, socks_line};
-ghost use Rattle.px_config.specs.Addresses.{address_of};
-ghost use Rattle.px_config.specs.declared.mains.TheConstants.{MOST_PATTERNS};
-ghost use Rattle.px_config.specs.Mains.{address_or, main_of, nothing_set, parts_of, seen_fault, switch, with_action_file, with_address, with_directive, with_empty_ok, with_filter_file, with_forward, with_forward_value, with_limit, with_line, with_note, with_socks_value, with_pattern_limit, with_tag, with_toggle, with_value};
+ghost use Rattle.px_config.specs.Mains.{address_or, directive_of, main_of, nothing_set, one_more, parts_of, row_of, seen_fault, switch, with_address, with_directive, with_forward, with_line, with_note, adds_forward, adds_tag, listens};
 
 use crate::addresses::{DEFAULT_PORT, read_address};
 use crate::directives::{Directive, split_directive};
@@ -91,15 +89,43 @@ fn forward_fault(line: u32, fault: ForwardFault) -> FileFault
 }
 
 /// 0 or 1.
-fn switch(value: &[u8]) -> Option<bool>
-    ensures { result ≡ switch value.now }
+fn read_switch(line: u32, value: &[u8]) -> Result<bool, FileFault>
+    ensures on { IfOk result (λ on. switch value.now ≡ Some on) }
+    ensures refused { IfErr result (λ fault. (switch value.now ≡ None) × (fault ≡ FileFault.At line 29)) }
 {
     if value == OFF {
-        Some(false)
+        Ok(false)
     } else if value == ON {
-        Some(true)
+        Ok(true)
     } else {
-        None
+        Err(bad_value(line))
+    }
+}
+
+/// A decimal number up to a most.
+fn read_number(line: u32, value: &[u8], most: u64) -> Result<u64, FileFault>
+    ensures number { IfOk result (λ number. decimal most value.now ≡ Some number) }
+    ensures within { IfOk result (λ number. number ≤ most) }
+    ensures refused { IfErr result (λ fault. (decimal most value.now ≡ None) × (fault ≡ FileFault.At line 29)) }
+{
+    match read_decimal(value, most) {
+        Some(number) => Ok(number),
+        None => Err(bad_value(line)),
+    }
+}
+
+/// One file more of a kind. The seventeenth is refused.
+fn one_more(line: u32, count: usize) -> Result<usize, FileFault>
+    ensures more { IfOk result (λ more. one_more line count ≡ Ok more) }
+    ensures refused { IfErr result (IsReported (one_more line count)) }
+{
+    if count < FILES_OF_A_KIND {
+        Ok(count + 1)
+    } else {
+        Err(FileFault::At {
+            line,
+            number: TOO_LARGE,
+        })
     }
 }
 
@@ -205,24 +231,27 @@ impl Main {
         name: &[u8],
         value: &[u8],
     ) -> Result<(), FileFault>
-        ensures added { OnOk result (with_directive file.now line self.old name.now value.now ≡ Ok self.new) }
-        ensures refused { IfErr result (IsReported (with_directive file.now line self.old name.now value.now)) }
+        ensures added { OnOk result (with_directive file.now line self.old name.now value.now (directive_of name.now) ≡ Ok self.new) }
+        ensures refused { IfErr result (IsReported (with_directive file.now line self.old name.now value.now (directive_of name.now))) }
     {
-        let directive = Directive::of(name);
-        if directive.is_other() {
-            let mut text = Text::from_bytes(alloc, b"directive ignored: ")?;
-            text.push_all(name)?;
-            self.note(alloc, file, line, text)?;
-            return Ok(());
+        match Directive::of(name) {
+            Some(directive) => {
+                if value.is_empty() {
+                    return Err(bad_value(line));
+                }
+                self.set(alloc, file, line, value, directive)
+            }
+            None => {
+                let mut text = Text::from_bytes(alloc, b"directive ignored: ")?;
+                text.push_all(name)?;
+                self.note(alloc, file, line, text)?;
+                Ok(())
+            }
         }
-        if value.is_empty() {
-            return Err(bad_value(line));
-        }
-        self.set(alloc, file, line, value, directive)
     }
 
-    /// Adds what a directive with a value sets.
-    #[tactic(auto, unfolding(crate::specs::Mains::with_value))]
+    /// Adds what a line of a directive sets: one arm a row of the table.
+    #[tactic(auto, unfolding(crate::specs::Mains::row_of))]
     fn set(
         &mut self,
         alloc: Global,
@@ -231,23 +260,43 @@ impl Main {
         value: &[u8],
         directive: Directive,
     ) -> Result<(), FileFault>
-        ensures added { OnOk result (with_value file.now line self.old value.now directive ≡ Ok self.new) }
-        ensures refused { IfErr result (IsReported (with_value file.now line self.old value.now directive)) }
+        ensures added { OnOk result ((row_of directive).effect file.now line self.old value.now ≡ Ok self.new) }
+        ensures refused { IfErr result (IsReported ((row_of directive).effect file.now line self.old value.now)) }
     {
         match directive {
-            Directive::ActionsFile => self.add_action_file(line),
-            Directive::FilterFile => self.add_filter_file(line),
-            Directive::Folder => Ok(()),
+            Directive::ActionsFile => {
+                self.action_files = one_more(line, self.action_files)?;
+                Ok(())
+            }
+            Directive::FilterFile => {
+                self.filter_files = one_more(line, self.filter_files)?;
+                Ok(())
+            }
+            Directive::Confdir => Ok(()),
+            Directive::Templdir => Ok(()),
             Directive::ListenAddress => self.add_address(alloc, file, line, value),
-            Directive::BufferLimit => self.set_limit(line, value),
+            Directive::BufferLimit => {
+                self.buffer_limit = read_number(line, value, MOST_KILOBYTES)? * KILOBYTE;
+                Ok(())
+            }
             Directive::Forward => self.add_forward(line, value),
             Directive::ForwardSocks5 => self.add_socks(line, value),
-            Directive::EmptyReturnsOk => self.set_empty_ok(line, value),
-            Directive::Toggle => self.set_toggle(line, value),
-            Directive::PatternLimit => self.set_pattern_limit(line, value),
-            Directive::ClientTag => self.add_tag(alloc, line, value),
+            Directive::ForwardSocks5t => self.add_socks(line, value),
             Directive::ForwardSocks4 => Err(bad_value(line)),
-            Directive::Other => Ok(()),
+            Directive::ForwardSocks4a => Err(bad_value(line)),
+            Directive::EmptyReturnsOk => {
+                self.empty_returns_ok = read_switch(line, value)?;
+                Ok(())
+            }
+            Directive::Toggle => {
+                self.toggle = read_switch(line, value)?;
+                Ok(())
+            }
+            Directive::PatternLimit => {
+                self.pattern_limit = read_number(line, value, MOST_PATTERNS)?;
+                Ok(())
+            }
+            Directive::ClientTag => self.add_tag(alloc, line, value),
         }
     }
 
@@ -261,36 +310,6 @@ impl Main {
         })
     }
 
-    fn add_action_file(&mut self, line: u32) -> Result<(), FileFault>
-        ensures added { OnOk result (with_action_file line self.old ≡ Ok self.new) }
-        ensures refused { IfErr result (IsReported (with_action_file line self.old)) }
-    {
-        if self.action_files < FILES_OF_A_KIND {
-            self.action_files += 1;
-            Ok(())
-        } else {
-            Err(FileFault::At {
-                line,
-                number: TOO_LARGE,
-            })
-        }
-    }
-
-    fn add_filter_file(&mut self, line: u32) -> Result<(), FileFault>
-        ensures added { OnOk result (with_filter_file line self.old ≡ Ok self.new) }
-        ensures refused { IfErr result (IsReported (with_filter_file line self.old)) }
-    {
-        if self.filter_files < FILES_OF_A_KIND {
-            self.filter_files += 1;
-            Ok(())
-        } else {
-            Err(FileFault::At {
-                line,
-                number: TOO_LARGE,
-            })
-        }
-    }
-
     /// The first address is set, and a later one is noted.
     fn add_address(
         &mut self,
@@ -299,8 +318,8 @@ impl Main {
         line: u32,
         value: &[u8],
     ) -> Result<(), FileFault>
-        ensures added { OnOk result (with_address file.now line self.old self.old.listen (address_of value.now) ≡ Ok self.new) }
-        ensures refused { IfErr result (IsReported (with_address file.now line self.old self.old.listen (address_of value.now))) }
+        ensures added { OnOk result (listens file.now line self.old value.now ≡ Ok self.new) }
+        ensures refused { IfErr result (IsReported (listens file.now line self.old value.now)) }
     {
         match read_address(value) {
             Ok(address) => {
@@ -341,35 +360,9 @@ impl Main {
         }
     }
 
-    fn set_limit(&mut self, line: u32, value: &[u8]) -> Result<(), FileFault>
-        ensures added { OnOk result (with_limit line self.old (decimal 16384 value.now) ≡ Ok self.new) }
-        ensures refused { IfErr result (IsReported (with_limit line self.old (decimal 16384 value.now))) }
-    {
-        match read_decimal(value, MOST_KILOBYTES) {
-            Some(kilobytes) => {
-                self.buffer_limit = kilobytes * KILOBYTE;
-                Ok(())
-            }
-            None => Err(bad_value(line)),
-        }
-    }
-
-    fn set_pattern_limit(&mut self, line: u32, value: &[u8]) -> Result<(), FileFault>
-        ensures added { OnOk result (with_pattern_limit line self.old (decimal MOST_PATTERNS value.now) ≡ Ok self.new) }
-        ensures refused { IfErr result (IsReported (with_pattern_limit line self.old (decimal MOST_PATTERNS value.now))) }
-    {
-        match read_decimal(value, MOST_PATTERNS) {
-            Some(patterns) => {
-                self.pattern_limit = patterns;
-                Ok(())
-            }
-            None => Err(bad_value(line)),
-        }
-    }
-
     fn add_forward(&mut self, line: u32, value: &[u8]) -> Result<(), FileFault>
-        ensures added { OnOk result (with_forward_value line self.old value.now ≡ Ok self.new) }
-        ensures refused { IfErr result (IsReported (with_forward_value line self.old value.now)) }
+        ensures added { OnOk result (adds_forward forward_line line self.old value.now ≡ Ok self.new) }
+        ensures refused { IfErr result (IsReported (adds_forward forward_line line self.old value.now)) }
     {
         match as_text(value) {
             Some(text) => self.add_forward_text(line, text),
@@ -389,8 +382,8 @@ impl Main {
     }
 
     fn add_socks(&mut self, line: u32, value: &[u8]) -> Result<(), FileFault>
-        ensures added { OnOk result (with_socks_value line self.old value.now ≡ Ok self.new) }
-        ensures refused { IfErr result (IsReported (with_socks_value line self.old value.now)) }
+        ensures added { OnOk result (adds_forward socks_line line self.old value.now ≡ Ok self.new) }
+        ensures refused { IfErr result (IsReported (adds_forward socks_line line self.old value.now)) }
     {
         match as_text(value) {
             Some(text) => self.add_socks_text(line, text),
@@ -409,36 +402,10 @@ impl Main {
         }
     }
 
-    fn set_empty_ok(&mut self, line: u32, value: &[u8]) -> Result<(), FileFault>
-        ensures added { OnOk result (with_empty_ok line self.old (switch value.now) ≡ Ok self.new) }
-        ensures refused { IfErr result (IsReported (with_empty_ok line self.old (switch value.now))) }
-    {
-        match switch(value) {
-            Some(on) => {
-                self.empty_returns_ok = on;
-                Ok(())
-            }
-            None => Err(bad_value(line)),
-        }
-    }
-
-    fn set_toggle(&mut self, line: u32, value: &[u8]) -> Result<(), FileFault>
-        ensures added { OnOk result (with_toggle line self.old (switch value.now) ≡ Ok self.new) }
-        ensures refused { IfErr result (IsReported (with_toggle line self.old (switch value.now))) }
-    {
-        match switch(value) {
-            Some(on) => {
-                self.toggle = on;
-                Ok(())
-            }
-            None => Err(bad_value(line)),
-        }
-    }
-
     /// Adds a tag: a name, white space and a description. A name that stands twice is refused.
     fn add_tag(&mut self, alloc: Global, line: u32, value: &[u8]) -> Result<(), FileFault>
-        ensures added { OnOk result (with_tag line self.old value.now ≡ Ok self.new) }
-        ensures refused { IfErr result (IsReported (with_tag line self.old value.now)) }
+        ensures added { OnOk result (adds_tag line self.old value.now ≡ Ok self.new) }
+        ensures refused { IfErr result (IsReported (adds_tag line self.old value.now)) }
     {
         let (name, description) = split_directive(value);
         if description.is_empty() || has_tag(self.tags.as_slice(), name) {
