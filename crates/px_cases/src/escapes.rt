@@ -24,6 +24,9 @@ enum Place {
 /// The most times that a text is repeated.
 const MOST_TIMES: usize = 1 << 24;
 
+/// How many times a text is added at once where it is repeated so often.
+const AT_ONCE: usize = 256;
+
 /// The text of `\{N TEXT}` that is being read: N, and where TEXT begins.
 #[derive(Clone, Copy)]
 struct Repeat {
@@ -61,9 +64,29 @@ impl Decoder {
         Ok(self.parts.push(Part::Bytes(part))?)
     }
 
+    /// Adds a text so many times, many times at once.
+    fn repeat_text(&mut self, text: &[u8], times: usize) -> Result<(), Fault> {
+        let mut many = Vec::new(self.alloc);
+        if times >= AT_ONCE {
+            for _ in 0..AT_ONCE {
+                many.extend_from_slice(text)?;
+            }
+        }
+        for _ in 0..times / AT_ONCE {
+            self.bytes.extend_from_slice(many.as_slice())?;
+        }
+        for _ in 0..times % AT_ONCE {
+            self.bytes.extend_from_slice(text)?;
+        }
+        Ok(())
+    }
+
     /// Adds the parts for each time.
     fn repeat(&mut self, times: usize) -> Result<(), Fault> {
         let parts = mem::replace(&mut self.parts, Vec::new(self.alloc));
+        if let [Part::Bytes(text)] = parts.as_slice() {
+            return self.repeat_text(text.as_slice(), times);
+        }
         for time in 0..times {
             for part in parts.iter() {
                 match part {

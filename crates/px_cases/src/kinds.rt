@@ -20,6 +20,7 @@ pub(crate) fn gives(kind: &str, row: &Row<'_>) -> Result<Text, Fault> {
         "ports" => patterns::ports(row),
         "urls" => patterns::urls(row),
         "hosts" | "paths" => patterns::matches(row),
+        "expressions" => patterns::expressions(row),
         "tags" => patterns::tags(row),
         "words" => actions::words(row),
         "sets" => actions::sets(row),

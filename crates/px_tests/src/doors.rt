@@ -1,4 +1,4 @@
-ghost use Rattle.std.specs.Prelude.{◌≡◌, ◌≤◌, ◌<◌, ◌+◌, ◌-◌, ◌^◌, IfOk, IfSome, length};
+ghost use Rattle.std.specs.Prelude.{◌≡◌, ◌≤◌, ◌<◌, ◌+◌, ◌-◌, ◌^◌, false, IfOk, IfSome, length};
 ghost use Rattle.px_doors.specs.Conns.{IsFreshConn};
 ghost use Rattle.px_doors.specs.MemConns.{mem_conn};
 
@@ -134,14 +134,60 @@ fn open_doors<'r>(rt: &'r HostRuntime) -> Option<(SocketDoors<'r>, u16)>
     Some((doors, port))
 }
 
+/// Whether doors fail where a connection is asked for.
+fn fails_to_accept<D: Doors>(doors: &mut D) -> bool
+where
+    D::In: Drop,
+    D::Out: Drop,
+    D::Dial: Drop,
+    D::Time: Drop,
+    requires { (D.state doors.old).accepted < 2 ^ 64 - 1 }
+{
+    matches!(doors.accept(), Err(AcceptFault::Failed))
+}
+
 #[test]
 fn doors_that_do_not_listen_fail(rt: HostRuntime) {
     let mut doors = SocketDoors::new(rt.alloc(), &rt, short_times());
-    same(
-        &rt,
-        matches!(doors.accept(), Err(AcceptFault::Failed)),
-        true,
-    );
+    same(&rt, fails_to_accept(&mut doors), true);
+}
+
+/// The first four bytes of a client, its address, and the moment at which they came.
+#[derive(Drop)]
+struct Call {
+    said: [u8; 4],
+    address: Text,
+    moment: u64,
+}
+
+/// What the client of the next connection says.
+fn next_call<D: Doors>(doors: &mut D) -> Option<Call>
+where
+    D::In: Drop,
+    D::Out: Drop,
+    D::Dial: Drop,
+    D::Time: Drop,
+    requires { (D.state doors.old).accepted < 2 ^ 64 - 1 }
+{
+    let Ok(Some(conn)) = doors.accept() else {
+        return None;
+    };
+    let Conn {
+        mut client_in,
+        client_out: _client_out,
+        dialer: _dialer,
+        mut clock,
+        peer,
+    } = conn;
+    let mut said = [0; 4];
+    if client_in.read(&mut said) != Ok(4) {
+        return None;
+    }
+    Some(Call {
+        said,
+        address: peer.address,
+        moment: clock.now(),
+    })
 }
 
 #[test]
@@ -154,19 +200,23 @@ fn doors_over_tcp_give_who_calls(rt: HostRuntime) {
         panic!(rt; "no link");
     };
     same(&rt, write_all(&mut link_out, b"call"), Ok(()));
-    let Ok(Some(mut conn)) = doors.accept() else {
-        panic!(rt; "no connection");
+    let Some(call) = next_call(&mut doors) else {
+        panic!(rt; "no call");
     };
-    let mut piece = [0; 4];
-    same(&rt, conn.client_in.read(&mut piece), Ok(4));
-    same(&rt, piece, *b"call");
-    same(&rt, conn.peer.address.as_bytes(), "127.0.0.1".as_bytes());
-    same(&rt, conn.clock.now() > 1_700_000_000, true);
+    same(&rt, call.said, *b"call");
+    same(&rt, call.address.as_bytes(), "127.0.0.1".as_bytes());
+    same(&rt, call.moment > 1_700_000_000, true);
 }
 
 /// Answers a connection that was accepted with so many thousand bytes, and parts it.
-fn answer_and_part<'r>(alloc: Global, doors: &mut SocketDoors<'r>, thousands: u64) -> bool
-    requires { (⟦<SocketDoors<'r> as Doors>⟧.state doors.old).accepted < 2 ^ 64 - 1 }
+fn answer_and_part<D: Doors>(alloc: Global, doors: &mut D, thousands: u64) -> bool
+where
+    D::In: Drop,
+    D::Out: Drop,
+    D::Dial: Drop,
+    D::Time: Drop,
+    requires more { (D.state doors.old).accepted < 2 ^ 64 - 1 }
+    requires untold { (D.state doors.old).tells ≡ false }
 {
     let Ok(Some(mut conn)) = doors.accept() else {
         return false;

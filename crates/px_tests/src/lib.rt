@@ -17,6 +17,8 @@ mod generated;
 #[cfg(test)]
 mod memory;
 #[cfg(test)]
+mod pool;
+#[cfg(test)]
 mod publish;
 #[cfg(test)]
 mod pumps;
@@ -24,9 +26,13 @@ mod rows;
 #[cfg(test)]
 mod serving;
 #[cfg(test)]
+mod sharing;
+#[cfg(test)]
 mod sides;
 #[cfg(test)]
 mod sockets;
+#[cfg(test)]
+mod socks;
 #[cfg(test)]
 mod streams;
 #[cfg(test)]

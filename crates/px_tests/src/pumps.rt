@@ -177,20 +177,31 @@ fn an_answer_without_a_filter_is_put_out_as_it_comes(rt: HostRuntime) {
     }
 }
 
-/// How many bytes come without an end of a head, how many of them are held, and the flow.
+/// How many pieces come without an end of a head, how many bytes of them are held, and the flow.
 const ENDLESS: [(usize, u64, Flow); 2] = [
-    (57_344, 57_344, Flow::More),
-    (65_536, 0, Flow::Refused(Page::BadReply)),
+    (15, 122_880, Flow::More),
+    (16, 0, Flow::Refused(Page::BadReply)),
 ];
 
-const LETTERS: [u8; 65_536] = [b'x'; 65_536];
+/// A sixteenth of a head's limit.
+const LETTERS: [u8; 8_192] = [b'x'; 8_192];
 
 #[test]
 fn a_head_is_held_up_to_its_limit(rt: HostRuntime) {
     let config = config(&rt, rt.alloc());
     for (count, held, flow) in ENDLESS {
-        let head = &LETTERS[..count.min(LETTERS.len())];
-        let fed = fed(&rt, rt.alloc(), &config, &[], head, 8_192);
+        let mut head = Text::new(rt.alloc());
+        for _ in 0..count {
+            head.push_all(&LETTERS).expect(&rt, "memory");
+        }
+        let fed = fed(
+            &rt,
+            rt.alloc(),
+            &config,
+            &[],
+            head.as_bytes(),
+            LETTERS.len(),
+        );
         let seen = (fed.out.len(), fed.held, fed.flow);
         same_at(&rt, count, seen, (0, held, flow));
     }
@@ -238,7 +249,7 @@ fn long_answer(rt: &impl Abort, alloc: Global) -> Text {
         alloc,
         "HTTP/1.1 200 OK\r\nContent-Length: 1048576\r\n\r\n",
     );
-    for _ in 0..16 {
+    for _ in 0..128 {
         answer.push_all(&LETTERS).expect(rt, "memory");
     }
     answer

@@ -18,7 +18,10 @@ fn threads_may_share_patterns(rt: HostRuntime) -> Result<(), Fail> {
         panic!(rt; "no URL pattern");
     };
     shared(&url);
-    shared(url.host());
+    let Some(host) = url.host() else {
+        panic!(rt; "no host pattern");
+    };
+    shared(host);
     let Ok(tag) = TagPattern::read(alloc, "x") else {
         panic!(rt; "no tag pattern");
     };

@@ -1,14 +1,18 @@
 //! The runs of a case: its command over objects in memory, and its session by itself.
+ghost use Rattle.std.specs.Prelude.{◌≡◌, [], IfOk};
+
 use crate::cases::fields::Key;
 use crate::cases::setups::{Device, Failing, NamedFile, Origin, Setup};
 use crate::faults::Fault;
 use px_base::{
-    Answer, Content, Files, FixedClock, List, MemDialer, MemFiles, Peer, TapeIn, TapeOut, Text,
+    Answer, Content, Dialer, Files, FixedClock, List, MemDialer, MemFiles, Peer, TapeIn, TapeOut,
+    Text,
 };
 use px_commands::run_tool;
 use px_config::{Config, load};
 use px_publish::StepConfig;
 use px_serve::{Session, serve_connection};
+use px_socks::SocksDialer;
 use px_ways::Way;
 use std::alloc::Global;
 use std::sync::Arc;
@@ -158,7 +162,9 @@ impl Run<'_, '_> {
         }
     }
 
-    fn dialer(&self) -> Result<MemDialer, Fault> {
+    fn dialer(&self) -> Result<MemDialer, Fault>
+        ensures none_dialled { IfOk result (λ d. (⟦<MemDialer as Dialer>⟧.state d).dials ≡ []) }
+    {
         let mut answers = List::new(self.alloc);
         for (dial, origin) in self.setup.origins.iter().enumerate() {
             answers.add(self.answer(dial, origin)?)?;
@@ -323,7 +329,7 @@ pub(crate) fn run_session<R: Threads + Sync>(
     let mut configs = run.configs(configs)?;
     let mut input = run.input()?;
     let mut out = run.output(Device::ClientWrite)?;
-    let mut dialer = run.dialer()?;
+    let mut dialer = SocksDialer::new(alloc, run.dialer()?);
     let mut clock = run.clock()?;
     let tags = run.tags()?;
     let peer = Peer {
@@ -340,6 +346,7 @@ pub(crate) fn run_session<R: Threads + Sync>(
         &peer,
         tags.as_slice(),
     );
+    let dialer = dialer.into_inner();
     let (end, notes) = told_session(alloc, &session)?;
     Ok(Seen {
         shown: vec![in alloc;

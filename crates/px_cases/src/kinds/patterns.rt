@@ -47,8 +47,19 @@ fn parts_of(alloc: Global, url: &Url) -> Result<Text, Fault> {
 /// Whether a pattern matches a URL.
 pub(crate) fn matches(row: &Row<'_>) -> Result<Text, Fault> {
     let pattern = UrlPattern::read(row.alloc, row.string("pattern")?.as_str())?;
+    answer(row, &pattern)
+}
+
+/// Whether a pattern whose host is an expression matches a URL.
+pub(crate) fn expressions(row: &Row<'_>) -> Result<Text, Fault> {
+    let expression = row.string("expression")?;
+    let pattern = UrlPattern::read_expression(row.alloc, expression.as_str())?;
+    answer(row, &pattern)
+}
+
+fn answer(row: &Row<'_>, pattern: &UrlPattern) -> Result<Text, Fault> {
     let url = url_of(row, false)?;
-    let yes = matches_counted::<Brand>(row.alloc, &pattern, &url, Blank::new(1))?;
+    let yes = matches_counted::<Brand>(row.alloc, pattern, &url, Blank::new(1))?;
     yes_or_no(row.alloc, yes)
 }
 

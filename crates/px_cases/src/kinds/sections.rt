@@ -99,7 +99,11 @@ pub(crate) fn decisions(row: &Row<'_>) -> Result<Text, Fault> {
 pub(crate) fn routes(row: &Row<'_>) -> Result<Text, Fault> {
     let mut forwards = Forwards::empty(row.alloc);
     for line in row.items("lines")?.as_slice() {
-        forwards.add(as_str(line.as_bytes())?)?;
+        let line = as_str(line.as_bytes())?;
+        match line.strip_prefix("forward-socks5 ") {
+            Some(value) => forwards.add_socks(value)?,
+            None => forwards.add(line)?,
+        }
     }
     let route = route(row.alloc, &url_of(row, false)?, &set_of(row)?, &forwards)?;
     let mut out = said(row.alloc, if route.parent { "parent " } else { "origin " })?;

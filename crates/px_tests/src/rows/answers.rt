@@ -7,7 +7,8 @@ ghost use Rattle.px_answers.specs.Framings.{form_by, framing_of, has_body, is_id
 ghost use Rattle.px_answers.specs.declared.forms.Form.TheVariants as form;
 ghost use Rattle.px_framing.specs.declared.places.State.TheVariants as state;
 ghost use Rattle.px_framing.specs.declared.rules.BodyRule.TheVariants as rule;
-ghost use Rattle.px_pumps.specs.Answering.{is_interim, most_heads};
+ghost use Rattle.px_head.specs.Heads.{is_interim};
+ghost use Rattle.px_pumps.specs.Answering.{most_heads};
 ghost use Rattle.px_sending.specs.Heads.{expects_continue, next_head, next_minor};
 ghost use Rattle.px_tests.specs.Rows.{field};
 
