@@ -48,7 +48,7 @@ JOBS = [
 ]
 FOLDER = {
     "config": "confdir /etc/privoxy\nactionsfile /etc/privoxy/my.action\nactionsfile gone.action\nfilterfile my.filter\n"
-    "listen-address 0.0.0.0:8119\nlisten-address 192.168.1.2:8118\nforward-socks5t .onion 127.0.0.1:9050 .\n"
+    "listen-address 0.0.0.0:8119\nlisten-address 192.168.1.2:8118\nforward-socks5t .onion 127.0.0.1:9050 .\nforward-socks4a .i2p 127.0.0.1:4447 .\n"
     "forward / me:secret@p.test:3128\nforward .near .\ntoggle on\nbuffer-limit 99999\ndebug 1\n",
     "my.action": "{{alias}}\nads = +block\n{ads}\n.a.test/x/(?!(?:.*/)?y)\n.b.test/z(?!w)\nhttp://c.test/\n{+hide-referrer{Block} "
     "-hide-user-agent{x} +limit-connect{0-443} +add-header{Host: x} +nonsense}\n/caf\xe9\n",
@@ -57,7 +57,7 @@ FOLDER = {
 # Lines of the files that are made, and words of the report.
 MADE = {
     "config": ["actionsfile from-privoxy.action", "actionsfile my.action", "#actionsfile gone.action", "listen-address 127.0.0.1:8119",
-               "#listen-address 192.168.1.2:8118", "forward-socks5t .onion 127.0.0.1:9050 .", "#forward / me:secret@p.test:3128",
+               "#listen-address 192.168.1.2:8118", "forward-socks5t .onion 127.0.0.1:9050 .", "forward-socks4a .i2p 127.0.0.1:4447 .", "#forward / me:secret@p.test:3128",
                "forward .near .", "toggle 1", "buffer-limit 16384", "#debug 1"],
     "my.action": ["ads = +block{}", "{ads}", ".a.test/x/", "{-block}", ".a.test/x/(?:(?:.*/)?y)", r".b.test/z(?:\z|[^Ww])", "c.test/",
                   "{+hide-referrer{block} -hide-user-agent +limit-connect{-443}}", r"/caf\xE9"],
@@ -65,7 +65,7 @@ MADE = {
     "from-privoxy.action": ["{+prevent-compression}", "/"],
 }
 REPORT = ["filter one: nearly the same (1 of 2 jobs left out)", "line 3: `(?R` has no form here", "`+nonsense`: no such action", "a second filter one",
-          "gone.action: the file isn't there", "is kept. Where `check` refuses it (29)", "`debug` has no effect: there is no log"]
+          "gone.action: the file isn't there", "is kept, and `check` refuses it (29): SOCKS4", "`debug` has no effect: there is no log"]
 
 
 def job_rows(fail):

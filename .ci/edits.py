@@ -4,8 +4,7 @@
 Each begins with a line `why: CLAUSE of FUNCTION`: the clause that refuses it, by the label of the `ensures` (`result` where it
 has none), and the function that owes it, a method as `Type::method`. An `ensures` of a trait is owed by each method that
 implements it. In place of an `ensures` may stand the label of a ghost clause of a structure, `CLAUSE of Type`; `ends`, which
-every function owes without a clause, since no call may run for ever; or a `requires` of a function of another crate that the
-wrong body calls.
+every function owes without a clause, since no call may run for ever; or a `requires` of a function that the wrong body calls.
 
 A crate has at most four, no two of one clause; a wrong body that docs/PROOFS.md names stands besides, and its line ends with
 `(named)`. What an edit changes stands once in its file.
@@ -98,10 +97,10 @@ class Sources:
         return found
 
     def has(self, crate, clause, function):
-        """Whether a function of the crate owes the clause, or one of another crate asks for it."""
+        """Whether a function of the crate owes the clause or asks for it, or one of another crate asks for it."""
         own = self.clauses(crate, function)
         if own is not None:
-            return clause == "ends" or ("ensures", clause) in own
+            return clause == "ends" or ("ensures", clause) in own or ("requires", clause) in own
         asked = (self.clauses(other, function) or set() for other in self.crates if other != crate)
         return any(("requires", clause) in clauses for clauses in asked)
 

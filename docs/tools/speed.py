@@ -47,14 +47,14 @@ def allocations(program, words, given=b""):
     return int(re.search(r"total heap usage: ([\d,]+) allocs", said)[1].replace(",", ""))
 
 
-def session(folder, requests, answer=PLAIN, more=0):
+def session(folder, requests, answer=PLAIN, more=0, config=os.path.join(ROOT, "conf", "config")):
     """The words of `pass` and its input: so many requests on one connection, each with so many fields more."""
     origin = os.path.join(folder, "origin")
     with open(origin, "wb") as file:
         file.write((b"%d\n" % len(answer) + answer) * requests)
     fields = [*FIELDS, *(f"X-Field-{number}: a value of some length" for number in range(more))]
     heads = ("\r\n".join([f"GET http://www.example.com/page/{number} HTTP/1.1", *fields, "", ""]) for number in range(requests))
-    return ["pass", os.path.join(ROOT, "conf", "config"), origin, os.path.join(folder, "sent")], "".join(heads).encode()
+    return ["pass", config, origin, os.path.join(folder, "sent")], "".join(heads).encode()
 
 
 def chunked(many):
@@ -68,12 +68,26 @@ def page(size):
     return b"HTTP/1.1 200 OK\r\nContent-Type: text/html\r\nContent-Length: %d\r\n\r\n" % len(text) + text
 
 
-def patterns(folder, many):
-    with open(os.path.join(folder, "config"), "w") as file:
-        file.write("actionsfile many.action\n")
+def configuration(folder, hosts, expressions=0):
+    """A configuration that blocks so many hosts, and those that so many host expressions fit."""
+    config = os.path.join(folder, "config")
+    with open(config, "w") as file:
+        file.write("actionsfile many.action\npattern-limit 40000\n")
     with open(os.path.join(folder, "many.action"), "w") as file:
-        file.write("{+block{ads}}\n" + "".join(f".host{number}.example\n" for number in range(many)))
-    return ["check", os.path.join(folder, "config")]
+        file.write("{+block{ads}}\n" + "".join(f".host{number}.example\n" for number in range(hosts)))
+        file.write("".join(f"PCRE-HOST-PATTERN:(ad|track)[0-9]*{number}\\.example\n" for number in range(expressions)))
+    return config
+
+
+def patterns(folder, many):
+    return ["check", configuration(folder, many)]
+
+
+def under(program, folder, hosts, expressions):
+    """The instructions of a GET that no pattern of such a configuration fits."""
+    config = configuration(folder, hosts, expressions)
+    few, many = (instructions(program, *session(folder, count, config=config)) for count in (10, 90))
+    return (many - few) / 80
 
 
 def seconds(program, words):
@@ -98,8 +112,12 @@ def main():
         print(f"a byte of a page that conf/ filters: {each(counted, (1, page(20000)), (1, page(60000)), 40000):.1f} instructions")
         check = lambda many: instructions(program, patterns(folder, many))
         print(f"a host pattern, loaded: {(check(20000) - check(1000)) / 19000:,.0f} instructions")
+        least, hosts, both = (under(program, folder, *given) for given in ((0, 0), (20000, 0), (20000, 100)))
+        print(f"a GET that nothing fits, under an empty configuration: {least:,.0f} instructions")
+        print(f"20,000 host patterns more: {hosts - least:,.0f} instructions; a host expression beside them: {(both - hosts) / 100:,.0f}")
         print(f"check conf/config: {1000 * min(seconds(program, ['check', os.path.join(ROOT, 'conf', 'config')]) for _ in range(5)):.0f} ms")
-        print(f"check of 20,000 host patterns: {1000 * min(seconds(program, patterns(folder, 20000)) for _ in range(5)):.0f} ms")
+        for many in (20000, 40000):
+            print(f"check of {many:,} host patterns: {1000 * min(seconds(program, patterns(folder, many)) for _ in range(5)):.0f} ms")
 
 
 main()

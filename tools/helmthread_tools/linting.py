@@ -7,7 +7,7 @@ import re
 from . import jobs, tables
 from .expressions import Reader, Unread
 from .lines import FILE_LIMIT, LINE_LIMIT, is_utf8, logical, shown
-from .linting_actions import PATTERN_LIMIT, ActionLints
+from .linting_actions import MOST_PATTERNS, PATTERN_LIMIT, ActionLints
 from .linting_patterns import PatternLints
 from .nearness import near
 from .scanning import scan
@@ -20,6 +20,7 @@ class Linter(ActionLints, PatternLints):
     def __init__(self, config):
         self.config, self.complaints, self.cut = config, [], set()
         self.templates, self.filters, self.folder = None, {}, os.path.dirname(config) or "."
+        self.most_patterns = PATTERN_LIMIT
         self.patterns, self.too_many, self.named, self.aliases, self.listens = (
             0,
             False,
@@ -145,7 +146,7 @@ class Linter(ActionLints, PatternLints):
                 self.too_many[0],
                 self.too_many[1],
                 "",
-                "all actions files together have more than %d patterns" % PATTERN_LIMIT,
+                "all actions files together have more than %d patterns" % self.most_patterns,
                 "Leave hosts of block lists out; helmthread-from-hosts stops there by itself",
             )
         return self.complaints
@@ -199,13 +200,13 @@ class Linter(ActionLints, PatternLints):
 
     def directive(self, number, name, value):
         low = name.lower()
-        if low in tables.SOCKS:
+        if low in tables.SOCKS4:
             self.say(
                 "config",
                 number,
                 name,
-                "SOCKS parents aren't known",
-                "An http parent: forward PATTERN HOST:PORT",
+                "SOCKS4 servers aren't known",
+                "forward-socks5 PATTERN HOST:PORT . where the server knows SOCKS5 too",
             )
         elif low not in tables.DIRECTIVES:
             guess = near(re.split(r"[=:]", low)[0], tables.DIRECTIVES)
@@ -320,6 +321,18 @@ class Linter(ActionLints, PatternLints):
                 "buffer-limit %d" % min(size, 16384),
             )
 
+    def pattern_limit(self, number, value):
+        if is_digits(value) and int(value) <= MOST_PATTERNS:
+            self.most_patterns = int(value)
+        else:
+            self.say(
+                "config",
+                number,
+                value,
+                "it is a number of patterns, 0 to %d" % MOST_PATTERNS,
+                "pattern-limit %d" % MOST_PATTERNS,
+            )
+
     def switch(self, number, value, name):
         if value not in ("0", "1"):
             meant = "0" if value.lower() in ("off", "no", "false") else "1"
@@ -353,24 +366,54 @@ class Linter(ActionLints, PatternLints):
             )
             return
         self.url_pattern("config", number, words[0])
+        self.parent(number, words[1], "forward %s %%s" % words[0])
+
+    def forward_socks5(self, number, value):
+        words = value.split()
+        if len(words) != 3:
+            self.say(
+                "config",
+                number,
+                value,
+                "it is a pattern, a SOCKS server and a parent",
+                "forward-socks5 / HOST:PORT . where the server itself connects to the site",
+            )
+            return
+        self.url_pattern("config", number, words[0])
         if not tables.is_parent(words[1]):
-            plain = re.sub(r"^\w+://|/+$", "", words[1])
-            if "@" in plain:
-                self.say(
-                    "config",
-                    number,
-                    words[1],
-                    "a parent with a password can't be used",
-                    "A parent that asks for none: HOST:PORT",
-                )
-            else:
-                self.say(
-                    "config",
-                    number,
-                    words[1],
-                    "a parent is HOST:PORT, or `.`",
-                    "forward %s %s" % (words[0], plain if tables.is_parent(plain) else "HOST:PORT"),
-                )
+            self.say(
+                "config",
+                number,
+                words[1],
+                "a SOCKS server with a password can't be used"
+                if "@" in words[1]
+                else "a SOCKS server is HOST:PORT",
+                "forward-socks5 %s HOST:PORT %s" % (words[0], words[2]),
+            )
+        self.parent(number, words[2], "forward-socks5 %s %s %%s" % (words[0], words[1]))
+
+    forward_socks5t = forward_socks5
+
+    def parent(self, number, word, line):
+        if tables.is_parent(word):
+            return
+        plain = re.sub(r"^\w+://|/+$", "", word)
+        if "@" in plain:
+            self.say(
+                "config",
+                number,
+                word,
+                "a parent with a password can't be used",
+                "A parent that asks for none: HOST:PORT",
+            )
+        else:
+            self.say(
+                "config",
+                number,
+                word,
+                "a parent is HOST:PORT, or `.`",
+                line % (plain if tables.is_parent(plain) else "HOST:PORT"),
+            )
 
     def place(self, number, value, what):
         """Where a named file is, and its data."""

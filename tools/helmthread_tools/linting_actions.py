@@ -6,7 +6,8 @@ from . import tables
 from .nearness import near
 from .letters import is_alnum
 
-PATTERN_LIMIT = 20000
+# How many patterns there may be, and how many at most `pattern-limit` may allow.
+PATTERN_LIMIT, MOST_PATTERNS = 20000, 40000
 BLOCKS = ("alias", "settings", "description")
 VALUES = {
     "field": "a field line as `X-Note: hello`, of no field that belongs to a connection",
@@ -34,7 +35,7 @@ class ActionLints:
                 self.alias(name, line)
             elif block == "section":
                 self.patterns += 1
-                if self.patterns > PATTERN_LIMIT and not self.too_many:
+                if self.patterns > self.most_patterns and not self.too_many:
                     self.too_many = (name, line.number)
                 self.pattern(name, line)
             elif block is None:

@@ -25,16 +25,31 @@ class PatternLints:
                 "these words stand in capitals",
                 text.partition(":")[0].upper() + ":" + text.partition(":")[2],
             )
-        elif text.startswith("PCRE-HOST-PATTERN:"):
+        elif text.startswith(tables.HOST_EXPRESSION):
+            self.host_expression(name, number, text[len(tables.HOST_EXPRESSION) :])
+        elif not self.adblock(name, line):
+            self.url_pattern(name, number, text)
+
+    def host_expression(self, name, number, text):
+        host, _, path = text.partition("/")
+        for part, what, write in [*scan(host), *scan(path)]:
+            self.say(name, number, part, what + " isn't read", write)
+        if host.startswith((" ", "\t")):
             self.say(
                 name,
                 number,
-                "PCRE-HOST-PATTERN:",
-                "hosts aren't matched by expressions",
-                "A pattern of chapter 6, as .example.com",
+                text,
+                "white space behind the word belongs to the expression",
+                tables.HOST_EXPRESSION + text.lstrip(" \t"),
             )
-        elif not self.adblock(name, line):
-            self.url_pattern(name, number, text)
+        elif re.search(r":[\d,-]+$", host):
+            self.say(
+                name,
+                number,
+                text,
+                "beside an expression for the host there is no port part",
+                tables.HOST_EXPRESSION + re.sub(r":[\d,-]+($|/)", r"\1", text),
+            )
 
     def adblock(self, name, line):
         """Whether the line is one of another kind of list, with a complaint where it is."""

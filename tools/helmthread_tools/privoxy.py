@@ -155,6 +155,24 @@ def without_look(text, anchored):
     return front, front + "(?:" + write(last.body) + ")"
 
 
+def host_expression(text):
+    """A pattern whose host is an expression. Privoxy 3.0.34 binds it to the end of the host alone, so
+    `.*` stands for what may come before."""
+    host, slash, path = text.partition("/")
+    if host:
+        if not (is_read_as_it_is(host) and readable(host)):
+            host, back = without_look(host, False)
+            if back is not None:
+                raise Unread("look-around in this place has no form here")
+        if not host.startswith("^") or len(parse(host, "i").top.branches) > 1:
+            host = ".*(?:%s$).*" % host
+    front = tables.HOST_EXPRESSION + host
+    if not slash or is_read_as_it_is(path) and readable(path):
+        return Patterns([front + slash + path])
+    made, back = without_look(slash + path, True)
+    return Patterns([front + made], [] if back is None else [front + back])
+
+
 def pattern(text):
     """A pattern of a section."""
     word = next((word for word in tables.TAG_WORDS if text.startswith(word)), None)
@@ -166,8 +184,8 @@ def pattern(text):
         if back is not None:
             raise Unread("look-around in this place has no form here")
         return Patterns([word + made])
-    if text.startswith("PCRE-HOST-PATTERN:"):
-        raise Unread("hosts aren't matched by expressions")
+    if text.startswith(tables.HOST_EXPRESSION):
+        return host_expression(text[len(tables.HOST_EXPRESSION) :])
     for prefix in ("http://", "https://"):
         if text.lower().startswith(prefix):
             text = text[len(prefix) :]
@@ -473,14 +491,8 @@ class MainFile:
         place = "config:%d" % line.number
         if name in ("confdir", "templdir"):
             return out_of_use(line)
-        if name in tables.SOCKS:
-            self.report.note(
-                place,
-                "`%s %s` is kept. Where `check` refuses it (29), this program doesn't know SOCKS parents; "
-                "requests would go another way without the line, so it wasn't taken out"
-                % (name, shown(value)),
-            )
-            return as_it_stands(line)
+        if name in tables.SOCKS4:
+            return self.kept_socks(line, name, value, place, "SOCKS4 servers aren't known")
         if name not in tables.DIRECTIVES:
             why = tables.ELSEWHERE.get(name, "no such directive")
             self.report.note(place, "`%s` has no effect: %s" % (name, why))
@@ -511,6 +523,12 @@ class MainFile:
         self.report.note(place, "`buffer-limit %s` became 16384, which is the most" % shown(value))
         return ["buffer-limit 16384"]
 
+    def pattern_limit(self, line, value, place):
+        if is_digits(value) and int(value) <= 40000:
+            return as_it_stands(line)
+        self.report.note(place, "`pattern-limit %s` became 40000, which is the most" % shown(value))
+        return ["pattern-limit 40000"]
+
     def forward(self, line, value, place):
         words = value.split()
         if len(words) == 2 and tables.is_parent(words[1]):
@@ -520,6 +538,29 @@ class MainFile:
             "`forward %s`: a parent is a host, or host:port, without a password" % shown(value),
         )
         return out_of_use(line)
+
+    def kept_socks(self, line, name, value, place, why):
+        """A line that `check` refuses and that stays: without it requests would go another way."""
+        self.report.note(
+            place,
+            "`%s %s` is kept, and `check` refuses it (29): %s; requests would go another way without "
+            "the line, so it wasn't taken out" % (name, shown(value), why),
+        )
+        return as_it_stands(line)
+
+    def forward_socks5(self, line, value, place):
+        words = value.split()
+        if len(words) == 3 and all(map(tables.is_parent, words[1:])):
+            return as_it_stands(line)
+        return self.kept_socks(
+            line,
+            line.text.split()[0].lower(),
+            value,
+            place,
+            "it is a pattern, a SOCKS server and a parent, both HOST:PORT without a password",
+        )
+
+    forward_socks5t = forward_socks5
 
     def switch(self, line, value, place):
         if value in ("0", "1"):

@@ -55,7 +55,6 @@ NO_EFFECT = {
     "external-filter",
     "https-inspection",
     "ignore-certificate-errors",
-    "suppress-tag",
 }
 
 # Values that mean something of their own; any other text is sent as it is.
@@ -82,6 +81,8 @@ READ_KINDS = (
     "SERVER-HEADER-TAGGER",
 )
 UNREAD_KINDS = ("EXTERNAL-FILTER", "CLIENT-BODY-FILTER", "CLIENT-BODY-TAGGER")
+# What begins a URL pattern whose host is an expression.
+HOST_EXPRESSION = "PCRE-HOST-PATTERN:"
 TAG_WORDS = ("TAG:", "NO-REQUEST-TAG:", "NO-RESPONSE-TAG:", "CLIENT-TAG:")
 
 DIRECTIVES = (
@@ -92,11 +93,14 @@ DIRECTIVES = (
     "listen-address",
     "buffer-limit",
     "forward",
+    "forward-socks5",
+    "forward-socks5t",
     "handle-as-empty-doc-returns-ok",
     "toggle",
+    "pattern-limit",
     "client-specific-tag",
 )
-SOCKS = ("forward-socks4", "forward-socks4a", "forward-socks5", "forward-socks5t")
+SOCKS4 = ("forward-socks4", "forward-socks4a")
 
 # Directives of Privoxy's that aren't read here, each with what that means.
 ELSEWHERE = {
