@@ -201,6 +201,7 @@ MISTAKES = [
     (C, "buffer-limit 4M", "config:4:", "`4M`", "buffer-limit 4096"),
     (C, "toggle on", "config:4:", "`on`", "toggle 1"),
     (C, "toggle = 1", "config:4:", "`= 1`", "toggle 1"),
+    (C, "link-reuse off", "config:4:", "`off`", "link-reuse 0"),
     (
         C,
         "forward / http://p.test:3128",

@@ -2,7 +2,8 @@
 """Compares `serve` with Privoxy under load: processor time and system calls a request, and requests a second.
 
 One origin (nginx, answers of 100 bytes), one client (wrk, keep-alive), and the two proxies one after the other, with 1, 8 and 64
-connections; under an empty configuration and under conf/, which Privoxy reads too (with `keep-alive-timeout 5` as Debian has it).
+connections; under an empty configuration, under conf/, which Privoxy reads too (with `keep-alive-timeout 5` as Debian has it), and
+under an empty one with shared links (`link-reuse 1`; Privoxy's `connection-sharing 1`), which is also held against the empty one.
 A count of a proxy is the difference over a run, of all its threads; system calls are counted by strace in a run of their own. What
 is printed are figures of this machine, so compare the columns of one run alone.
 
@@ -90,6 +91,8 @@ def configured(folder, name, port, of_privoxy):
     else:
         place.mkdir()
         text = ""
+    if name == "shared":
+        text = "connection-sharing 1\n" if of_privoxy else "link-reuse 1\n"
     text += f"\nlisten-address 127.0.0.1:{port}\n"
     if of_privoxy:
         # (Privoxy looks for the files of the lines behind a folder's in that folder)
@@ -111,7 +114,8 @@ def main():
         started = [start(["nginx", "-c", f"{folder}/nginx.conf"], origin)]
         try:
             print("configuration connections proxy: requests a second, processor microseconds and system calls a request")
-            for name in ("empty", "conf"):
+            alone = {}
+            for name in ("empty", "conf", "shared"):
                 proxies = {}
                 for proxy in ("helmthread", "privoxy"):
                     port = free_port()
@@ -130,6 +134,11 @@ def main():
                     ours, theirs = told["helmthread"], told["privoxy"]
                     ratios = [mine / max(other, 1e-9) for mine, other in zip(ours, theirs)]
                     print(f"{name} {connections} ratio: {ratios[0]:.2f}, {ratios[1]:.2f}, {ratios[2]:.2f}", flush=True)
+                    if name == "empty":
+                        alone[connections] = ours
+                    elif name == "shared":
+                        ratios = [mine / max(other, 1e-9) for mine, other in zip(ours, alone[connections])]
+                        print(f"shared {connections} to empty: {ratios[0]:.2f}, {ratios[1]:.2f}, {ratios[2]:.2f}", flush=True)
         finally:
             for process in reversed(started):
                 process.terminate()

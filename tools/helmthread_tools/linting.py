@@ -341,6 +341,9 @@ class Linter(ActionLints, PatternLints):
     def toggle(self, number, value):
         self.switch(number, value, "toggle")
 
+    def link_reuse(self, number, value):
+        self.switch(number, value, "link-reuse")
+
     def handle_as_empty_doc_returns_ok(self, number, value):
         self.switch(number, value, "handle-as-empty-doc-returns-ok")
 

@@ -571,6 +571,12 @@ class MainFile:
     toggle = switch
     handle_as_empty_doc_returns_ok = switch
 
+    def link_reuse(self, line, value, place):
+        if value in ("0", "1"):
+            return as_it_stands(line)
+        self.report.note(place, "`%s` became 0" % shown(line.text))
+        return ["link-reuse 0"]
+
     def client_specific_tag(self, line, value, place):
         words = value.split(None, 1)
         if not words or words[0] in self.tags:

@@ -97,6 +97,7 @@ DIRECTIVES = (
     "forward-socks5t",
     "handle-as-empty-doc-returns-ok",
     "toggle",
+    "link-reuse",
     "pattern-limit",
     "client-specific-tag",
 )

@@ -5,7 +5,7 @@ ghost use Rattle.std.specs.Prelude.{◌≡◌, ◌<◌, ◌++◌, length, IsTrue
 ghost use Rattle.px_base.specs.Causes.{HasCause};
 ghost use Rattle.px_base.specs.Sources.{SourceState, Reads, SourceGoesOn};
 ghost use Rattle.px_base.specs.Sinks.{SinkState, Writes, SinkCause, SinkGoesOn, Finishes};
-ghost use Rattle.px_base.specs.Dials.{DialerState, DialerGoesOn, linked, dialed, is_open, IsFresh, IsTold, agrees, without_first, DialCause, HangsUp};
+ghost use Rattle.px_base.specs.Dials.{DialerState, DialerGoesOn, linked, dialed, is_open, IsFresh, IsTold, met, agrees, LeavesComing, DialCause, HangsUp};
 
 use crate::{DialFault, Dialer, Failed, Sink, SinkFault, Source};
 
@@ -67,8 +67,8 @@ pub trait LocalDialer {
         ensures dials { IsTrue (state self.old).tells → (state self.new).dials ≡ (state self.old).dials ++ dialed host.now port (linked Self.In.state Self.Out.state result) }
         ensures told { IsTrue (state self.old).tells → IfOk (linked Self.In.state Self.Out.state result) (IsTold (state self.old)) }
         ensures fresh { IfOk (linked Self.In.state Self.Out.state result) IsFresh }
-        ensures coming { IsTrue (state self.old).tells_coming → agrees (state self.old).coming (linked Self.In.state Self.Out.state result) }
-        ensures coming_left { IsTrue (state self.old).tells_coming → (state self.new).coming ≡ without_first (state self.old).coming (linked Self.In.state Self.Out.state result) }
+        ensures coming { IsTrue (state self.old).tells_coming → agrees (met (state self.old) host.now) (linked Self.In.state Self.Out.state result) }
+        ensures coming_left { IsTrue (state self.old).tells_coming → LeavesComing (state self.old) (state self.new) host.now (linked Self.In.state Self.Out.state result) }
         ensures cause { DialCause (state self.old) (state self.new) result }
         ensures goes_on { DialerGoesOn (state self.old) (state self.new) };
 

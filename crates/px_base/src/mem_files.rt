@@ -20,6 +20,7 @@ pub struct MemFiles {
     calls: u64,
     read_faults: u64,
     put_faults: u64,
+    put_count: u64,
 }
 
 impl MemFiles {
@@ -32,6 +33,7 @@ impl MemFiles {
         ensures tells { IfOk result (λ files. ((⟦<MemFiles as Files>⟧.state files).tells ≡ true) × ((⟦<MemFiles as Files>⟧.state files).tells_later ≡ true)) }
         ensures contents { IfOk result (λ files. Unchanged (holds (state_at states 0)) (⟦<MemFiles as Files>⟧.state files).contents) }
         ensures later { IfOk result (λ files. (⟦<MemFiles as Files>⟧.state files).later ≡ states_behind states 0) }
+        ensures no_puts { IfOk result (λ files. (⟦<MemFiles as Files>⟧.state files).puts ≡ 0) }
         ensures no_faults { IfOk result (λ files. ((⟦<MemFiles as Files>⟧.state files).read_faults ≡ 0) × ((⟦<MemFiles as Files>⟧.state files).put_faults ≡ 0)) }
         ensures steady { IfOk result (λ files. (⟦<MemFiles as Files>⟧.state files).steady ≡ (length fails.now == 0)) }
     {
@@ -44,6 +46,7 @@ impl MemFiles {
             calls: 0,
             read_faults: 0,
             put_faults: 0,
+            put_count: 0,
         })
     }
 
@@ -114,6 +117,7 @@ impl Files for MemFiles {
       later = states_behind m.states m.at;
       read_faults = m.read_faults;
       put_faults = m.put_faults;
+      puts = m.put_count;
       steady = length m.fails.items == 0;
     } };
 
@@ -138,6 +142,7 @@ impl Files for MemFiles {
     }
 
     fn put(&mut self, name: &str, bytes: &[u8]) -> Result<(), FilesFault> {
+        self.put_count = self.put_count.saturating_add(1);
         let call = self.calls;
         self.calls = self.calls.saturating_add(1);
         if self.fails.contains(&call) {

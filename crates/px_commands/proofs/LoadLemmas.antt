@@ -7,16 +7,14 @@ use Rattle.px_base.specs.Moments.{ClockState}
 use Rattle.px_config.specs.declared.configs.Config.{Config}
 use Rattle.px_config.specs.declared.faults.LoadFault.{LoadFault}
 use Rattle.px_config.specs.FaultLines.{fault_text}
-use Rattle.px_config.specs.Gathering.{gathered}
-use Rattle.px_config.specs.Loading.{IsLoadFault, LoadCause}
-use Rattle.px_config.specs.Spelling.{spelled}
+use Rattle.px_config.specs.Loading.{LoadCause}
 use Rattle.px_patterns.specs.declared.faults.UrlFault.{UrlFault}
 use Rattle.px_patterns.specs.declared.urls.Url.{Url}
 use Rattle.px_patterns.specs.Urls.{url_of}
 use Rattle.px_show.specs.Showing.{checked, shown}
 use Rattle.px_commands.specs.declared.statuses.Status.{Status}
 use Rattle.px_commands.specs.declared.statuses.Status.TheVariants as status
-use Rattle.px_commands.specs.Loads.{FailsToLoad, Loads, Prints, ReportsOrWants, RunsCheck, RunsShow, ShowsBy, load_status, url_fault_line}
+use Rattle.px_commands.specs.Loads.{FailsToLoad, IsFaultOf, Loads, Prints, ReportsOrWants, RunsCheck, RunsShow, ShowsBy, load_status, url_fault_line}
 use Rattle.px_commands.specs.Passes.{GivesUp, Outside, ReportCause, Reports, ReportsOn}
 use Rattle.px_commands.specs.Passing.{RunsPass}
 
@@ -51,7 +49,7 @@ prints_by f f' i o o' e t text s same printed cause =
 -- a configuration that doesn't load
 pub fails_by : (config : List ℕ) (f f' : FilesState) (i : SourceState) (o e e' : SinkState) (t : ClockState) (fault : LoadFault) (s : Status)
     → (IsTrue f.tells → Unchanged f.contents f'.contents)
-    → (IsTrue f.tells → IsLoadFault (spelled (gathered f.contents config)) fault) → LoadCause f.read_faults f'.read_faults fault
+    → (IsTrue f.tells → IsFaultOf f.contents config fault) → LoadCause f.read_faults f'.read_faults fault
     → (IsTrue e.tells → ReportsOn e.taken e'.taken (fault_text fault) (load_status fault) s) → ReportCause e e' (load_status fault) s
     → FailsToLoad config (record { files = f; input = i; out = o; errors = e; clock = t }) (record { files = f'; input = i; out = o; errors = e'; clock = t }) s
 fails_by config f f' i o e e' t fault s same is cause reported report_cause =
@@ -60,7 +58,7 @@ fails_by config f f' i o e e' t fault s same is cause reported report_cause =
 -- `pass` of a configuration that doesn't load
 pub pass_fails : (config origin sent : List ℕ) (tags : List (List ℕ)) (f f' : FilesState) (i : SourceState) (o e e' : SinkState) (t : ClockState) (fault : LoadFault) (s : Status)
     → (IsTrue f.tells → Unchanged f.contents f'.contents)
-    → (IsTrue f.tells → IsLoadFault (spelled (gathered f.contents config)) fault) → LoadCause f.read_faults f'.read_faults fault
+    → (IsTrue f.tells → IsFaultOf f.contents config fault) → LoadCause f.read_faults f'.read_faults fault
     → ReportsOrWants e e' (fault_text fault) (load_status fault) s
     → RunsPass config origin sent tags (record { files = f; input = i; out = o; errors = e; clock = t }) (record { files = f'; input = i; out = o; errors = e'; clock = t }) s
 pass_fails config origin sent tags f f' i o e e' t fault s same is cause (inl reported) = inl (fails_by config f f' i o e e' t fault s same is cause reported.0 reported.1)
@@ -69,7 +67,7 @@ pass_fails config origin sent tags f f' i o e e' t fault s same is cause (inr wa
 -- `check` of a configuration that doesn't load
 pub check_fails : (config : List ℕ) (f f' : FilesState) (i : SourceState) (o e e' : SinkState) (t : ClockState) (fault : LoadFault) (s : Status)
     → (IsTrue f.tells → Unchanged f.contents f'.contents)
-    → (IsTrue f.tells → IsLoadFault (spelled (gathered f.contents config)) fault) → LoadCause f.read_faults f'.read_faults fault
+    → (IsTrue f.tells → IsFaultOf f.contents config fault) → LoadCause f.read_faults f'.read_faults fault
     → ReportsOrWants e e' (fault_text fault) (load_status fault) s
     → RunsCheck config (record { files = f; input = i; out = o; errors = e; clock = t }) (record { files = f'; input = i; out = o; errors = e'; clock = t }) s
 check_fails config f f' i o e e' t fault s same is cause (inl reported) = inl (fails_by config f f' i o e e' t fault s same is cause reported.0 reported.1)
@@ -78,7 +76,7 @@ check_fails config f f' i o e e' t fault s same is cause (inr wants) = inr (inr 
 -- `show` with a configuration that doesn't load
 pub show_fails : (config url : List ℕ) (tags : List (List ℕ)) (f f' : FilesState) (i : SourceState) (o e e' : SinkState) (t : ClockState) (fault : LoadFault) (s : Status)
     → (IsTrue f.tells → Unchanged f.contents f'.contents)
-    → (IsTrue f.tells → IsLoadFault (spelled (gathered f.contents config)) fault) → LoadCause f.read_faults f'.read_faults fault
+    → (IsTrue f.tells → IsFaultOf f.contents config fault) → LoadCause f.read_faults f'.read_faults fault
     → ReportsOrWants e e' (fault_text fault) (load_status fault) s
     → RunsShow config url tags (record { files = f; input = i; out = o; errors = e; clock = t }) (record { files = f'; input = i; out = o; errors = e'; clock = t }) s
 show_fails config url tags f f' i o e e' t fault s same is cause (inl reported) = inl (fails_by config f f' i o e e' t fault s same is cause reported.0 reported.1)

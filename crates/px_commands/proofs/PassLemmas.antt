@@ -28,7 +28,8 @@ pub record OnlyRead (old new : FilesState) : Type 0 where
   pub tells_same : new.tells ≡ old.tells
   pub unchanged : IsTrue old.tells → Unchanged old.contents new.contents
   pub reads_same : new.read_faults ≡ old.read_faults
-  pub puts_same : new.put_faults ≡ old.put_faults
+  pub put_faults_same : new.put_faults ≡ old.put_faults
+  pub unput : new.puts ≡ old.puts
 
 -- a put behind files that were only read
 put_moved : (a b c : Contents) (sent text : List ℕ) (r : Result (Unit {0}) FilesFault) → Unchanged a b → Puts b c sent text r → Puts a c sent text r
@@ -41,10 +42,11 @@ put_behind a b c sent text e s h (inl p) = inl (record {
   result = p.result;
   put = λ t. put_moved a.contents b.contents c.contents sent text p.result (h.unchanged t) (p.put (h.tells_same ∙ t));
   others = λ t other apart. p.others (h.tells_same ∙ t) other apart ∙ h.unchanged t other;
-  cause = rw h.puts_same at p.cause;
+  cause = rw h.put_faults_same at p.cause;
+  counted = rw h.unput at p.counted;
   status_is = p.status_is;
 })
-put_behind a b c sent text e s h (inr w) = inr (record { wanting = w.wanting; unchanged = λ t name. w.unchanged (h.tells_same ∙ t) name ∙ h.unchanged t name })
+put_behind a b c sent text e s h (inr w) = inr (record { wanting = w.wanting; unput = w.unput ∙ h.unput; unchanged = λ t name. w.unchanged (h.tells_same ∙ t) name ∙ h.unchanged t name })
 
 -- the answers of a file that was only read
 moved_answers : (a b : Contents) (name : List ℕ) (answers : List Answer) → Unchanged a b → HasAnswers (b name) answers → HasAnswers (a name) answers

@@ -1,13 +1,13 @@
 -- What the commands do that load a configuration and print: `check` and `show`.
 use Rattle.std.specs.Prelude.{◌≡◌, ℕ, ◌⊎◌, List, [], ◌∷◌, ◌++◌, Ok, Err, decimal, IsTrue}
 use Rattle.px_base.specs.Sinks.{SinkState}
-use Rattle.px_base.specs.Contents.{FilesState, Unchanged}
+use Rattle.px_base.specs.Contents.{Contents, FilesState, Unchanged}
 use Rattle.px_patterns.specs.Faults.{url_fault_name, url_fault_number}
 use Rattle.px_patterns.specs.Urls.{url_of}
 use Rattle.px_patterns.specs.declared.faults.UrlFault.{UrlFault}
 use Rattle.px_patterns.specs.declared.urls.Url.{Url}
 use Rattle.px_config.specs.FaultLines.{fault_text}
-use Rattle.px_config.specs.Gathering.{gathered}
+use Rattle.px_config.specs.Gathering.{ReadsOneOf, gathered, names_read}
 use Rattle.px_config.specs.Loading.{IsLoadFault, LoadCause}
 use Rattle.px_config.specs.Spelling.{spelled, seen_config}
 use Rattle.px_config.specs.declared.configs.Config.{Config}
@@ -30,10 +30,14 @@ load_status (fault.Spelled file line number) = status.NotLoaded
 load_status (fault.Read file) = status.ReadFailed
 load_status fault.Mem = status.NoMemory
 
+-- why CONFIG doesn't load: the first fault of what its files spell, or one of the files that it is made of couldn't be read
+abbrev pub IsFaultOf : Contents → List ℕ → LoadFault → Type 0
+IsFaultOf contents config fault = IsLoadFault (spelled (gathered contents config)) fault × ReadsOneOf (names_read contents config) fault
+
 -- the files of CONFIG spell no configuration, or couldn't be read
 pub record FailsToLoad (config : List ℕ) (old new : Outside) (s : Status) : Type 0 where
   pub fault : LoadFault
-  pub is_fault : IsTrue old.files.tells → IsLoadFault (spelled (gathered old.files.contents config)) fault
+  pub is_fault : IsTrue old.files.tells → IsFaultOf old.files.contents config fault
   pub load_cause : LoadCause old.files.read_faults new.files.read_faults fault
   pub reports : Reports old new (fault_text fault) (load_status fault) s
 

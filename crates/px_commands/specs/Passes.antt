@@ -57,9 +57,9 @@ ReportsOn old new text whole s =
     ((s ≡ whole) × (new ≡ old ++ text))
     ⊎ (((s ≡ status.WriteFailed) ⊎ (s ≡ status.NoMemory)) × AddsFront old new text)
 
--- the error sink failed where the status says so and it isn't the one that goes with the text
+-- the status is the one that goes with the text, and the error sink didn't fail; or it failed, as the status says, or memory was wanting
 abbrev pub ReportCause : SinkState → SinkState → Status → Status → Type 0
-ReportCause old new whole s = (s ≡ whole) ⊎ (((s ≡ status.WriteFailed) × Rose old.faults new.faults) ⊎ (s ≡ status.NoMemory))
+ReportCause old new whole s = ((s ≡ whole) × (new.faults ≡ old.faults)) ⊎ (((s ≡ status.WriteFailed) × Rose old.faults new.faults) ⊎ (s ≡ status.NoMemory))
 
 -- the command ends with a text for the error output, and that goes with a status
 pub record Reports (old new : Outside) (text : List ℕ) (whole s : Status) : Type 0 where
@@ -77,18 +77,21 @@ abbrev pub HasAnswers : Option (List ℕ) → List Answer → Type 0
 HasAnswers None answers = ⊥
 HasAnswers (Some text) answers = (length text ≤ 67108864) × IsOrigin text answers
 
--- SENT was put behind a session that ended so: not after want of memory in it; the first cause in time decides the status
+-- SENT was put, or tried to be, behind a session that ended so: not after want of memory in it; the first cause in time decides
+-- the status
 pub record PutsSent (old new : FilesState) (sent text : List ℕ) (e : SessionEnd) (s : Status) : Type 0 where
   pub memory : is_wanting e ≡ false
   pub result : Result (Unit {0}) FilesFault
   pub put : IsTrue old.tells → Puts old.contents new.contents sent text result
   pub others : IsTrue old.tells → OthersUnchanged old.contents new.contents sent
   pub cause : FilesCause old.put_faults new.put_faults result
+  pub counted : Rose old.puts new.puts
   pub status_is : s ≡ status_after e result
 
 -- memory was wanting in the session, or behind it, and SENT wasn't put
 pub record Withholds (old new : FilesState) (s : Status) : Type 0 where
   pub wanting : s ≡ status.NoMemory
+  pub unput : new.puts ≡ old.puts
   pub unchanged : IsTrue old.tells → Unchanged old.contents new.contents
 
 abbrev pub PutsAfter : FilesState → FilesState → List ℕ → List ℕ → SessionEnd → Status → Type 0
@@ -98,7 +101,7 @@ PutsAfter old new sent text e s = PutsSent old new sent text e s ⊎ Withholds o
 abbrev pub caller_of : List (List ℕ) → Caller
 caller_of tags = record { tags = tags; peer = codes "127.0.0.1" }
 
--- a session over the input and the answers, with that configuration, and the text of SENT: no forward line has a SOCKS server, so
+-- a session over the input and the answers, with that configuration, and the text of SENT: no forward line has a SOCKS server, and
 -- each dial takes an answer
 pub record IsServed (config : Config) (tags : List (List ℕ)) (answers : List Answer) (i i' : SourceState) (o o' : SinkState) (t t' : ClockState) (e : SessionEnd) (text : List ℕ) : Type 0 where
   pub looks : Looks
@@ -118,8 +121,9 @@ pub record IsServed (config : Config) (tags : List (List ℕ)) (answers : List A
 abbrev pub begun_socks : List Answer → Kept
 begun_socks answers = record { inner = fresh_dialer answers; notes = []; names = 0; reach = 0; link_reads = 0; link_writes = 0 }
 
--- the same through SOCKS servers: the session is one over the outer dials; the inner ones, which take the answers, are those that
--- stand behind the outer ones, and SENT has the inner links
+-- the same through SOCKS servers: the session is one over the outer dials; each takes an answer too, but for one whose target no
+-- server can be told, and by a dial name it gives what stands behind the bytes that are accepted of the server. The inner dials are
+-- those that stand behind the outer ones, and SENT has the inner links
 pub record IsServedThrough (config : Config) (tags : List (List ℕ)) (answers : List Answer) (i i' : SourceState) (o o' : SinkState) (t t' : ClockState) (e : SessionEnd) (text : List ℕ) : Type 0 where
   pub looks : Looks
   pub looks_after : Looks

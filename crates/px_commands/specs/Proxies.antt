@@ -1,5 +1,5 @@
 -- What `serve` does: with its words, the files, the doors and the error output.
-use Rattle.std.specs.Prelude.{◌≡◌, ℕ, ◌⊎◌, List, Some, IsTrue}
+use Rattle.std.specs.Prelude.{◌≡◌, ℕ, ◌⊎◌, List, [], Some, IsTrue, MatchBool}
 use Rattle.px_base.specs.Causes.{Rose}
 use Rattle.px_base.specs.Contents.{FilesState, FilesGoOn}
 use Rattle.px_base.specs.Moments.{ClockState}
@@ -9,6 +9,8 @@ use Rattle.px_config.specs.Gathering.{OnlyReads}
 use Rattle.px_config.specs.declared.configs.Config.{Config}
 use Rattle.px_config.specs.declared.sets.FileSet.{FileSet}
 use Rattle.px_publish.specs.Views.{Pair}
+use Rattle.px_link_pool.specs.Histories.{Views}
+use Rattle.px_shared.specs.SharedDoors.{IsBelow, with_pools}
 use Rattle.px_doors.specs.Doors.{DoorsState, DoorsGoesOn, Stays}
 use Rattle.px_doors.specs.declared.addresses.ListenAddress.{ListenAddress}
 use Rattle.px_desk.specs.Desks.{StandsAfter}
@@ -103,13 +105,29 @@ abbrev pub ServesLoaded : List ℕ → ℕ → FileSet → Config → ProxyOutsi
 ServesLoaded config most loaded first old new counts s =
     FailsToListen old new counts s ⊎ (Serves config most loaded first old new counts s ⊎ WantsServing old new counts s)
 
+-- the same objects with other doors
+abbrev pub with_doors : DoorsState → ProxyOutside → ProxyOutside
+with_doors doors p = record { files = p.files; doors = doors; errors = p.errors }
+
+-- the connections shared links: they were those of doors that give each a pool, put over the doors before these listened and
+-- taken off at the end
+pub record ServesSharing {S T : Type 0} (v : Views S T) (config : List ℕ) (most : ℕ) (loaded : FileSet) (first : Config) (old new : ProxyOutside) (counts : ReloadCounts) (s : Status) : Type 0 where
+  pub doors : DoorsState
+  pub serves : ServesLoaded config most loaded first (with_doors (with_pools old.doors []) old) (with_doors doors new) counts s
+  pub below : IsBelow v doors new.doors
+
+-- with a configuration that was loaded: where it says so, the connections share links
+abbrev pub ServesFirst : {S T : Type 0} → Views S T → List ℕ → ℕ → FileSet → Config → ProxyOutside → ProxyOutside → ReloadCounts → Status → Type 0
+ServesFirst v config most loaded first old new counts s =
+    MatchBool first.settings.sharing (ServesSharing v config most loaded first old new counts s) (ServesLoaded config most loaded first old new counts s)
+
 -- the files of CONFIG spell a configuration, by which the doors are served
-pub record ServesConfig (config : List ℕ) (most : ℕ) (old new : ProxyOutside) (counts : ReloadCounts) (s : Status) : Type 0 where
+pub record ServesConfig {S T : Type 0} (v : Views S T) (config : List ℕ) (most : ℕ) (old new : ProxyOutside) (counts : ReloadCounts) (s : Status) : Type 0 where
   pub loaded : FileSet
   pub gathered : IsTrue old.files.tells → loaded ≡ set_of config old.files.contents
   pub first : Config
   pub spells : Spells loaded first
-  pub serves : ServesLoaded config most loaded first old new counts s
+  pub serves : ServesFirst v config most loaded first old new counts s
 
 -- the files of CONFIG spell no configuration, or couldn't be read; or memory was wanting before that was known
 pub record Unloaded (config : List ℕ) (old new : ProxyOutside) (counts : ReloadCounts) (s : Status) : Type 0 where
@@ -117,8 +135,8 @@ pub record Unloaded (config : List ℕ) (old new : ProxyOutside) (counts : Reloa
   pub none_counted : counts ≡ none
 
 -- with the words of `serve`
-abbrev pub RunsServe : List ℕ → ℕ → ProxyOutside → ProxyOutside → ReloadCounts → Status → Type 0
-RunsServe config most old new counts s = Unloaded config old new counts s ⊎ ServesConfig config most old new counts s
+abbrev pub RunsServe : {S T : Type 0} → Views S T → List ℕ → ℕ → ProxyOutside → ProxyOutside → ReloadCounts → Status → Type 0
+RunsServe v config most old new counts s = Unloaded config old new counts s ⊎ ServesConfig v config most old new counts s
 
 -- the words aren't those of `serve`
 pub record RefusesServe (words : List (List ℕ)) (old new : ProxyOutside) (counts : ReloadCounts) (s : Status) : Type 0 where
@@ -127,19 +145,19 @@ pub record RefusesServe (words : List (List ℕ)) (old new : ProxyOutside) (coun
   pub none_counted : counts ≡ none
 
 -- the words are those of `serve`
-pub record RunsWords (words : List (List ℕ)) (old new : ProxyOutside) (counts : ReloadCounts) (s : Status) : Type 0 where
+pub record RunsWords {S T : Type 0} (v : Views S T) (words : List (List ℕ)) (old new : ProxyOutside) (counts : ReloadCounts) (s : Status) : Type 0 where
   pub config : List ℕ
   pub workers : ℕ
   pub most : ℕ
   pub is_serve : IsServe words config workers most
-  pub runs : RunsServe config most old new counts s
+  pub runs : RunsServe v config most old new counts s
 
-abbrev pub ServesBy : List (List ℕ) → ProxyOutside → ProxyOutside → ReloadCounts → Status → Type 0
-ServesBy words old new counts s = RefusesServe words old new counts s ⊎ RunsWords words old new counts s
+abbrev pub ServesBy : {S T : Type 0} → Views S T → List (List ℕ) → ProxyOutside → ProxyOutside → ReloadCounts → Status → Type 0
+ServesBy v words old new counts s = RefusesServe words old new counts s ⊎ RunsWords v words old new counts s
 
--- how a proxy ends: by one status, with what it did and why
-pub record RunsProxy (words : List (List ℕ)) (old new : ProxyOutside) (counts : ReloadCounts) (code : ℕ) : Type 0 where
+-- how a proxy ends: by one status, with what it did and why, where the ends of links are seen so
+pub record RunsProxy {S T : Type 0} (v : Views S T) (words : List (List ℕ)) (old new : ProxyOutside) (counts : ReloadCounts) (code : ℕ) : Type 0 where
   pub ended : Status
   pub code_is : code ≡ code_of ended
-  pub serves : ServesBy words old new counts ended
+  pub serves : ServesBy v words old new counts ended
   pub goes_on : ProxyGoesOn old new

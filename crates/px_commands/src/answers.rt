@@ -27,6 +27,7 @@ pub fn read_answers<F: Files>(alloc: Global, files: &mut F, name: &str) -> Origi
     ensures reads { IsTrue (F.state files.old).tells → OriginReads ((F.state files.old).contents name.now) result }
     ensures unchanged { IsTrue (F.state files.old).tells → Unchanged (F.state files.old).contents (F.state files.new).contents }
     ensures cause { OriginCause (F.state files.old) (F.state files.new) result }
+    ensures unput { (F.state files.new).puts ≡ (F.state files.old).puts }
     ensures go_on { FilesGoOn (F.state files.old) (F.state files.new) }
 {
     match files.read(name, ORIGIN_LIMIT) {

@@ -1,7 +1,7 @@
 // The command `serve`: connections of doors by a configuration that is loaded again with each.
 ghost use Rattle.std.specs.Prelude.{◌≡◌, ◌∷◌, ◌<◌, ◌≤◌, [], All, IfErr, IfOk, IsTrue, Some, map, string_bytes, vec_len};
 ghost use Rattle.px_base.specs.Contents.{FilesGoOn};
-ghost use Rattle.px_config.specs.Gathering.{OnlyReads, gathered};
+ghost use Rattle.px_config.specs.Gathering.{OnlyReads, ReadsOneOf, gathered, names_read};
 ghost use Rattle.px_config.specs.Loading.{IsLoadFault, LoadCauses};
 ghost use Rattle.px_config.specs.Spelling.{spelled};
 ghost use Rattle.px_publish.specs.Published.{pair_of, published, reader_pair};
@@ -9,7 +9,7 @@ ghost use Rattle.px_desk.specs.Desks.{BeginsWith, StandsAfter};
 ghost use Rattle.px_desk.specs.Facts.{Begun, Closes};
 ghost use Rattle.px_desk.specs.Sets.{Spells};
 ghost use Rattle.px_desk.specs.Turns.{none};
-ghost use Rattle.px_commands.specs.Proxies.{ProxyGoesOn, RunsProxy, RunsServe, ServesBy, ServesLoaded, ServesPublished};
+ghost use Rattle.px_commands.specs.Proxies.{ProxyGoesOn, RunsProxy, RunsServe, ServesBy, ServesFirst, ServesLoaded, ServesPublished, ServesSharing};
 
 use crate::loads::report_load;
 use crate::parses::parse_serve;
@@ -22,7 +22,9 @@ use px_desk::{Desk, Parts, ReloadCounts};
 use px_doors::{Doors, ListenAddress};
 use px_proxy::serve_all;
 use px_publish::{ConfigReader, Publisher, publish_pair};
+use px_shared::{Opening, SharedDoors};
 use std::alloc::Global;
+use std::marker::Brand;
 use std::sync::{Arc, Wait};
 use std::thread::Threads;
 
@@ -64,7 +66,7 @@ pub fn run_proxy<R: Threads + Wait + Sync, F: Files, A: Doors, E: Sink>(
     parts: Parts<F, A, E>,
 ) -> Proxied<F, A, E>
     requires begun { Begun (A.state parts.doors) }
-    ensures runs { RunsProxy (map string_bytes words.now)
+    ensures runs { RunsProxy (record { ins = A.Dial.In.state; outs = A.Dial.Out.state }) (map string_bytes words.now)
         (record { files = F.state parts.files; doors = A.state parts.doors; errors = E.state parts.err })
         (record { files = F.state result.parts.files; doors = A.state result.parts.doors; errors = E.state result.parts.err }) result.counts result.status }
 {
@@ -87,7 +89,7 @@ fn serve_by<R: Threads + Wait + Sync, F: Files, A: Doors, E: Sink>(
     parts: Parts<F, A, E>,
 ) -> Ended<F, A, E>
     requires begun { Begun (A.state parts.doors) }
-    ensures serves { ServesBy (map string_bytes words.now)
+    ensures serves { ServesBy (record { ins = A.Dial.In.state; outs = A.Dial.Out.state }) (map string_bytes words.now)
         (record { files = F.state parts.files; doors = A.state parts.doors; errors = E.state parts.err })
         (record { files = F.state result.parts.files; doors = A.state result.parts.doors; errors = E.state result.parts.err }) result.counts result.status }
     ensures goes_on { ProxyGoesOn
@@ -120,6 +122,7 @@ fn load_set<F: Files>(
     ensures set { IsTrue (F.state files.old).tells → IfOk result (λ l. l.0 ≡ gathered (F.state files.old).contents main.now) }
     ensures spells { IfOk result (λ l. Spells l.0 l.1) }
     ensures refused { IsTrue (F.state files.old).tells → IfErr result (IsLoadFault (spelled (gathered (F.state files.old).contents main.now))) }
+    ensures named { IsTrue (F.state files.old).tells → IfErr result (ReadsOneOf (names_read (F.state files.old).contents main.now)) }
     ensures cause { LoadCauses (F.state files.old) (F.state files.new) result }
     ensures only_reads { OnlyReads (F.state files.old) (F.state files.new) }
     ensures go_on { FilesGoOn (F.state files.old) (F.state files.new) }
@@ -139,7 +142,7 @@ fn run_serve<R: Threads + Wait + Sync, F: Files, A: Doors, E: Sink>(
     requires begun { Begun (A.state parts.doors) }
     requires some { 0 < serve.workers }
     requires at_most { serve.workers ≤ 64 }
-    ensures runs { RunsServe serve.entry.config.now serve.entry.most
+    ensures runs { RunsServe (record { ins = A.Dial.In.state; outs = A.Dial.Out.state }) serve.entry.config.now serve.entry.most
         (record { files = F.state parts.files; doors = A.state parts.doors; errors = E.state parts.err })
         (record { files = F.state result.parts.files; doors = A.state result.parts.doors; errors = E.state result.parts.err }) result.counts result.status }
     ensures goes_on { ProxyGoesOn
@@ -154,12 +157,77 @@ fn run_serve<R: Threads + Wait + Sync, F: Files, A: Doors, E: Sink>(
     match load_set(alloc, &mut files, serve.config) {
         Ok((loaded, first)) => {
             let parts = Parts { files, doors, err };
-            serve_loaded(alloc, rt, serve, loaded, first, parts)
+            serve_first(alloc, rt, serve, loaded, first, parts)
         }
         Err(fault) => {
             let status = report_load(alloc, &mut err, &fault);
             unserved(status, Parts { files, doors, err })
         }
+    }
+}
+
+/// Serves with a configuration that was loaded. Where it says so, the requests of a connection share links to an origin.
+fn serve_first<R: Threads + Wait + Sync, F: Files, A: Doors, E: Sink>(
+    alloc: Global,
+    rt: &R,
+    serve: ServeWords<'_>,
+    loaded: FileSet,
+    first: Config,
+    parts: Parts<F, A, E>,
+) -> Ended<F, A, E>
+    requires begun { Begun (A.state parts.doors) }
+    requires spells { Spells loaded first }
+    requires some { 0 < serve.workers }
+    requires at_most { serve.workers ≤ 64 }
+    ensures serves { ServesFirst (record { ins = A.Dial.In.state; outs = A.Dial.Out.state }) serve.entry.config.now serve.entry.most loaded first
+        (record { files = F.state parts.files; doors = A.state parts.doors; errors = E.state parts.err })
+        (record { files = F.state result.parts.files; doors = A.state result.parts.doors; errors = E.state result.parts.err }) result.counts result.status }
+    ensures goes_on { ProxyGoesOn
+        (record { files = F.state parts.files; doors = A.state parts.doors; errors = E.state parts.err })
+        (record { files = F.state result.parts.files; doors = A.state result.parts.doors; errors = E.state result.parts.err }) }
+{
+    if first.settings.sharing {
+        serve_sharing::<Brand, R, F, A, E>(alloc, rt, serve, loaded, first, parts)
+    } else {
+        serve_loaded(alloc, rt, serve, loaded, first, parts)
+    }
+}
+
+/// Serves over doors that give each connection a pool of links, and takes them apart again.
+fn serve_sharing<N: Opening + Send, R: Threads + Wait + Sync, F: Files, A: Doors, E: Sink>(
+    alloc: Global,
+    rt: &R,
+    serve: ServeWords<'_>,
+    loaded: FileSet,
+    first: Config,
+    parts: Parts<F, A, E>,
+) -> Ended<F, A, E>
+    requires begun { Begun (A.state parts.doors) }
+    requires opening { A.state parts.doors ≡ N.doors }
+    requires spells { Spells loaded first }
+    requires some { 0 < serve.workers }
+    requires at_most { serve.workers ≤ 64 }
+    ensures serves { ServesSharing (record { ins = A.Dial.In.state; outs = A.Dial.Out.state }) serve.entry.config.now serve.entry.most loaded first
+        (record { files = F.state parts.files; doors = A.state parts.doors; errors = E.state parts.err })
+        (record { files = F.state result.parts.files; doors = A.state result.parts.doors; errors = E.state result.parts.err }) result.counts result.status }
+    ensures goes_on { ProxyGoesOn
+        (record { files = F.state parts.files; doors = A.state parts.doors; errors = E.state parts.err })
+        (record { files = F.state result.parts.files; doors = A.state result.parts.doors; errors = E.state result.parts.err }) }
+{
+    let Parts { files, doors, err } = parts;
+    let doors = SharedDoors::<A, N>::new(alloc, doors);
+    let parts = Parts { files, doors, err };
+    let Ended {
+        status,
+        parts,
+        counts,
+    } = serve_loaded(alloc, rt, serve, loaded, first, parts);
+    let Parts { files, doors, err } = parts;
+    let doors = doors.into_inner();
+    Ended {
+        status,
+        parts: Parts { files, doors, err },
+        counts,
     }
 }
 

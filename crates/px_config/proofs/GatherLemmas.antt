@@ -30,6 +30,7 @@ reads_twice h k = record {
   unchanged = λ t name. k.unchanged (h.tells_same ∙ t) name ∙ h.unchanged t name;
   later_same = λ t. k.later_same (h.tells_later_same ∙ t) ∙ h.later_same t;
   put_faults_same = k.put_faults_same ∙ h.put_faults_same;
+  puts_same = k.puts_same ∙ h.puts_same;
 }
 
 pub go_on : {a b c : FilesState} → FilesGoOn a b → FilesGoOn b c → FilesGoOn a c

@@ -1,6 +1,7 @@
 pub mod DirectiveLemmas
 pub mod FaultLemmas
 pub mod GatherLemmas
+pub mod IndexLemmas
 pub mod MainLemmas
 pub mod NameLemmas
 pub mod SetLemmas

@@ -20,5 +20,6 @@ found directive.ForwardSocks4 = refl
 found directive.ForwardSocks4a = refl
 found directive.EmptyReturnsOk = refl
 found directive.Toggle = refl
+found directive.LinkReuse = refl
 found directive.PatternLimit = refl
 found directive.ClientTag = refl

@@ -53,6 +53,7 @@ pub record OnlyReads (old new : FilesState) : Type 0 where
   pub unchanged : IsTrue old.tells → Unchanged old.contents new.contents
   pub later_same : IsTrue old.tells_later → new.later ≡ old.later
   pub put_faults_same : new.put_faults ≡ old.put_faults
+  pub puts_same : new.puts ≡ old.puts
 
 -- why files weren't gathered: the count of faults rose in a read, or memory was wanting
 abbrev pub GatherCause : ℕ → ℕ → LoadFault → Type 0

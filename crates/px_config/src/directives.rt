@@ -38,6 +38,8 @@ pub(crate) enum Directive {
     EmptyReturnsOk,
     /// `toggle`: 0 or 1.
     Toggle,
+    /// `link-reuse`: 0 or 1.
+    LinkReuse,
     /// `pattern-limit`: how many patterns all action files may have.
     PatternLimit,
     /// `client-specific-tag`: a name and a description.
@@ -45,7 +47,7 @@ pub(crate) enum Directive {
 }
 
 /// All directives.
-pub(crate) const DIRECTIVES: [Directive; 15] = [
+pub(crate) const DIRECTIVES: [Directive; 16] = [
     Directive::ActionsFile,
     Directive::FilterFile,
     Directive::Confdir,
@@ -59,6 +61,7 @@ pub(crate) const DIRECTIVES: [Directive; 15] = [
     Directive::ForwardSocks4a,
     Directive::EmptyReturnsOk,
     Directive::Toggle,
+    Directive::LinkReuse,
     Directive::PatternLimit,
     Directive::ClientTag,
 ];
@@ -82,6 +85,7 @@ impl Directive {
             Directive::ForwardSocks4a => "forward-socks4a",
             Directive::EmptyReturnsOk => "handle-as-empty-doc-returns-ok",
             Directive::Toggle => "toggle",
+            Directive::LinkReuse => "link-reuse",
             Directive::PatternLimit => "pattern-limit",
             Directive::ClientTag => "client-specific-tag",
         }

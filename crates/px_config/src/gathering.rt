@@ -7,11 +7,12 @@ ghost use Rattle.px_config.specs.Sets.{FitsItem};
 ghost use Rattle.px_base.specs.Causes.{Rose};
 
 use crate::faults::LoadFault;
+use crate::indexes::Gathered;
 use crate::names::{
     action_names, confdir, filter_names, full_name, page_names, template_names, templdir,
 };
-use crate::sets::{FILE_LIMIT, FileSet, all_included, is_in, readable_lines};
-use px_base::{Content, Files, FilesFault, List, Mem, Text, as_text};
+use crate::sets::{FILE_LIMIT, FileSet, all_included, readable_lines};
+use px_base::{Content, Files, FilesFault, Mem, Text, as_text};
 use px_text::Line;
 use std::alloc::Global;
 
@@ -55,7 +56,7 @@ fn read_item<F: Files>(
     files: &mut F,
     name: Text,
     written: &[u8],
-    items: &mut List<(Text, Content)>,
+    items: &mut Gathered,
 ) -> Result<(), LoadFault>
     ensures items { IsTrue (F.state files.old).tells → OnOk result (items.new ≡ with_item (F.state files.old).contents items.old name) }
     ensures fits { OnOk result (All FitsItem items.old → All FitsItem items.new) }
@@ -64,13 +65,13 @@ fn read_item<F: Files>(
     ensures only_reads { OnlyReads (F.state files.old) (F.state files.new) }
     ensures go_on { FilesGoOn (F.state files.old) (F.state files.new) }
 {
-    if is_in(items.as_slice(), name.as_bytes()) {
+    if items.has(name.as_bytes()) {
         return Ok(());
     }
     match as_text(name.as_bytes()) {
         Some(text) => {
             let content = read_content(alloc, files, text, written)?;
-            items.add((name, content))?;
+            items.add(alloc, name, content)?;
             Ok(())
         }
         None => Ok(()),
@@ -84,7 +85,7 @@ fn read_files<F: Files>(
     files: &mut F,
     folder: Option<&[u8]>,
     names: &[Text],
-    items: &mut List<(Text, Content)>,
+    items: &mut Gathered,
 ) -> Result<(), LoadFault>
     ensures items { IsTrue (F.state files.old).tells → OnOk result (items.new ≡ with_files (F.state files.old).contents (option_copied folder.entry) items.old names.now) }
     ensures fits { OnOk result (All FitsItem items.old → All FitsItem items.new) }
@@ -109,7 +110,7 @@ fn read_named<F: Files>(
     files: &mut F,
     main: &[u8],
     lines: &[Line],
-    items: &mut List<(Text, Content)>,
+    items: &mut Gathered,
 ) -> Result<(), LoadFault>
     ensures items { IsTrue (F.state files.old).tells → items.old ≡ item_of (F.state files.old).contents main.now ∷ [] → OnOk result (items.new ≡ all_items (F.state files.old).contents main.now lines.now) }
     ensures fits { OnOk result (All FitsItem items.old → All FitsItem items.new) }
@@ -145,7 +146,7 @@ fn read_listed<F: Files>(
     files: &mut F,
     main: &[u8],
     lines: &[Line],
-    items: &mut List<(Text, Content)>,
+    items: &mut Gathered,
 ) -> Result<(), LoadFault>
     ensures items { IsTrue (F.state files.old).tells → OnOk result (items.new ≡ with_files (F.state files.old).contents (confdir main.now lines.now) items.old (action_names lines.now ++ filter_names lines.now)) }
     ensures fits { OnOk result (All FitsItem items.old → All FitsItem items.new) }
@@ -175,13 +176,13 @@ pub fn gather<F: Files>(alloc: Global, files: &mut F, main: &str) -> Result<File
 {
     let content = read_content(alloc, files, main, main.as_bytes())?;
     let lines = readable_lines(alloc, &content)?;
-    let mut items = List::new(alloc);
-    items.add((Text::from_bytes(alloc, main.as_bytes())?, content))?;
+    let mut items = Gathered::new(alloc);
+    items.add(alloc, Text::from_bytes(alloc, main.as_bytes())?, content)?;
     if let Some(lines) = lines {
         read_named(alloc, files, main.as_bytes(), lines.as_slice(), &mut items)?;
     }
     Ok(FileSet {
         main: Text::from_bytes(alloc, main.as_bytes())?,
-        items,
+        items: items.into_items(),
     })
 }

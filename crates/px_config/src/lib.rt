@@ -10,6 +10,7 @@ mod fault_lines;
 mod faults;
 mod filters;
 mod gathering;
+mod indexes;
 mod laws;
 mod mains;
 mod names;

@@ -58,6 +58,7 @@ pub(crate) struct Main {
     pub(crate) buffer_limit: u64,
     pub(crate) empty_returns_ok: bool,
     pub(crate) toggle: bool,
+    pub(crate) sharing: bool,
     pub(crate) pattern_limit: u64,
     pub(crate) tags: List<Text>,
     pub(crate) forwards: Forwards,
@@ -152,6 +153,7 @@ impl Main {
             buffer_limit: DEFAULT_KILOBYTES * KILOBYTE,
             empty_returns_ok: false,
             toggle: true,
+            sharing: false,
             pattern_limit: DEFAULT_PATTERNS,
             tags: List::new(alloc),
             forwards: Forwards::empty(alloc),
@@ -189,6 +191,7 @@ impl Main {
             buffer_limit,
             empty_returns_ok,
             toggle,
+            sharing,
             pattern_limit,
             tags,
             forwards,
@@ -204,6 +207,7 @@ impl Main {
                 buffer_limit,
                 empty_returns_ok,
                 toggle,
+                sharing,
                 pattern_limit,
                 tags,
             },
@@ -290,6 +294,10 @@ impl Main {
             }
             Directive::Toggle => {
                 self.toggle = read_switch(line, value)?;
+                Ok(())
+            }
+            Directive::LinkReuse => {
+                self.sharing = read_switch(line, value)?;
                 Ok(())
             }
             Directive::PatternLimit => {

@@ -3,7 +3,7 @@ ghost use Rattle.std.specs.Prelude.{◌≡◌, ◌==◌, ◌++◌, IfOk, OnOk, f
 ghost use Rattle.std.specs.List.{list_any};
 ghost use Rattle.px_base.specs.Contents.{FitsLimit};
 ghost use Rattle.px_base.specs.declared.files.Content.TheVariants as content;
-ghost use Rattle.px_config.specs.Sets.{content_in, included_by, included_on, is_in, may_include, names_included, readable_lines};
+ghost use Rattle.px_config.specs.Sets.{content_in, included_by, included_on, may_include, names_included, readable_lines};
 
 use crate::names::{SLASH, full_name};
 use px_base::{Content, List, Mem, Text, is_text};
@@ -21,13 +21,6 @@ pub struct FileSet {
     /// The name of the main file.
     pub main: Text,
     pub items: List<(Text, Content)>,
-}
-
-/// Whether a set has an item of a name.
-pub(crate) fn is_in(items: &[(Text, Content)], name: &[u8]) -> bool
-    ensures { result ≡ is_in items.now name.now }
-{
-    items.iter().any(|item| item.0.as_bytes() == name)
 }
 
 /// What a set has of a name. A name without an item is missing.

@@ -14,6 +14,7 @@ use crate::contents::{fault_in, file_lines};
 use crate::faults::LoadFault;
 use crate::filters::FilterFiles;
 use crate::gathering::gather;
+use crate::indexes::Index;
 use crate::mains::Main;
 use crate::names::{
     IMAGE_BLANK, IMAGE_PATTERN, action_names, confdir, filter_names, page_names, template_names,
@@ -133,20 +134,21 @@ fn spell_templates(
     ensures config { IfOk result (λ config. behind_filters items.now folder.now settings forwards (seen_actions actions) filters ≡ Ok (seen_config config)) }
     ensures refused { IfErr result (IsFault (behind_filters items.now folder.now settings forwards (seen_actions actions) filters)) }
 {
-    match check_all(alloc, items, folder) {
-        Ok(()) => spell_pages(alloc, items, folder, settings, forwards, actions, filters),
+    let items = Index::new(alloc, items)?;
+    match check_all(alloc, &items, folder) {
+        Ok(()) => spell_pages(alloc, &items, folder, settings, forwards, actions, filters),
         Err(fault) => Err(fault),
     }
 }
 
 /// Refuses the first template, image or included text that is over the limit.
-fn check_all(alloc: Global, items: &[(Text, Content)], folder: &[u8]) -> Result<(), LoadFault>
+fn check_all(alloc: Global, items: &Index<'_>, folder: &[u8]) -> Result<(), LoadFault>
     ensures fit { OnOk result (sizes items.now folder.now ≡ Ok tt) }
     ensures refused { IfErr result (IsFault (sizes items.now folder.now)) }
 {
     let names = template_names(alloc)?;
     let pages = page_names(alloc)?;
-    let included = all_included(alloc, items, folder, pages.as_slice())?;
+    let included = all_included(alloc, items.as_slice(), folder, pages.as_slice())?;
     match check_sizes(alloc, items, folder, names.as_slice()) {
         Ok(()) => check_sizes(alloc, items, folder, included.as_slice()),
         Err(fault) => Err(fault),
@@ -157,7 +159,7 @@ fn check_all(alloc: Global, items: &[(Text, Content)], folder: &[u8]) -> Result<
 #[tactic(auto, unfolding(crate::specs::Spelling::behind_sizes))]
 fn spell_pages(
     alloc: Global,
-    items: &[(Text, Content)],
+    items: &Index<'_>,
     folder: &[u8],
     settings: Settings,
     forwards: Forwards,
@@ -182,7 +184,7 @@ fn spell_pages(
 #[tactic(auto, using(crate::proofs::SpellLemmas::same_sections))]
 fn build(
     alloc: Global,
-    items: &[(Text, Content)],
+    items: &Index<'_>,
     folder: &[u8],
     settings: Settings,
     forwards: Forwards,

@@ -8,24 +8,20 @@ ghost use Rattle.px_config.specs.Sets.{content_in};
 
 use crate::contents::fault_in;
 use crate::faults::{LoadFault, TOO_LARGE};
+use crate::indexes::Index;
 use crate::names::full_name;
-use crate::sets::{find, may_include};
+use crate::sets::may_include;
 use px_action_files::FileFault;
 use px_base::{Content, List, Mem, Text};
 use px_templates::{PAGES, Page, Template, TemplateFault, built_in, included_names};
 use std::alloc::Global;
 
 /// Whether a set has a file over the limit by this name.
-fn is_over(
-    alloc: Global,
-    items: &[(Text, Content)],
-    folder: &[u8],
-    name: &[u8],
-) -> Result<bool, Mem>
+fn is_over(alloc: Global, items: &Index<'_>, folder: &[u8], name: &[u8]) -> Result<bool, Mem>
     ensures { IfOk result (λ over. over ≡ is_over (content_in items.now (full_name (Some folder.now) name.now))) }
 {
     let full = full_name(alloc, Some(folder), name)?;
-    match find(items, full.as_bytes()) {
+    match items.find(full.as_bytes()) {
         Some(content) => Ok(is_over_limit(content)),
         None => Ok(false),
     }
@@ -45,7 +41,7 @@ fn is_over_limit(content: &Content) -> bool
 #[tactic(auto, unfolding(crate::specs::Pages::all_fit))]
 pub(crate) fn check_sizes(
     alloc: Global,
-    items: &[(Text, Content)],
+    items: &Index<'_>,
     folder: &[u8],
     names: &[Text],
 ) -> Result<(), LoadFault>
@@ -72,14 +68,14 @@ pub(crate) fn check_sizes(
 /// The text that a set has of a name in a folder.
 pub(crate) fn text_in<'s>(
     alloc: Global,
-    items: &'s [(Text, Content)],
+    items: &Index<'s>,
     folder: &[u8],
     name: &[u8],
 ) -> Result<Option<&'s [u8]>, Mem>
     ensures { IfOk result (λ text. option_copied text ≡ text_in items.now folder.now name.now) }
 {
     let full = full_name(alloc, Some(folder), name)?;
-    match find(items, full.as_bytes()) {
+    match items.find(full.as_bytes()) {
         Some(content) => Ok(found_text(content)),
         None => Ok(None),
     }
@@ -98,7 +94,7 @@ fn found_text(content: &Content) -> Option<&[u8]>
 /// An image of a set.
 pub(crate) fn image_in(
     alloc: Global,
-    items: &[(Text, Content)],
+    items: &Index<'_>,
     folder: &[u8],
     name: &[u8],
 ) -> Result<Option<Text>, Mem>
@@ -114,7 +110,7 @@ pub(crate) fn image_in(
 #[tactic(auto, unfolding(crate::specs::Pages::includes_of))]
 fn includes_of(
     alloc: Global,
-    items: &[(Text, Content)],
+    items: &Index<'_>,
     folder: &[u8],
     names: &[Text],
 ) -> Result<Vec<(Text, Text)>, Mem>
@@ -134,7 +130,7 @@ fn includes_of(
 /// The text that a name includes, with the name.
 fn include_of(
     alloc: Global,
-    items: &[(Text, Content)],
+    items: &Index<'_>,
     folder: &[u8],
     name: &[u8],
 ) -> Result<Option<(Text, Text)>, Mem>
@@ -166,7 +162,7 @@ fn template_fault(fault: TemplateFault) -> FileFault
 #[tactic(auto, unfolding(crate::specs::Pages::template_of), using(crate::proofs::FaultLemmas::template_rules))]
 fn read_template(
     alloc: Global,
-    items: &[(Text, Content)],
+    items: &Index<'_>,
     folder: &[u8],
     text: &[u8],
 ) -> Result<Template, FileFault>
@@ -185,7 +181,7 @@ fn read_template(
 #[tactic(auto, using(crate::proofs::FaultLemmas::fault_of))]
 fn read_page(
     alloc: Global,
-    items: &[(Text, Content)],
+    items: &Index<'_>,
     folder: &[u8],
     page: Page,
 ) -> Result<Template, LoadFault>
@@ -202,7 +198,7 @@ fn read_page(
 /// The text of a page's template.
 fn page_text<'s>(
     alloc: Global,
-    items: &'s [(Text, Content)],
+    items: &Index<'s>,
     folder: &[u8],
     page: Page,
 ) -> Result<&'s [u8], Mem>
@@ -217,7 +213,7 @@ fn page_text<'s>(
 /// The templates of all pages, in their order.
 pub(crate) fn read_pages(
     alloc: Global,
-    items: &[(Text, Content)],
+    items: &Index<'_>,
     folder: &[u8],
 ) -> Result<List<Template>, LoadFault>
     ensures templates { IfOk result (λ templates. pages_of items.now folder.now [] PAGES ≡ Ok templates) }
@@ -231,7 +227,7 @@ pub(crate) fn read_pages(
 #[tactic(auto, unfolding(crate::specs::Pages::pages_of))]
 fn read_some(
     alloc: Global,
-    items: &[(Text, Content)],
+    items: &Index<'_>,
     folder: &[u8],
     pages: &[Page],
 ) -> Result<List<Template>, LoadFault>

@@ -11,7 +11,7 @@ use Rattle.px_base.specs.Numbers.{all_digits, is_digit, with_digits}
 use Rattle.px_base.specs.Numbers.{decimal as decimal_of}
 use Rattle.px_base.specs.Ports.{port}
 use Rattle.px_actions.specs.Hops.{NextHop, direct, parent, by_name, bracketed, host_and_port, is_address_byte, is_bracket, is_colon, is_host_byte, is_made_of, next_hop, parent_of, port_behind}
-use Rattle.px_socks.specs.Names.{Server, begins_with, is_slash}
+use Rattle.px_base.specs.DialNames.{Server, begins_with, is_slash}
 use Rattle.px_socks.specs.Printed.{HasNone, IsPrintable, IsReadAs, printed}
 use Rattle.px_decide.specs.Servers.{dial_name, lacks_port, named_server, server_by}
 

@@ -7,7 +7,7 @@ use Rattle.px_patterns.specs.declared.faults.PatternFault.{PatternFault}
 use Rattle.px_patterns.specs.Patterns.{url_pattern}
 use Rattle.px_patterns.specs.Faults.{pattern_fault_number}
 use Rattle.px_actions.specs.Hops.{NextHop, next_hop}
-use Rattle.px_socks.specs.Names.{Server}
+use Rattle.px_base.specs.DialNames.{Server}
 use Rattle.px_decide.specs.declared.faults.ForwardFault.{ForwardFault}
 use Rattle.px_decide.specs.declared.faults.ForwardFault.TheVariants as fault
 use Rattle.px_decide.specs.Servers.{named_server}

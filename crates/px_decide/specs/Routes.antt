@@ -8,7 +8,7 @@ use Rattle.px_actions.specs.Rules.{override_hop}
 use Rattle.px_actions.specs.Sets.{value}
 use Rattle.px_actions.specs.declared.kinds.Kind.TheVariants.{ForwardOverride}
 use Rattle.px_actions.specs.declared.settings.Setting.{Setting}
-use Rattle.px_socks.specs.Names.{Server}
+use Rattle.px_base.specs.DialNames.{Server}
 use Rattle.px_decide.specs.declared.routes.Route.{Route}
 use Rattle.px_decide.specs.Forwards.{Line}
 use Rattle.px_decide.specs.Servers.{dial_name}

@@ -3,7 +3,7 @@ use Rattle.std.specs.Prelude.{ℕ, ◌==◌, ◌||◌, Bool, List, Option, optio
 use Rattle.std.specs.List.{ends_with}
 use Rattle.std.specs.Str.{byte, bytes_eq}
 use Rattle.px_actions.specs.Hops.{NextHop, direct, parent, next_hop}
-use Rattle.px_socks.specs.Names.{Server}
+use Rattle.px_base.specs.DialNames.{Server}
 use Rattle.px_socks.specs.Printed.{printed}
 use Rattle.px_decide.specs.declared.servers.KeptServer.{KeptServer}
 

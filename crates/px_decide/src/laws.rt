@@ -1,6 +1,6 @@
 // What the definitions say of one another.
 ghost use Rattle.std.specs.Prelude.{◌≡◌, ℕ, List, Some};
-ghost use Rattle.px_socks.specs.Names.{Server};
+ghost use Rattle.px_base.specs.DialNames.{Server};
 ghost use Rattle.px_socks.specs.Printed.{IsReadAs};
 ghost use Rattle.px_decide.specs.Servers.{dial_name, named_server};
 

@@ -32,7 +32,7 @@ pub type SocketParted<'r> = Parted<
 
 /// Takes connections over TCP from clients of this machine, and says on the error output where it listens, or why it can't. What
 /// clients still send to connections that ended is thrown away for a while before they are closed. Each connection's dialer goes
-/// through SOCKS servers where a host is a dial name.
+/// through SOCKS servers where a host is a dial name. Letting the doors go waits until the connections that ended are closed.
 #[derive(Drop)]
 pub struct SocketDoors<'r> {
     alloc: Global,
@@ -67,14 +67,6 @@ impl<'r> SocketDoors<'r> {
         match &self.listener {
             Some(listener) => Some(listener.port),
             None => None,
-        }
-    }
-
-    /// Takes no more connections, and closes those that ended: what their clients still send is thrown away for a while.
-    pub fn close(self) {
-        let SocketDoors { listener, .. } = self;
-        if let Some(listener) = listener {
-            listener.close();
         }
     }
 }

@@ -1,15 +1,13 @@
 -- The one dial of a route.
-use Rattle.std.proofs.Common.{◌≡◌, ℕ, Bool, IsTrue, true, false, not, ◌==◌, List, [], ◌∷◌, ◌++◌, length, drop, Ok, ap, ◌∙◌, refl, subst}
+use Rattle.std.proofs.Common.{◌≡◌, ℕ, Bool, IsTrue, true, false, not, ◌==◌, List, [], ◌∷◌, ◌++◌, Ok, ap, ◌∙◌, refl, subst, rules}
 use Rattle.std.specs.Prelude.{MatchBool}
 use Rattle.std.proofs.lemmas.Bool.{or_parts, or_right, or_left, eq-eqb}
 use Rattle.px_base.specs.Causes.{Rose, RisesWith}
 use Rattle.px_base.specs.declared.dials.Dial.{Dial}
-use Rattle.px_base.specs.declared.dials.Answer.{Answer}
-use Rattle.px_base.specs.declared.dials.Answer.TheVariants as answer
 use Rattle.px_base.specs.declared.dials.DialOutcome.TheVariants as outcome
 use Rattle.px_base.specs.Sources.{SourceState, SourceGoesOn}
 use Rattle.px_base.specs.Sinks.{SinkState}
-use Rattle.px_base.specs.Dials.{DialerState, IsFresh, IsTold, HangsUp, traffic, Traffic, is_open, is_open_at, finish, closed_dial, agrees}
+use Rattle.px_base.specs.Dials.{DialerState, DialerGoesOn, Met, offers, nameless, unreached, untold, met, coming_behind, IsFresh, IsTold, HangsUp, traffic, Traffic, is_open, is_open_at, finish, closed_dial, agrees}
 use Rattle.px_base.specs.declared.dials.DialOutcome.{DialOutcome}
 use Rattle.px_decide.specs.declared.routes.Route.{Route}
 use Rattle.px_exchange.specs.Forwarding.{link_seen}
@@ -39,21 +37,25 @@ calm : (n : ℕ) → n ≡ 0 → not (n == 0) ≡ false
 calm n e = rw e refl
 
 -- an end without failing calls
-steady : {now : Bool} {n : ℕ} (b : Bool) (m k : ℕ) → b ≡ (k == 0) → (IsTrue b → IsTrue now × (n ≡ m)) → m ≡ 0 → k ≡ 0 → not (n == 0) ≡ false
-steady {n = n} b m k e kept none zero = calm n ((kept (e ∙ eq-eqb k 0 zero)).1 ∙ none)
+steady : {now : Bool} {n : ℕ} (b c : Bool) (m : ℕ) → b ≡ c → (IsTrue b → IsTrue now × (n ≡ m)) → m ≡ 0 → IsTrue c → not (n == 0) ≡ false
+steady {n = n} b c m e kept none told = calm n ((kept (e ∙ told)).1 ∙ none)
 
 -- what came over the link is what was to come
-comes : (coming : List Answer) (i i' : SourceState) (o o' : SinkState)
-    → agrees coming (Ok (record { link_in = i; link_out = o })) → IsFresh (record { link_in = i; link_out = o }) → SourceGoesOn i i' → (IsTrue o.steady → o'.faults ≡ o.faults)
-    → Comes coming (outcome.Link (link_seen i' o'))
-comes (answer.Link bytes cuts rs ws ∷ as_) i i' o o' a fresh on_in calm_out = (
+comes : (m : Met) (i i' : SourceState) (o o' : SinkState)
+    → agrees m (Ok (record { link_in = i; link_out = o })) → IsFresh (record { link_in = i; link_out = o }) → SourceGoesOn i i' → (IsTrue o.steady → o'.faults ≡ o.faults)
+    → Comes m (outcome.Link (link_seen i' o'))
+comes (offers bytes reads writes) i i' o o' a fresh on_in calm_out = (
   on_in.offered_same ∙ a.0,
-  λ none. steady i.steady i.faults (length rs) a.1 on_in.steady_kept fresh.no_read_failed none,
-  λ none. calm o'.faults (calm_out (a.2 ∙ eq-eqb (length ws) 0 none) ∙ fresh.no_write_failed),
+  λ told. steady i.steady reads i.faults a.1 on_in.steady_kept fresh.no_read_failed told,
+  λ told. calm o'.faults (calm_out (a.2 ∙ told) ∙ fresh.no_write_failed),
 )
-comes (answer.NoName ∷ as_) i i' o o' a fresh on_in calm_out = absurd a
-comes (answer.NotReached ∷ as_) i i' o o' a fresh on_in calm_out = absurd a
-comes [] i i' o o' a fresh on_in calm_out = absurd a
+comes nameless i i' o o' a fresh on_in calm_out = absurd a
+comes unreached i i' o o' a fresh on_in calm_out = absurd a
+comes untold i i' o o' a fresh on_in calm_out = tt
+
+-- what lasts over a dial, and over hanging up behind it
+dialer_goes_on : {a b c : DialerState} → DialerGoesOn a b → DialerGoesOn b c → DialerGoesOn a c
+dialer_goes_on h k = search rules
 
 -- an end that failed raised its count
 rises_by : (mid new : ℕ) (b : Bool) → MatchBool b (new ≡ mid) (Rose mid new) → not b ≡ true → Rose mid new
@@ -84,22 +86,25 @@ pub dialed_once : (old mid new : DialerState) (i i' : SourceState) (o o' : SinkS
     → mid.dials ≡ old.dials ++ record { host = route.host; port = route.port; outcome = outcome.Open i.mark i.offered } ∷ []
     → IsTold old (record { link_in = i; link_out = o })
     → IsFresh (record { link_in = i; link_out = o })
-    → (IsTrue old.tells_coming → agrees old.coming (Ok (record { link_in = i; link_out = o })))
-    → (IsTrue old.tells_coming → (mid.coming ≡ drop 1 old.coming) × IsTrue mid.tells_coming)
+    → (IsTrue old.tells_coming → agrees (met old route.host) (Ok (record { link_in = i; link_out = o })))
+    → (IsTrue old.tells_coming → mid.coming ≡ coming_behind old route.host)
+    → DialerGoesOn old mid
+    → DialerGoesOn mid new
     → (mid.link_reads ≡ old.link_reads) × (mid.link_writes ≡ old.link_writes)
     → SourceGoesOn i i'
     → (IsTrue o.steady → o'.faults ≡ o.faults)
     → HangsUp mid new i' o'
     → Gives (outcome.Link (link_seen i' o'))
     → DialsOnce route Gives old new
-dialed_once old mid new i i' o o' route Gives tells em told fresh agree left stay on_in calm_out hung gives =
+dialed_once old mid new i i' o o' route Gives tells em told fresh agree left lasts_dial lasts_hung stay on_in calm_out hung gives =
     record {
       dial = record { host = route.host; port = route.port; outcome = outcome.Link (link_seen i' o') };
       added = added_once old mid new i i' o' route.host route.port tells em told.new_mark on_in hung;
       to_host = refl;
       to_port = refl;
       gives = gives;
-      comes = λ c. comes old.coming i i' o o' (agree c) fresh on_in calm_out;
-      coming_left = λ c. hung.coming_same (left c).1 ∙ (left c).0;
+      comes = λ c. comes (met old route.host) i i' o o' (agree c) fresh on_in calm_out;
+      coming_left = λ c. hung.coming_same (lasts_dial.tells_coming_same ∙ c) ∙ left c;
+      goes_on = dialer_goes_on lasts_dial lasts_hung;
       cause = (rises old.link_reads mid.link_reads new.link_reads i'.faults stay.0 hung.link_reads, rises old.link_writes mid.link_writes new.link_writes o'.faults stay.1 hung.link_writes);
     }

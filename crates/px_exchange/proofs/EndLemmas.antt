@@ -67,7 +67,7 @@ rest_over page_due R W by mid taken' t x o returns ended (inr wants) =
     inr (e.0, rw (← e.1) at wants.1)
 
 with_gives : (route : Route) (old new : DialerState) (P Q : DialOutcome → Type 0) (k : DialsOnce route P old new) → Q k.dial.outcome → DialsOnce route Q old new
-with_gives route old new P Q k q = record { dial = k.dial; added = k.added; to_host = k.to_host; to_port = k.to_port; gives = q; comes = k.comes; coming_left = k.coming_left; cause = k.cause }
+with_gives route old new P Q k q = record { dial = k.dial; added = k.added; to_host = k.to_host; to_port = k.to_port; gives = q; comes = k.comes; coming_left = k.coming_left; goes_on = k.goes_on; cause = k.cause }
 
 -- a dial, the rest being returned
 rest_dialled : (page_due : Page → Due) (route : Route) (R : Says → DialOutcome → Type 0) (W : List ℕ → DialOutcome → Type 0) (U : Type 0) → ByEnd R W

@@ -1,22 +1,19 @@
 -- Dialling: the one dial of a request that is sent on.
-use Rattle.std.specs.Prelude.{◌≡◌, false, true, IsTrue, List, [], ◌∷◌, ◌++◌, length, drop}
+use Rattle.std.specs.Prelude.{◌≡◌, false, true, IsTrue, [], ◌∷◌, ◌++◌}
 use Rattle.px_base.specs.Causes.{Rose}
-use Rattle.px_base.specs.Dials.{DialerState}
+use Rattle.px_base.specs.Dials.{DialerState, DialerGoesOn, Met, offers, nameless, unreached, untold, met, coming_behind}
 use Rattle.px_base.specs.declared.dials.Dial.{Dial}
 use Rattle.px_base.specs.declared.dials.DialOutcome.{DialOutcome}
 use Rattle.px_base.specs.declared.dials.DialOutcome.TheVariants as outcome
-use Rattle.px_base.specs.declared.dials.Answer.{Answer}
-use Rattle.px_base.specs.declared.dials.Answer.TheVariants as answer
 use Rattle.px_decide.specs.declared.routes.Route.{Route}
 
--- what came of a dial is what was to come: past the list no host is reached, and an end without failing calls doesn't fail
-abbrev pub Comes : List Answer → DialOutcome → Type 0
-Comes (answer.Link bytes cuts rs ws ∷ as_) (outcome.Link seen) =
-    (seen.offered ≡ bytes) × (length rs ≡ 0 → seen.read_failed ≡ false) × (length ws ≡ 0 → seen.write_failed ≡ false)
-Comes (answer.NoName ∷ as_) outcome.NoName = Unit {0}
-Comes (answer.NotReached ∷ as_) outcome.NotReached = Unit {0}
-Comes [] outcome.NotReached = Unit {0}
-Comes as_ o = ⊥
+-- what came of a dial is what was to come of it; an end that fails no more hasn't failed
+abbrev pub Comes : Met → DialOutcome → Type 0
+Comes (offers bytes reads writes) (outcome.Link seen) = (seen.offered ≡ bytes) × (IsTrue reads → seen.read_failed ≡ false) × (IsTrue writes → seen.write_failed ≡ false)
+Comes nameless outcome.NoName = Unit {0}
+Comes unreached outcome.NotReached = Unit {0}
+Comes untold o = Unit {0}
+Comes m o = ⊥
 
 -- each fault of a dial and of its link raised its own count
 abbrev pub OutcomeCause : DialerState → DialerState → DialOutcome → Type 0
@@ -33,6 +30,7 @@ pub record DialsOnce (route : Route) (Gives : DialOutcome → Type 0) (old new :
   pub to_host : dial.host ≡ route.host
   pub to_port : dial.port ≡ route.port
   pub gives : Gives dial.outcome
-  pub comes : IsTrue old.tells_coming → Comes old.coming dial.outcome
-  pub coming_left : IsTrue old.tells_coming → new.coming ≡ drop 1 old.coming
+  pub comes : IsTrue old.tells_coming → Comes (met old dial.host) dial.outcome
+  pub coming_left : IsTrue old.tells_coming → new.coming ≡ coming_behind old dial.host
+  pub goes_on : DialerGoesOn old new
   pub cause : OutcomeCause old new dial.outcome

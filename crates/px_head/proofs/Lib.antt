@@ -8,3 +8,4 @@ pub mod GrammarBlocks
 pub mod Fits
 pub mod HeadLemmas
 pub mod ReadBackLemmas
+mod ReadingLemmas

@@ -18,6 +18,12 @@ pub fn constants()
     ensures too_long_name { TOO_LONG_NAME.now ≡ too_long_name }
 {}
 
+/// A block reads as one head at most, so that what is said of a reading is a function of the bytes.
+pub fn readings_are_one()
+    ensures request { (block : List ℕ) (head other : RequestHead) → IsRequest block head → IsRequest block other → head ≡ other }
+    ensures response { (block : List ℕ) (head other : ResponseHead) → IsResponse block head → IsResponse block other → head ≡ other }
+{}
+
 /// Each field of a head that was read prints a line that reads back as that field, and so does each field that a line gave
 /// (RFC 9112, section 5).
 pub fn fields_read_back()

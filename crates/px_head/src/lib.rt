@@ -16,7 +16,7 @@ pub use blocks::{HeadEnd, find_head};
 pub use faults::{HeadFault, TOO_LONG_NAME, TOO_LONG_NUMBER};
 pub use field_lines::{FieldLine, is_token, read_field_line};
 pub use fields::Field;
-pub use laws::{constants, fields_read_back};
+pub use laws::{constants, fields_read_back, readings_are_one};
 pub use names::{
     first_field, has_field, has_name, is_connection_word, is_held_back_of_request,
     is_held_back_of_response, lists_word,

@@ -3,3 +3,4 @@ pub mod Standing
 pub mod Shelves
 pub mod Histories
 pub mod Joins
+pub mod Pools

@@ -2,12 +2,14 @@
 //! one whole answer was heard over it and nothing more, and a dial to the same host and port takes it.
 #![tactic(auto)]
 
+mod bases;
 mod histories;
 mod laws;
 mod lending;
 mod pools;
 mod shelves;
 
+pub use bases::{Anew, Base};
 pub use histories::History;
 pub use laws::marks_are_one;
 pub use pools::LinkPool;

@@ -7,49 +7,53 @@ ghost use Rattle.px_pool_ends.specs.Incomings.{outer_source, inner_source};
 ghost use Rattle.px_pool_ends.specs.Outgoings.{outer_sink, inner_sink};
 ghost use Rattle.px_link_pool.specs.Histories.{dials_of, are_due, inner_of, kept_of, all_closed, counted, wanted, Tells, AreJudged};
 ghost use Rattle.px_link_pool.specs.Joins.{Joins, dials_over, inner_at_end};
+ghost use Rattle.px_link_pool.specs.Pools.{pool_state};
 ghost use Rattle.px_link_pool.specs.declared.histories.History.{Start};
 ghost use Rattle.px_link_pool.specs.Shelves.{items};
 ghost use Rattle.px_link_pool.specs.Standing.{Stands, kept_state, kept_states, is_told};
 
+use crate::bases::{Anew, Base};
 use crate::histories::{History, Past, dialled, hung_up, taken_again};
 use crate::lending::{handed, lend};
 use crate::shelves::{Kept, Shelf, done, fill, pop, shelve, take_at};
 use px_base::{DialFault, Dialer, LocalDialer, LocalSink, LocalSource, Sink, Source, Text};
 use px_pool_ends::{Incoming, Outgoing};
 use std::alloc::Global;
+use std::marker::PhantomData;
 use std::mem;
 use std::snapshot::Snapshot;
 
-/// A dialer over another one that keeps up to four links that were hung up, and gives them again. The history is there for
-/// contracts alone, and takes no bytes.
-pub struct LinkPool<D: LocalDialer> {
+/// A dialer over another one that keeps up to four links that were hung up, and gives them again. The history and what the inner
+/// dialer had dialled before are there for contracts alone, and take no bytes.
+pub struct LinkPool<D: LocalDialer, N: Base = Anew> {
     alloc: Global,
     inner: D,
-    start: Snapshot<D>,
+    base: PhantomData<N>,
     kept: Shelf<Kept<D::In, D::Out>>,
     history: Past<D::In, D::Out>,
     link_reads: u64,
     link_writes: u64,
     wanting: u64,
     ghost stands: { Stands (D.state inner) (dials_of inner_source inner_sink history) (kept_states D.In.state D.Out.state (items kept)) },
-    ghost told: { IsTrue (D.state inner).tells → Tells (record { ins = D.In.state; outs = D.Out.state }) (D.state start.value).dials (D.state inner).dials (kept_states D.In.state D.Out.state (items kept)) history },
-    ghost joins: { IsTrue (D.state inner).tells → Joins (record { ins = D.In.state; outs = D.Out.state }) (D.state start.value).dials (D.state inner).dials (kept_states D.In.state D.Out.state (items kept)) history },
+    ghost told: { IsTrue (D.state inner).tells → Tells (record { ins = D.In.state; outs = D.Out.state }) N.dialled (D.state inner).dials (kept_states D.In.state D.Out.state (items kept)) history },
+    ghost joins: { IsTrue (D.state inner).tells → Joins (record { ins = D.In.state; outs = D.Out.state }) N.dialled (D.state inner).dials (kept_states D.In.state D.Out.state (items kept)) history },
     ghost counts: { wanting ≡ wanted history },
     ghost judged: { IsTrue (D.state inner).tells → ∥ AreJudged history ∥₁ },
 }
 
-impl<D: LocalDialer> LinkPool<D> {
+impl<D: LocalDialer, N: Base> LinkPool<D, N> {
     /// A pool over a dialer, with no kept links. It takes no memory.
-    pub fn new(alloc: Global, inner: D) -> LinkPool<D>
+    pub fn new(alloc: Global, inner: D) -> LinkPool<D, N>
+        requires base { (D.state inner).dials ≡ N.dialled }
         ensures inner { result.inner ≡ inner }
-        ensures start { result.start.value ≡ inner }
         ensures history { result.history ≡ Start }
+        ensures no_link_read_failed { result.link_reads ≡ 0 }
+        ensures no_link_write_failed { result.link_writes ≡ 0 }
     {
-        let start = Snapshot::of(&inner);
         LinkPool {
             alloc,
             inner,
-            start,
+            base: PhantomData,
             kept: Shelf::Empty,
             history: History::Start,
             link_reads: 0,
@@ -68,18 +72,18 @@ impl<D: LocalDialer> LinkPool<D> {
 
     /// Hangs up the kept links, the oldest first, and hands the inner dialer back.
     pub fn into_inner(self) -> D
-        ensures joined { IsTrue (D.state self.inner).tells → (D.state result).dials ≡ inner_at_end (D.state self.start.value).dials (record { ins = D.In.state; outs = D.Out.state }) self.history }
+        ensures joined { IsTrue (D.state self.inner).tells → (D.state result).dials ≡ inner_at_end N.dialled (record { ins = D.In.state; outs = D.Out.state }) self.history }
         ensures told { IsTrue (D.state self.inner).tells → dials_of outer_source outer_sink self.history ≡ dials_over (record { ins = D.In.state; outs = D.Out.state }) self.history }
         ensures due { IsTrue (D.state self.inner).tells → are_due (record { ins = D.In.state; outs = D.Out.state }) self.history ≡ true }
         ensures kept { IsTrue (D.state self.inner).tells → kept_states D.In.state D.Out.state (items self.kept) ≡ kept_of (record { ins = D.In.state; outs = D.Out.state }) self.history }
-        ensures dials { IsTrue (D.state self.inner).tells → (D.state result).dials ≡ all_closed (kept_states D.In.state D.Out.state (items self.kept)) (inner_of (D.state self.start.value).dials D.In.state D.Out.state self.history) }
+        ensures dials { IsTrue (D.state self.inner).tells → (D.state result).dials ≡ all_closed (kept_states D.In.state D.Out.state (items self.kept)) (inner_of N.dialled D.In.state D.Out.state self.history) }
         ensures judged { IsTrue (D.state self.inner).tells → ∥ AreJudged self.history ∥₁ }
         ensures goes_on { DialerGoesOn (D.state self.inner) (D.state result) }
     {
         let LinkPool {
             alloc: _,
             mut inner,
-            start: _,
+            base: _,
             kept,
             history: _,
             link_reads: _,
@@ -124,24 +128,12 @@ fn close_oldest<D: LocalDialer>(
     }
 }
 
-impl<D: Dialer> Dialer for LinkPool<D> {
-    ghost use Rattle.std.specs.Prelude.{false, []};
-
+impl<D: Dialer, N: Base + Send> Dialer for LinkPool<D, N> {
     type In = Incoming<D::In, D::Out>;
 
     type Out = Outgoing<D::In, D::Out>;
 
-    ghost state = { λ p. record {
-      tells = (D.state p.inner).tells;
-      dials = dials_of outer_source outer_sink p.history;
-      tells_coming = false;
-      coming = [];
-      names = (D.state p.inner).names;
-      reach = (D.state p.inner).reach;
-      link_reads = p.link_reads;
-      link_writes = p.link_writes;
-      mark = (D.state p.inner).mark;
-    } };
+    ghost state = { λ p. pool_state (D.state p.inner) p.history p.link_reads p.link_writes };
 
     fn dial(
         &mut self,

@@ -52,7 +52,6 @@ fn main(rt: HostRuntime) -> ExitCode {
         let doors = SocketDoors::new(alloc, &rt, Times::usual());
         let parts = Parts { files, doors, err };
         let proxied = run_proxy(alloc, &rt, &words, parts);
-        proxied.parts.doors.close();
         return ExitCode::from(proxied.status);
     }
     let mut input = ReaderSource::new(rt.stdin(), 0);

@@ -1,3 +1,4 @@
 pub mod AnswerLemmas
 pub mod LinkLemmas
+pub mod SharedDoorLemmas
 pub mod SharingLemmas

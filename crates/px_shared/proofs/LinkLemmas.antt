@@ -1,7 +1,7 @@
 -- A session over links whose sources offer just what was heard.
 use Rattle.std.proofs.Common.{◌≡◌, ◌≢◌, ◌⊎◌, inl, inr, ℕ, zero, suc, Bool, true, false, List, [], ◌∷◌, ◌++◌, if◌then◌else◌, sym, ap, refl, subst, ◌∙◌, append-nil, Some, None}
 use Rattle.std.specs.List.{AllByRecursion}
-use Rattle.px_base.specs.Dials.{DialerState}
+use Rattle.px_base.specs.Dials.{DialerState, DialerGoesOn}
 use Rattle.px_base.specs.declared.dials.Dial.{Dial}
 use Rattle.px_base.specs.declared.dials.DialOutcome.{DialOutcome}
 use Rattle.px_base.specs.declared.dials.DialOutcome.TheVariants as outcome
@@ -97,6 +97,18 @@ cause_heard old new outcome.NotReached h = h
 cause_heard old new (outcome.Open mark offered) h = h
 cause_heard old new (outcome.Link seen) h = h
 
+lasts_heard : {old new : DialerState} → DialerGoesOn old new → DialerGoesOn (with_heard old) (with_heard new)
+lasts_heard h = record {
+  tells_same = h.tells_same;
+  tells_coming_same = refl;
+  through_servers_same = refl;
+  mark_same = h.mark_same;
+  names_later = h.names_later;
+  reach_later = h.reach_later;
+  link_reads_later = h.link_reads_later;
+  link_writes_later = h.link_writes_later;
+}
+
 -- the dials before, and the one that was added
 before_last : (route : Route) (G : DialOutcome → Type 0) (old new : DialerState) → EachAnswered new.dials → (d : DialsOnce route G old new) → EachAnswered old.dials × HeardOne d.dial.outcome
 before_last route G old new all d = all_but_last (λ (x : Dial). HeardOne x.outcome) old.dials new.dials d.dial d.added all
@@ -111,6 +123,7 @@ dials_heard route G H old new f all d = record {
   gives = f d.dial.outcome (before_last route G old new all d).1 d.gives;
   comes = λ t. absurd (cc);
   coming_left = λ t. absurd (cc);
+  goes_on = lasts_heard d.goes_on;
   cause = cause_heard old new d.dial.outcome d.cause;
 }
 

@@ -10,26 +10,27 @@ use Rattle.px_link_pool.specs.declared.histories.History.{History}
 use Rattle.px_exchange.specs.declared.notes.ExchangeNote.{ExchangeNote}
 use Rattle.px_serve.specs.declared.ends.SessionEnd.{SessionEnd}
 use Rattle.px_serve.specs.Sessions.{Caller, Serves}
-use Rattle.px_shared.specs.Sharing.{IsLeftBy, IsMadeOver, Lent, Shares, lent_over}
+use Rattle.px_shared.specs.Sharing.{IsLeftBy, Lent, Shares, lent_over, pooled}
 use Rattle.px_shared.proofs.LinkLemmas.{session_alone}
 
 pub shares : {S T : Type 0} (v : Views S T) (caller : Caller) (old new : Lent) (notes : List ExchangeNote) (e : SessionEnd) (wanting : ℕ) (made pool : DialerState) (history : History Hearing Sending S T) (before : List Dial)
-    → IsMadeOver old.inner made → DialerGoesOn made pool → IsLeftBy pool new.inner → Serves caller old.looks new.looks old.client_in new.client_in (lent_over old made) (lent_over new pool) notes e
+    → made ≡ pooled old.inner → before ≡ old.inner.dials → DialerGoesOn made pool → IsLeftBy pool new.inner → Serves caller old.looks new.looks old.client_in new.client_in (lent_over old made) (lent_over new pool) notes e
     → (IsTrue pool.tells → pool.dials ≡ dials_over v history) → (IsTrue pool.tells → new.inner.dials ≡ inner_at_end before v history) → (IsTrue pool.tells → are_due v history ≡ true)
     → (IsTrue pool.tells → ∥ AreJudged history ∥₁) → wanting ≡ wanted history → Shares v caller old new notes e wanting
-shares v caller old new notes e wanting made pool history before is_made on left serves dials joined due judged counted = record {
-  made = made;
-  is_made = is_made;
-  pool = pool;
-  session = record {
-    serves = serves;
-    alone = λ t all none m. session_alone caller old.client_in.left new.client_in.left made pool old.client_out.taken new.client_out.taken serves.begun e (serves.session t) all none m;
-  };
-  goes_on = on;
-  is_left = left;
-  history = history;
-  told = λ t.
-      let u : IsTrue pool.tells = on.tells_same ∙ is_made.tells ∙ t in
-      record { before = before; dials = dials u; joined = joined u; due = due u; judged = judged u };
-  counted = counted;
-}
+shares v caller old new notes e wanting made pool history before is_made base on left serves dials joined due judged counted =
+    let on_from : DialerGoesOn (pooled old.inner) pool = rw is_made at on in
+    let over : Serves caller old.looks new.looks old.client_in new.client_in (lent_over old (pooled old.inner)) (lent_over new pool) notes e = rw is_made at serves in
+    record {
+      pool = pool;
+      session = record {
+        serves = over;
+        alone = λ t all none m. session_alone caller old.client_in.left new.client_in.left (pooled old.inner) pool old.client_out.taken new.client_out.taken over.begun e (over.session t) all none m;
+      };
+      goes_on = on_from;
+      is_left = left;
+      history = history;
+      told = λ t.
+          let u : IsTrue pool.tells = on_from.tells_same ∙ t in
+          record { dials = dials u; joined = rw base at (joined u); due = due u; judged = judged u };
+      counted = counted;
+    }

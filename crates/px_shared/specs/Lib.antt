@@ -1,4 +1,6 @@
 -- The definitions that the contracts cite.
 pub mod Answers
 pub mod Links
+pub mod Partings
 pub mod Sharing
+pub mod SharedDoors

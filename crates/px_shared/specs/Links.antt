@@ -46,6 +46,7 @@ with_heard d = record {
   dials = offering_heard d.dials;
   tells_coming = false;
   coming = [];
+  through_servers = false;
   names = d.names;
   reach = d.reach;
   link_reads = d.link_reads;

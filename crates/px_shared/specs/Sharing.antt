@@ -1,5 +1,5 @@
 -- Sessions over a pool of links: what they are to the client, and how the inner links are told by the pool's dials.
-use Rattle.std.specs.Prelude.{◌≡◌, ◌≢◌, ℕ, ◌≤◌, true, IsTrue, List, []}
+use Rattle.std.specs.Prelude.{◌≡◌, ◌≢◌, ℕ, ◌≤◌, true, false, IsTrue, List, []}
 use Rattle.px_base.specs.Sources.{SourceState}
 use Rattle.px_base.specs.Sinks.{SinkState}
 use Rattle.px_base.specs.Dials.{DialerState, DialerGoesOn}
@@ -25,13 +25,9 @@ pub record Lent : Type 0 where
   pub inner : DialerState
   pub clock : ClockState
 
--- a pool that was just made over a dialer
-pub record IsMadeOver (inner pool : DialerState) : Type 0 where
-  pub tells : pool.tells ≡ inner.tells
-  pub none_dialled : pool.dials ≡ []
-  pub names : pool.names ≡ inner.names
-  pub reach : pool.reach ≡ inner.reach
-  pub mark : pool.mark ≡ inner.mark
+-- a pool that was just made over a dialer, as a dialer
+abbrev pub pooled : DialerState → DialerState
+pooled d = record { tells = d.tells; dials = []; tells_coming = false; coming = []; through_servers = false; names = d.names; reach = d.reach; link_reads = 0; link_writes = 0; mark = d.mark }
 
 -- the dialer that a pool leaves when it is taken apart
 pub record IsLeftBy (pool inner : DialerState) : Type 0 where
@@ -44,18 +40,17 @@ pub record IsLeftBy (pool inner : DialerState) : Type 0 where
 abbrev pub lent_over : Lent → DialerState → Objects
 lent_over l pool = record { client_out = l.client_out; dialer = pool; clock = l.clock }
 
--- A session over a pool, made so, that it leaves in that state. Where the origins answered each request by itself, no tunnel was carried and
+-- A session over a pool that was just made, which it leaves in that state. Where the origins answered each request by itself, no tunnel was carried and
 -- memory wasn't wanting, it is the session over new links each of which offers just its answer.
-pub record ServesOver (caller : Caller) (old new : Lent) (made pool : DialerState) (notes : List ExchangeNote) (e : SessionEnd) : Type 0 where
-  pub serves : Serves caller old.looks new.looks old.client_in new.client_in (lent_over old made) (lent_over new pool) notes e
-  pub alone : Tell old.client_in (lent_over old made) → EachAnswered pool.dials → NoTunnel serves.begun → e ≢ end.NoMemory
-      → IsSession caller old.client_in.left new.client_in.left (with_heard made) (with_heard pool) old.client_out.taken new.client_out.taken serves.begun e
+pub record ServesOver (caller : Caller) (old new : Lent) (pool : DialerState) (notes : List ExchangeNote) (e : SessionEnd) : Type 0 where
+  pub serves : Serves caller old.looks new.looks old.client_in new.client_in (lent_over old (pooled old.inner)) (lent_over new pool) notes e
+  pub alone : Tell old.client_in (lent_over old (pooled old.inner)) → EachAnswered pool.dials → NoTunnel serves.begun → e ≢ end.NoMemory
+      → IsSession caller old.client_in.left new.client_in.left (with_heard (pooled old.inner)) (with_heard pool) old.client_out.taken new.client_out.taken serves.begun e
 
--- What was done with a pool, by which its dials tell the inner ones that are behind some of before: what was heard and sent over
--- each inner link is that of the pool's dials over it, joined. The inner dialer was asked exactly where no link was kept, and
--- each link that was handed back was judged by its answer.
-pub record Tells {S T : Type 0} (v : Views S T) (pool_dials inner_dials : List Dial) (history : History Hearing Sending S T) : Type 0 where
-  pub before : List Dial
+-- What was done with a pool, by which its dials tell the inner ones behind those of before: what was heard and sent over each
+-- inner link is that of the pool's dials over it, joined. The inner dialer was asked exactly where no link was kept, and each
+-- link that was handed back was judged by its answer.
+pub record Tells {S T : Type 0} (v : Views S T) (before pool_dials inner_dials : List Dial) (history : History Hearing Sending S T) : Type 0 where
   pub dials : pool_dials ≡ dials_over v history
   pub joined : inner_dials ≡ inner_at_end before v history
   pub due : are_due v history ≡ true
@@ -63,12 +58,10 @@ pub record Tells {S T : Type 0} (v : Views S T) (pool_dials inner_dials : List D
 
 -- a session over a pool that is made for it and taken apart behind it
 pub record Shares {S T : Type 0} (v : Views S T) (caller : Caller) (old new : Lent) (notes : List ExchangeNote) (e : SessionEnd) (wanting : ℕ) : Type 0 where
-  pub made : DialerState
-  pub is_made : IsMadeOver old.inner made
   pub pool : DialerState
-  pub session : ServesOver caller old new made pool notes e
-  pub goes_on : DialerGoesOn made pool
+  pub session : ServesOver caller old new pool notes e
+  pub goes_on : DialerGoesOn (pooled old.inner) pool
   pub is_left : IsLeftBy pool new.inner
   pub history : History Hearing Sending S T
-  pub told : IsTrue old.inner.tells → Tells v pool.dials new.inner.dials history
+  pub told : IsTrue old.inner.tells → Tells v old.inner.dials pool.dials new.inner.dials history
   pub counted : wanting ≡ wanted history

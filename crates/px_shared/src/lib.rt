@@ -3,7 +3,13 @@
 #![tactic(auto)]
 
 mod laws;
+mod openings;
+mod partings;
 mod sessions;
+mod shared_doors;
 
 pub use laws::{answers_end, heard_is_enough};
-pub use sessions::{Shared, serve_shared, serve_stored_shared};
+pub use openings::Opening;
+pub use partings::Partings;
+pub use sessions::{Shared, serve_shared};
+pub use shared_doors::{SharedConn, SharedDoors, SharedParted};

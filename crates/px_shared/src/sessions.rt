@@ -1,19 +1,19 @@
 // One session over a pool of links.
-ghost use Rattle.std.specs.Prelude.{IsTrue};
+ghost use Rattle.std.specs.Prelude.{◌≡◌, IsTrue};
 ghost use Rattle.px_base.specs.Moments.{ClockGoesOn};
 ghost use Rattle.px_base.specs.Sinks.{SinkGoesOn};
 ghost use Rattle.px_base.specs.Sources.{SourceGoesOn};
 ghost use Rattle.px_serve.specs.Ends.{ReadEndCause, WriteEndCause};
-ghost use Rattle.px_serve.specs.Keeping.{IsStored};
 ghost use Rattle.px_shared.specs.Sharing.{Shares};
 
 use px_base::{Clock, Dialer, Peer, Sink, Source, Text};
 use px_exchange::Config;
-use px_link_pool::LinkPool;
+use px_link_pool::{Base, LinkPool};
 use px_publish::Configs;
-use px_serve::{Session, Store, serve_connection, serve_stored};
+use px_serve::{Session, serve_connection};
 use px_ways::Way;
 use std::alloc::Global;
+use std::marker::Brand;
 use std::thread::Threads;
 
 /// What came of a session over a pool of links: the session itself, the inner dialer with every link hung up, and for how many
@@ -55,23 +55,15 @@ where
     ensures out_goes_on { SinkGoesOn (O.state client_out.old) (O.state client_out.new) }
     ensures clock_goes_on { ClockGoesOn (T.state clock.old) (T.state clock.new) }
 {
-    let mut pool = LinkPool::new(alloc, dialer);
-    let session = serve_connection(
-        alloc, way, configs, client_in, client_out, &mut pool, clock, peer, tags,
-    );
-    let wanting = pool.wanting();
-    Shared {
-        session,
-        dialer: pool.into_inner(),
-        wanting,
-    }
+    serve_over::<Brand, R, K, S, O, D, T>(
+        alloc, way, configs, client_in, client_out, dialer, clock, peer, tags,
+    )
 }
 
-/// The same with a store of an entry that the configurations have had, as `serve_stored` has it.
-pub fn serve_stored_shared<R, K, S, O, D, T>(
+/// The same, over a dialer that has dialled just that.
+fn serve_over<N, R, K, S, O, D, T>(
     alloc: Global,
     way: &Way<'_, R>,
-    store: &mut Store<'_>,
     configs: &mut K,
     client_in: &mut S,
     client_out: &mut O,
@@ -81,13 +73,14 @@ pub fn serve_stored_shared<R, K, S, O, D, T>(
     tags: &[Text],
 ) -> Shared<D>
 where
+    N: Base + Send,
     R: Threads + Sync,
     K: Configs<Held = Config>,
     S: Source,
     O: Sink,
     D: Dialer,
     T: Clock,
-    requires stored { IsStored (K.view configs.old) store.old }
+    requires base { (D.state dialer).dials ≡ N.dialled }
     ensures shares { Shares (record { ins = D.In.state; outs = D.Out.state }) (record { tags = tags.now; peer = peer.now.address })
         (record { looks = record { tells = K.tells; view = K.view configs.old; pair = K.pair configs.old; coming = K.coming configs.old }; client_in = S.state client_in.old; client_out = O.state client_out.old; inner = D.state dialer; clock = T.state clock.old })
         (record { looks = record { tells = K.tells; view = K.view configs.new; pair = K.pair configs.new; coming = K.coming configs.new }; client_in = S.state client_in.new; client_out = O.state client_out.new; inner = D.state result.dialer; clock = T.state clock.new })
@@ -98,11 +91,10 @@ where
     ensures in_goes_on { SourceGoesOn (S.state client_in.old) (S.state client_in.new) }
     ensures out_goes_on { SinkGoesOn (O.state client_out.old) (O.state client_out.new) }
     ensures clock_goes_on { ClockGoesOn (T.state clock.old) (T.state clock.new) }
-    ensures stored { IsStored (K.view configs.new) store.new }
 {
-    let mut pool = LinkPool::new(alloc, dialer);
-    let session = serve_stored(
-        alloc, way, store, configs, client_in, client_out, &mut pool, clock, peer, tags,
+    let mut pool = LinkPool::<D, N>::new(alloc, dialer);
+    let session = serve_connection(
+        alloc, way, configs, client_in, client_out, &mut pool, clock, peer, tags,
     );
     let wanting = pool.wanting();
     Shared {

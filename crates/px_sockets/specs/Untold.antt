@@ -11,6 +11,7 @@ untold_dialer names reach link_reads link_writes mark = record {
   dials = [];
   tells_coming = false;
   coming = [];
+  through_servers = false;
   names = names;
   reach = reach;
   link_reads = link_reads;

@@ -6,7 +6,7 @@ ghost use Rattle.px_base.specs.Sinks.{untold_sink};
 ghost use Rattle.px_sockets.specs.Untold.{AreNew};
 
 use crate::Times;
-use crate::shared_sockets::SharedSocket;
+use crate::shared_sockets::{SharedSocket, Side, Work};
 use crate::times::{LOOK_MILLIS, now_millis};
 use px_base::{Failed, Sink, SinkFault, Source};
 use std::alloc::Global;
@@ -50,13 +50,6 @@ pub enum EndsFault {
     Mem,
 }
 
-/// Whose stream it is: a client's, which is asked for heads, or a link's.
-#[derive(Clone, Copy, Debug, PartialEq, Eq)]
-pub enum Side {
-    Client,
-    Link,
-}
-
 /// Both ends of a stream, which share its socket. Bytes are sent at once, and reads and writes wait by those times. A stream that
 /// can't be set so is closed.
 pub fn both_ends<'r>(
@@ -69,8 +62,25 @@ pub fn both_ends<'r>(
 ) -> Result<(SocketSource<'r>, SocketSink<'r>), EndsFault>
     ensures { IfOk result (λ ends. AreNew mark (⟦<SocketSource<'r> as Source>⟧.state ends.0) (⟦<SocketSink<'r> as Sink>⟧.state ends.1)) }
 {
-    let links = if side == Side::Link { 1 } else { 0 };
-    let Ok(socket) = SharedSocket::new(stream, times, links, now_millis(rt)) else {
+    let Ok(work) = Arc::new(alloc, Work::none(now_millis(rt))) else {
+        return Err(EndsFault::Mem);
+    };
+    ends_with(alloc, rt, times, side, work, stream, mark)
+}
+
+/// The same of a connection that is at something.
+pub(crate) fn ends_with<'r>(
+    alloc: Global,
+    rt: &'r HostRuntime,
+    times: Times,
+    side: Side,
+    work: Arc<Work>,
+    stream: TcpStream,
+    mark: u64,
+) -> Result<(SocketSource<'r>, SocketSink<'r>), EndsFault>
+    ensures { IfOk result (λ ends. AreNew mark (⟦<SocketSource<'r> as Source>⟧.state ends.0) (⟦<SocketSink<'r> as Sink>⟧.state ends.1)) }
+{
+    let Ok(socket) = SharedSocket::new(stream, times, side, work, now_millis(rt)) else {
         return Err(EndsFault::Failed);
     };
     let Ok(socket) = Arc::new(alloc, socket) else {
@@ -79,6 +89,7 @@ pub fn both_ends<'r>(
     let Ok(second) = Arc::try_clone(&socket) else {
         return Err(EndsFault::Mem);
     };
+    socket.is_used();
     Ok((
         SocketSource {
             reader: SocketReader {
@@ -110,6 +121,17 @@ impl<'r> SocketSource<'r> {
     pub(crate) fn shared(&self) -> Option<Arc<SharedSocket>> {
         Arc::try_clone(&self.reader.socket).ok()
     }
+
+    /// What its connection is at, to be shared with its links.
+    pub(crate) fn work(&self) -> Option<Arc<Work>> {
+        self.reader.socket.work()
+    }
+
+    /// Nobody uses it any more.
+    pub(crate) fn rests(&self) {
+        let SocketReader { rt, socket, .. } = &self.reader;
+        socket.rests(now_millis(*rt));
+    }
 }
 
 impl<'r> SocketReader<'r> {
@@ -126,6 +148,7 @@ impl<'r> SocketReader<'r> {
     fn read_some(&mut self, buf: &mut [u8]) -> io::Result<usize>
         ensures { ReadsAtMost result buf.new }
     {
+        self.socket.is_read();
         let began = now_millis(self.rt);
         let mut now = began;
         for _ in 0..u64::MAX {
@@ -139,10 +162,7 @@ impl<'r> SocketReader<'r> {
             now = now_millis(self.rt);
             match read {
                 Ok(count) => {
-                    self.socket.came(now);
-                    if count == 0 {
-                        self.socket.drained();
-                    }
+                    self.socket.came(count, now);
                     return Ok(count);
                 }
                 Err(error) => {
@@ -184,17 +204,24 @@ impl<'r> SocketSink<'r> {
         self.faults != 0
     }
 
-    /// Writes, and again where the process was stopped in the wait.
+    /// Writes, and says that it does.
     fn write_some(&self, bytes: &[u8]) -> io::Result<usize>
+        ensures { WritesAtMost result bytes.now }
+    {
+        self.socket.is_written();
+        let written = self.write_once(bytes);
+        self.socket.went(written.is_ok(), now_millis(self.rt));
+        written
+    }
+
+    /// Writes, and again where the call was only interrupted.
+    fn write_once(&self, bytes: &[u8]) -> io::Result<usize>
         ensures { WritesAtMost result bytes.now }
     {
         for _ in 0..u64::MAX {
             let mut stream = &self.socket.stream;
             match stream.write(bytes) {
-                Ok(count) => {
-                    self.socket.went(now_millis(self.rt));
-                    return Ok(count);
-                }
+                Ok(count) => return Ok(count),
                 Err(error) => {
                     if error.kind() != ErrorKind::Interrupted {
                         return Err(error);
@@ -219,7 +246,7 @@ impl<'r> Sink for SocketSink<'r> {
         }
     }
 
-    /// Closes the outgoing side. A socket that is closed already stays so. A client's connection that holds no link ends with it.
+    /// Closes the outgoing side. A socket that is closed already stays so. A client's connection of which no link is in use ends with it.
     fn finish(&mut self) {
         self.socket.finish(now_millis(self.rt));
     }

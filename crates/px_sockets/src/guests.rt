@@ -1,11 +1,12 @@
 // Connections that were accepted, until they are closed: at its end each is read on, and what comes is thrown away, so that the
 // system doesn't reset it and its client gets the whole answer (RFC 9112, section 9.6).
 use crate::shared_sockets::SharedSocket;
-use crate::times::{SWEEP_MILLIS, between};
+use crate::times::{SWEEP_MILLIS, between, now_millis};
 use std::alloc::{AllocError, Global};
 use std::io::{ErrorKind, Read};
 use std::net::Shutdown;
 use std::sync::Arc;
+use std::thread;
 use std::time::Duration;
 
 /// The most connections that linger at once; one more is closed as it ends.
@@ -150,5 +151,18 @@ impl Guests {
         self.lingering = lingering;
         self.more = 0;
         self.swept = now;
+    }
+
+    /// Looks after those that have ended, until all are closed or so long has passed.
+    pub(crate) fn see_out(mut self, rt: &HostRuntime, linger: Duration) {
+        let began = now_millis(rt);
+        'sweeps: for _ in 0..u64::MAX {
+            let now = now_millis(rt);
+            self.sweep(now);
+            if !self.linger() || between(began, now) >= linger {
+                return;
+            }
+            thread::sleep(rt, Duration::from_millis(SWEEP_MILLIS));
+        }
     }
 }

@@ -9,7 +9,8 @@ mod shared_sockets;
 mod socket_dialers;
 mod times;
 
-pub use ends::{EndsFault, Side, SocketSink, SocketSource, both_ends};
+pub use ends::{EndsFault, SocketSink, SocketSource, both_ends};
 pub use listeners::{Caller, CallerFault, ListenFault, SocketListener};
+pub use shared_sockets::Side;
 pub use socket_dialers::{SocketDialer, connect_in_turn};
 pub use times::Times;

@@ -4,10 +4,10 @@ ghost use Rattle.std.specs.Net.Text.{ip_text};
 ghost use Rattle.std.specs.Str.{is_utf8};
 ghost use Rattle.px_sockets.specs.Untold.{AreNew};
 
-use crate::ends::{EndsFault, Side};
+use crate::ends::EndsFault;
 use crate::guests::Guests;
 use crate::times::{PAUSE_MILLIS, SWEEP_MILLIS, WATCH_MILLIS, between, now_millis};
-use crate::{SocketSink, SocketSource, Times, both_ends};
+use crate::{Side, SocketSink, SocketSource, Times, both_ends};
 use px_base::{Mem, Peer, Sink, Source, Text, as_text};
 use std::alloc::Global;
 use std::fmt::{Display, Formatter, Write};
@@ -66,8 +66,8 @@ fn listen_fault(error: &io::Error) -> ListenFault {
     }
 }
 
-/// Takes connections at an address of this machine, and looks after those that end.
-#[derive(Drop)]
+/// Takes connections at an address of this machine, and looks after those that end. Letting it go waits until all that ended are
+/// closed, for as long as the times say at most.
 pub struct SocketListener<'r> {
     alloc: Global,
     rt: &'r HostRuntime,
@@ -221,19 +221,6 @@ impl<'r> SocketListener<'r> {
         }
     }
 
-    /// Looks after the connections that ended, until all are closed.
-    pub fn close(mut self) {
-        let began = now_millis(self.rt);
-        'sweeps: for _ in 0..u64::MAX {
-            let now = now_millis(self.rt);
-            self.guests.sweep(now);
-            if !self.guests.linger() || between(began, now) >= self.times.linger {
-                return;
-            }
-            thread::sleep(self.rt, Duration::from_millis(SWEEP_MILLIS));
-        }
-    }
-
     /// The ends of a connection, and its client's address in text.
     fn receive(
         &mut self,
@@ -261,6 +248,22 @@ impl<'r> SocketListener<'r> {
             Err(EndsFault::Mem) => Err(CallerFault::Mem),
             Err(EndsFault::Failed) => Err(CallerFault::Failed),
         }
+    }
+}
+
+impl Drop for SocketListener<'_> {
+    fn drop(self) {
+        let SocketListener {
+            alloc: _,
+            rt,
+            times,
+            listener: _,
+            handle: _,
+            wait: _,
+            guests,
+            port: _,
+        } = self;
+        guests.see_out(rt, times.linger);
     }
 }
 

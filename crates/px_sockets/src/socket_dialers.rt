@@ -7,8 +7,8 @@ ghost use Rattle.std.specs.declared.net.ip_addr.IpAddr.{IpAddr};
 ghost use Rattle.px_sockets.specs.Untold.{untold_dialer, AreNew};
 
 use crate::counts::raised;
-use crate::ends::{EndsFault, Side};
-use crate::shared_sockets::SharedSocket;
+use crate::ends::{EndsFault, ends_with};
+use crate::shared_sockets::{Side, Work};
 use crate::times::{between, now_millis};
 use crate::{SocketSink, SocketSource, Times, both_ends};
 use px_base::{DialFault, Dialer, Sink, Source, as_text};
@@ -25,8 +25,8 @@ pub struct SocketDialer<'r> {
     alloc: Global,
     rt: &'r HostRuntime,
     times: Times,
-    /// The socket of the client for whom it dials, which waits otherwise while there is a link.
-    client: Option<Arc<SharedSocket>>,
+    /// What the connection is at for which it dials: its client's socket waits otherwise while a link is in use.
+    work: Option<Arc<Work>>,
     names: u64,
     reach: u64,
     link_reads: u64,
@@ -43,7 +43,7 @@ impl<'r> SocketDialer<'r> {
             alloc,
             rt,
             times,
-            client: None,
+            work: None,
             names: 0,
             reach: 0,
             link_reads: 0,
@@ -52,7 +52,7 @@ impl<'r> SocketDialer<'r> {
         }
     }
 
-    /// A dialer for a client, whose reads wait longer while it has a link.
+    /// A dialer for a client, whose reads wait longer while a link is in use.
     pub fn of_client(
         alloc: Global,
         rt: &'r HostRuntime,
@@ -63,7 +63,7 @@ impl<'r> SocketDialer<'r> {
         ensures { ⟦<SocketDialer<'r> as Dialer>⟧.state result ≡ untold_dialer 0 0 0 0 mark }
     {
         let mut dialer = SocketDialer::new(alloc, rt, times, mark);
-        dialer.client = client.shared();
+        dialer.work = client.work();
         dialer
     }
 }
@@ -113,19 +113,16 @@ pub fn connect_in_turn<R: Net<Listener = TcpListener, Stream = TcpStream> + rt::
     Err(DialFault::NotReached)
 }
 
-/// A link to the first address of a host that answers in time. An address in text isn't looked up, and a host that isn't UTF-8
+/// A stream to the first address of a host that answers in time. An address in text isn't looked up, and a host that isn't UTF-8
 /// is no name.
 fn connect<'r>(
-    alloc: Global,
     rt: &'r HostRuntime,
-    times: Times,
+    times: &Times,
     host: &[u8],
     port: u16,
-    mark: u64,
-) -> Result<(SocketSource<'r>, SocketSink<'r>), DialFault>
+) -> Result<TcpStream, DialFault>
     ensures no_text { is_utf8 host.now ≡ false → result ≡ Err DialFault.NoName }
     ensures address { is_utf8 host.now ≡ true → (ip : IpAddr) → IsIpText host.now ip → result ≢ Err DialFault.NoName }
-    ensures new { IfOk result (λ ends. AreNew mark (⟦<SocketSource<'r> as Source>⟧.state ends.0) (⟦<SocketSink<'r> as Sink>⟧.state ends.1)) }
 {
     let began = now_millis(rt);
     let Some(name) = as_text(host) else {
@@ -136,11 +133,51 @@ fn connect<'r>(
         Err(error) => return Err(name_fault(&error)),
     };
     let left = times.dial.saturating_sub(between(began, now_millis(rt)));
-    let stream = connect_in_turn(rt, &times, left, addresses)?;
-    match both_ends(alloc, rt, times, Side::Link, stream, mark) {
-        Ok(ends) => Ok(ends),
-        Err(EndsFault::Failed) => Err(DialFault::NotReached),
-        Err(EndsFault::Mem) => Err(DialFault::Mem),
+    connect_in_turn(rt, times, left, addresses)
+}
+
+impl<'r> SocketDialer<'r> {
+    /// Both ends of a link over a stream.
+    fn link_over(&self, stream: TcpStream) -> Result<(SocketSource<'r>, SocketSink<'r>), DialFault>
+        ensures new { IfOk result (λ ends. AreNew self.now.mark (⟦<SocketSource<'r> as Source>⟧.state ends.0) (⟦<SocketSink<'r> as Sink>⟧.state ends.1)) }
+        ensures refused { result ≢ Err DialFault.NoName }
+    {
+        let SocketDialer {
+            alloc,
+            rt,
+            times,
+            mark,
+            ..
+        } = *self;
+        let work = match &self.work {
+            Some(work) => Arc::try_clone(work).ok(),
+            None => None,
+        };
+        let ends = match work {
+            Some(work) => ends_with(alloc, rt, times, Side::Link, work, stream, mark),
+            None => both_ends(alloc, rt, times, Side::Link, stream, mark),
+        };
+        match ends {
+            Ok(ends) => Ok(ends),
+            Err(EndsFault::Failed) => Err(DialFault::NotReached),
+            Err(EndsFault::Mem) => Err(DialFault::Mem),
+        }
+    }
+
+    /// A link to a host.
+    fn link_to(
+        &self,
+        host: &[u8],
+        port: u16,
+    ) -> Result<(SocketSource<'r>, SocketSink<'r>), DialFault>
+        ensures no_text { is_utf8 host.now ≡ false → result ≡ Err DialFault.NoName }
+        ensures address { is_utf8 host.now ≡ true → (ip : IpAddr) → IsIpText host.now ip → result ≢ Err DialFault.NoName }
+        ensures new { IfOk result (λ ends. AreNew self.now.mark (⟦<SocketSource<'r> as Source>⟧.state ends.0) (⟦<SocketSink<'r> as Sink>⟧.state ends.1)) }
+    {
+        match connect(self.rt, &self.times, host, port) {
+            Ok(stream) => self.link_over(stream),
+            Err(fault) => Err(fault),
+        }
     }
 }
 
@@ -156,20 +193,15 @@ impl<'r> Dialer for SocketDialer<'r> {
         host: &[u8],
         port: u16,
     ) -> Result<(SocketSource<'r>, SocketSink<'r>), DialFault> {
-        let link = connect(self.alloc, self.rt, self.times, host, port, self.mark);
+        let link = self.link_to(host, port);
         self.names = raised(self.names, matches!(&link, Err(DialFault::NoName)));
         self.reach = raised(self.reach, matches!(&link, Err(DialFault::NotReached)));
-        if let (Some(client), Ok(_)) = (&self.client, &link) {
-            client.holds();
-        }
         link
     }
 
     fn hang_up(&mut self, link_in: SocketSource<'r>, link_out: SocketSink<'r>) {
         self.link_reads = raised(self.link_reads, link_in.has_failed());
         self.link_writes = raised(self.link_writes, link_out.has_failed());
-        if let Some(client) = &self.client {
-            client.released(now_millis(self.rt));
-        }
+        link_in.rests();
     }
 }

@@ -9,10 +9,10 @@ use std::time::Duration;
 /// is taken for so long.
 const IDLE_SECONDS: u64 = 300;
 
-/// So long a client whose connection holds no link may take for the next piece of a head.
+/// So long a client may take for the next piece of a head, while no link of its connection is in use.
 const PIECE_SECONDS: u64 = 15;
 
-/// So long a client may take for a whole head, from when its connection last held a link or it was last written to.
+/// So long a client may take for a whole head, from when a link of its connection was last in use or it was last written to.
 const HEAD_SECONDS: u64 = 60;
 
 /// So long a dial takes at most, over all addresses of its host together.
@@ -47,9 +47,9 @@ pub(crate) const PAUSE_MILLIS: u64 = 100;
 pub struct Times {
     /// The longest that nothing moves on a socket, either way: 300 s.
     pub idle: Duration,
-    /// The longest wait for the next piece of a head, while the connection holds no link: 15 s.
+    /// The longest wait for the next piece of a head, while no link of the connection is in use: 15 s.
     pub piece: Duration,
-    /// The longest wait for a whole head, since the connection last held a link or its client was last written to: 60 s.
+    /// The longest wait for a whole head, since a link of the connection was last in use or its client was last written to: 60 s.
     pub head: Duration,
     /// The longest dial, over all addresses of its host: 30 s.
     pub dial: Duration,

@@ -12,7 +12,7 @@ use Rattle.px_socks.specs.declared.notes.Note.TheVariants as note
 use Rattle.px_socks.specs.Marks.{mark_behind}
 use Rattle.px_socks.specs.Ends.{InnerSource, InnerSink, told, source_behind, sink_behind}
 use Rattle.px_socks.specs.Messages.{messages, IsAccepted, Took}
-use Rattle.px_socks.specs.Names.{is_dial_name, target_of, server_of}
+use Rattle.px_base.specs.DialNames.{is_dial_name, target_of, server_of}
 use Rattle.px_socks.specs.Notes.{passage_of, outer_dials, refused, IsRefusedBy, IsLostBy, IsTooLong, AreTied, Keeps}
 use Rattle.px_socks.specs.Dialers.{Kept, outer_state}
 use Rattle.px_socks.specs.Serving.{open_dial, AddsDial, IsNewLink, Serves}

@@ -9,3 +9,4 @@ pub mod DialLemmas
 pub mod HangLemmas
 pub mod HandshakeLemmas
 pub mod PrintedLemmas
+pub mod ComingLemmas

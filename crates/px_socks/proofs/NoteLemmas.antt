@@ -11,7 +11,7 @@ use Rattle.px_socks.specs.declared.notes.Note.{Note}
 use Rattle.px_socks.specs.declared.notes.Note.TheVariants as note
 use Rattle.px_socks.specs.Marks.{mark_behind}
 use Rattle.px_socks.specs.Messages.{messages}
-use Rattle.px_socks.specs.Names.{is_dial_name, target_of}
+use Rattle.px_base.specs.DialNames.{is_dial_name, target_of}
 use Rattle.px_socks.specs.Notes.{no_handshake, passage_of, outcome_behind, traffic_behind, dial_behind, refused, outer_dials, IsAcceptedBy, IsRefusedBy, IsLostBy, IsServed, AreTied, AreDistinct}
 use Rattle.px_socks.proofs.MarkLemmas.{mark_injective}
 

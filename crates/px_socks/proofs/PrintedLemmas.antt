@@ -6,7 +6,7 @@ use Rattle.std.specs.List.{position, position_or_len}
 use Rattle.std.proofs.Math.Seq.{take-append_seam, drop-append-add}
 use Rattle.std.proofs.lemmas.Grind.{common_steps}
 use Rattle.px_base.specs.Ports.{port}
-use Rattle.px_socks.specs.Names.{server, begins_with, bracketed, unbracketed, server_in, is_slash, server_of, target_of, is_dial_name}
+use Rattle.px_base.specs.DialNames.{server, begins_with, bracketed, unbracketed, server_in, is_slash, server_of, target_of, is_dial_name}
 use Rattle.px_socks.specs.Printed.{HasNone, has_colon, shown, printed, IsPrintable}
 
 first_at : (p : ℕ → Bool) (xs : List ℕ) (y : ℕ) (ys : List ℕ) → HasNone p xs → p y ≡ true → position_or_len p (xs ++ y ∷ ys) ≡ length xs

@@ -47,7 +47,7 @@ pub record ReplyAhead (left : List ℕ) : Type 0 where
   pub there : 5 + more ≤ length left
   pub told : rest_length (take 5 left) ≡ Some more
 
-rest_bound : (address_type first : ℕ) (more : List ℕ) → IsTrue (is_bound_address address_type (first ∷ more)) → rest_by address_type first ≡ Some (length more + 2)
+pub rest_bound : (address_type first : ℕ) (more : List ℕ) → IsTrue (is_bound_address address_type (first ∷ more)) → rest_by address_type first ≡ Some (length more + 2)
 rest_bound address_type first more h = grind (arith, common_steps)
 
 bound_rest : (address_type first : ℕ) (more : List ℕ) (port_high port_low : ℕ) → rest_by address_type first ≡ Some (length (more ++ port_high ∷ port_low ∷ [])) → IsTrue (is_bound_address address_type (first ∷ more))

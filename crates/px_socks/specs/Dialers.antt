@@ -1,8 +1,9 @@
 -- What contracts see of a dialer through SOCKS servers.
-use Rattle.std.specs.Prelude.{ℕ, false, List, []}
+use Rattle.std.specs.Prelude.{ℕ, true, ◌&&◌, List, map}
 use Rattle.px_base.specs.Dials.{DialerState}
 use Rattle.px_socks.specs.declared.notes.Note.{Note}
 use Rattle.px_socks.specs.Notes.{outer_dials}
+use Rattle.px_socks.specs.Comings.{through_server}
 
 -- the dialer below, the notes, and the counts of this one
 pub record Kept : Type 0 where
@@ -13,14 +14,14 @@ pub record Kept : Type 0 where
   pub link_reads : ℕ
   pub link_writes : ℕ
 
--- it tells its dials where the dialer below does, and has its mark; what its next dials give depends on the hosts that they
--- dial, and isn't told
+-- it tells its dials where the dialer below does, and what its next dials give where that one tells both; it has that one's mark
 abbrev pub outer_state : Kept → DialerState
 outer_state k = record {
   tells = k.inner.tells;
   dials = outer_dials k.notes k.inner.dials;
-  tells_coming = false;
-  coming = [];
+  tells_coming = k.inner.tells && k.inner.tells_coming;
+  coming = map through_server k.inner.coming;
+  through_servers = true;
   names = k.names;
   reach = k.reach;
   link_reads = k.link_reads;

@@ -2,7 +2,7 @@
 use Rattle.std.specs.Prelude.{◌≡◌, ℕ, false, List, [], ◌∷◌}
 use Rattle.px_base.specs.declared.dials.Dial.{Dial}
 use Rattle.px_socks.specs.Messages.{messages}
-use Rattle.px_socks.specs.Names.{is_dial_name, target_of}
+use Rattle.px_base.specs.DialNames.{is_dial_name, target_of}
 use Rattle.px_socks.specs.Notes.{no_handshake, passage_of, dial_behind, refused, IsAcceptedBy, IsRefusedBy, IsLostBy, IsServed, IsTooLong}
 
 -- those outer dials come of those inner ones

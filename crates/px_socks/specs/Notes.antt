@@ -9,7 +9,7 @@ use Rattle.px_socks.specs.declared.notes.Note.{Note}
 use Rattle.px_socks.specs.declared.notes.Note.TheVariants as note
 use Rattle.px_socks.specs.Marks.{mark_behind}
 use Rattle.px_socks.specs.Messages.{messages, due, IsAccepted, Took, NoneAhead}
-use Rattle.px_socks.specs.Names.{is_dial_name, target_of, server_of}
+use Rattle.px_base.specs.DialNames.{is_dial_name, target_of, server_of}
 
 -- the passage of a link without a handshake
 abbrev pub no_handshake : Passage

@@ -1,7 +1,7 @@
 -- Dial names as they are printed by those who make them of a server and a target.
 use Rattle.std.specs.Prelude.{◌≡◌, ℕ, ◌==◌, ◌||◌, Bool, true, false, if◌then◌else◌, List, [], ◌∷◌, ◌++◌, Some}
 use Rattle.std.specs.Str.{byte}
-use Rattle.px_socks.specs.Names.{begins_with, is_slash, scheme, is_dial_name, server_of, target_of}
+use Rattle.px_base.specs.DialNames.{begins_with, is_slash, scheme, is_dial_name, server_of, target_of}
 
 -- no byte of that kind
 abbrev pub HasNone : (ℕ → Bool) → List ℕ → Type 0

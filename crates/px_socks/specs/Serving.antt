@@ -1,14 +1,15 @@
 -- What comes of one dial of a server and the handshake with it.
-use Rattle.std.specs.Prelude.{◌≡◌, ℕ, ◌⊎◌, true, false, IsTrue, List, [], ◌∷◌, ◌++◌, drop, Result, Ok, Err}
+use Rattle.std.specs.Prelude.{◌≡◌, ℕ, ◌⊎◌, true, false, IsTrue, List, [], ◌∷◌, ◌++◌, drop, Some, None, Result, Ok, Err}
 use Rattle.px_base.specs.Sources.{SourceState, SourceGoesOn, given}
 use Rattle.px_base.specs.Sinks.{SinkState, SinkGoesOn}
-use Rattle.px_base.specs.Dials.{DialerState, HangsUp, is_open}
+use Rattle.px_base.specs.Dials.{DialerState, HangsUp, is_open, Met, offers, nameless, unreached, untold, is_named, coming_behind, LeavesWanting}
 use Rattle.px_base.specs.declared.dials.Dial.{Dial}
 use Rattle.px_base.specs.declared.dials.DialOutcome.TheVariants as outcome
 use Rattle.px_socks.specs.declared.ends.Passage.{Passage}
 use Rattle.px_socks.specs.declared.servers.Stop.{Stop}
 use Rattle.px_socks.specs.declared.servers.Stop.TheVariants as stop
 use Rattle.px_socks.specs.Ends.{InnerSource, InnerSink, has_failed}
+use Rattle.px_socks.specs.Comings.{accepted_length}
 use Rattle.px_socks.specs.Messages.{due, IsAccepted, Took, NoneAhead}
 use Rattle.px_socks.specs.Notes.{IsFrontSent, IsRefusedBy, IsLostBy}
 
@@ -39,6 +40,7 @@ pub record Hung (old new : DialerState) (i : SourceState) (o : SinkState) (messa
   pub hung_up : HangsUp old new last_in last_out
   pub in_goes_on : SourceGoesOn i last_in
   pub out_goes_on : SinkGoesOn o last_out
+  pub still_open : last_out.finished ≡ o.finished
   pub sent : IsTrue i.tells → IsTrue o.tells → IsFrontSent last_out.taken (due (given last_in) messages)
   pub whole : IsTrue i.tells → IsTrue o.tells → s ≡ stop.Refused → has_failed last_out.faults ≡ false → last_out.taken ≡ due (given last_in) messages
   pub why : s ≡ stop.Refused → RefusedOver last_in last_out i
@@ -78,3 +80,29 @@ Serves old new host port messages (Ok link) = IsNewLink old link × (new.dials �
 Serves old new host port messages (Err stop.Refused) = AddsDial old new host port (λ d. IsRefusedBy messages d.outcome)
 Serves old new host port messages (Err stop.Lost) = AddsDial old new host port (λ d. IsLostBy messages d.outcome)
 Serves old new host port messages (Err stop.Mem) = new.dials ≡ old.dials
+
+-- what came of a dial of a server, by what was to come of it: a link whose ends fail no more is accepted exactly where accepted
+-- bytes stand at the front of what it offers, and so many are heard
+abbrev pub CameOf : Met → Result (InnerSource × InnerSink) Stop → Type 0
+CameOf m (Err stop.Lost) = Unit {0}
+CameOf m (Err stop.Mem) = Unit {0}
+CameOf (offers bytes true true) (Ok link) =
+    (link.0.source.offered ≡ bytes) × (link.0.source.steady ≡ true) × (link.1.sink.steady ≡ true) × (accepted_length bytes ≡ Some link.0.passage.heard)
+CameOf (offers bytes true true) (Err stop.Refused) = accepted_length bytes ≡ None
+CameOf (offers bytes true false) (Ok link) = Unit {0}
+CameOf (offers bytes true false) (Err stop.Refused) = Unit {0}
+CameOf (offers bytes false writes) (Ok link) = Unit {0}
+CameOf (offers bytes false writes) (Err stop.Refused) = Unit {0}
+CameOf nameless (Ok link) = ⊥
+CameOf nameless (Err stop.Refused) = Unit {0}
+CameOf unreached (Ok link) = ⊥
+CameOf unreached (Err stop.Refused) = Unit {0}
+CameOf untold (Ok link) = Unit {0}
+CameOf untold (Err stop.Refused) = Unit {0}
+
+-- what a dial of that server leaves to come
+abbrev pub LeavesBehind : DialerState → DialerState → List ℕ → Result (InnerSource × InnerSink) Stop → Type 0
+LeavesBehind old new host (Ok link) = new.coming ≡ coming_behind old host
+LeavesBehind old new host (Err stop.Refused) = new.coming ≡ coming_behind old host
+LeavesBehind old new host (Err stop.Lost) = new.coming ≡ coming_behind old host
+LeavesBehind old new host (Err stop.Mem) = LeavesWanting (is_named old.through_servers host) old.coming new.coming (coming_behind old host)

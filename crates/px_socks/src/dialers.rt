@@ -1,11 +1,11 @@
 // A dialer through SOCKS servers over any dialer.
 ghost use Rattle.std.specs.Prelude.{◌≡◌, ◌<◌, ◌≤◌, ◌++◌, ◌∷◌, [], IsTrue, IfOk, MatchBool, Some, false, length, vec_len, vec_capacity};
 ghost use Rattle.px_base.specs.Causes.{Rose};
-ghost use Rattle.px_base.specs.Dials.{linked, dialed, IsFresh, IsTold, DialCause, DialerGoesOn};
+ghost use Rattle.px_base.specs.Dials.{linked, dialed, IsFresh, IsTold, met, agrees, LeavesComing, DialCause, DialerGoesOn};
 ghost use Rattle.px_socks.specs.Ends.{outer_source, outer_sink};
 ghost use Rattle.px_socks.specs.Dialers.{outer_state};
 ghost use Rattle.px_socks.specs.Handshakes.{Handshakes};
-ghost use Rattle.px_socks.specs.Names.{is_dial_name, target_of, server_of};
+ghost use Rattle.px_base.specs.DialNames.{is_dial_name, target_of, server_of};
 ghost use Rattle.px_socks.specs.Notes.{no_handshake, IsTooLong};
 
 use crate::handshakes::greeting_and_request;
@@ -119,6 +119,8 @@ impl<D: LocalDialer> SocksDialer<D> {
         ensures dials { IsTrue (outer_state self.old).tells → (outer_state self.new).dials ≡ (outer_state self.old).dials ++ dialed host.now port (linked outer_source outer_sink result) }
         ensures told { IsTrue (outer_state self.old).tells → IfOk (linked outer_source outer_sink result) (IsTold (outer_state self.old)) }
         ensures fresh { IfOk (linked outer_source outer_sink result) IsFresh }
+        ensures coming { IsTrue (outer_state self.old).tells_coming → agrees (met (outer_state self.old) host.now) (linked outer_source outer_sink result) }
+        ensures coming_left { IsTrue (outer_state self.old).tells_coming → LeavesComing (outer_state self.old) (outer_state self.new) host.now (linked outer_source outer_sink result) }
         ensures cause { DialCause (outer_state self.old) (outer_state self.new) result }
         ensures goes_on { DialerGoesOn (outer_state self.old) (outer_state self.new) }
     {
@@ -158,6 +160,8 @@ impl<D: LocalDialer> SocksDialer<D> {
         ensures dials { IsTrue (outer_state self.old).tells → (outer_state self.new).dials ≡ (outer_state self.old).dials ++ dialed host.now port (linked outer_source outer_sink result) }
         ensures told { IsTrue (outer_state self.old).tells → IfOk (linked outer_source outer_sink result) (IsTold (outer_state self.old)) }
         ensures fresh { IfOk (linked outer_source outer_sink result) IsFresh }
+        ensures coming { IsTrue (outer_state self.old).tells_coming → agrees (met (outer_state self.old) host.now) (linked outer_source outer_sink result) }
+        ensures coming_left { IsTrue (outer_state self.old).tells_coming → LeavesComing (outer_state self.old) (outer_state self.new) host.now (linked outer_source outer_sink result) }
         ensures cause { DialCause (outer_state self.old) (outer_state self.new) result }
         ensures goes_on { DialerGoesOn (outer_state self.old) (outer_state self.new) }
     {
@@ -184,6 +188,8 @@ impl<D: LocalDialer> SocksDialer<D> {
         ensures dials { IsTrue (outer_state self.old).tells → (outer_state self.new).dials ≡ (outer_state self.old).dials ++ dialed host.now port (linked outer_source outer_sink result) }
         ensures told { IsTrue (outer_state self.old).tells → IfOk (linked outer_source outer_sink result) (IsTold (outer_state self.old)) }
         ensures fresh { IfOk (linked outer_source outer_sink result) IsFresh }
+        ensures coming { IsTrue (outer_state self.old).tells_coming → agrees (met (outer_state self.old) host.now) (linked outer_source outer_sink result) }
+        ensures coming_left { IsTrue (outer_state self.old).tells_coming → LeavesComing (outer_state self.old) (outer_state self.new) host.now (linked outer_source outer_sink result) }
         ensures cause { DialCause (outer_state self.old) (outer_state self.new) result }
         ensures goes_on { DialerGoesOn (outer_state self.old) (outer_state self.new) }
     {

@@ -1,7 +1,8 @@
 // What the definitions say of one another.
-ghost use Rattle.std.specs.Prelude.{◌≡◌, ℕ, List, Some};
+ghost use Rattle.std.specs.Prelude.{◌≡◌, ℕ, List, Some, None};
 ghost use Rattle.px_base.specs.Ports.{port};
-ghost use Rattle.px_socks.specs.Messages.{IsAccepted, Took};
+ghost use Rattle.px_socks.specs.Messages.{IsAccepted, NoneAhead, Took};
+ghost use Rattle.px_socks.specs.Comings.{accepted_length};
 ghost use Rattle.px_socks.specs.Printed.{IsPrintable, IsReadAs, printed};
 
 /// A dial name that is printed is read back: as a dial name of that server's host, its port and that target, whatever bytes
@@ -13,4 +14,10 @@ pub fn printed_names_are_read()
 /// No two numbers of bytes are accepted at the front of the same bytes: what a server sends settles where its link begins.
 pub fn accepted_bytes_are_prefix_free()
     ensures { (left rest more : List ℕ) (m n : ℕ) → Took IsAccepted m left rest → Took IsAccepted n left more → m ≡ n }
+{}
+
+/// The bytes that are accepted at the front of others are counted, where there are such: the count is what is cut off.
+pub fn accepted_bytes_are_counted()
+    ensures some { (left rest : List ℕ) (count : ℕ) → Took IsAccepted count left rest → accepted_length left ≡ Some count }
+    ensures none { (left : List ℕ) → NoneAhead IsAccepted left → accepted_length left ≡ None }
 {}

@@ -2,7 +2,7 @@
 ghost use Rattle.std.specs.Prelude.{◌≡◌, ◌==◌, false, IsTrue, IfSome, IsSome, IsNone, Some, None};
 ghost use Rattle.std.specs.Str.{byte};
 ghost use Rattle.std.specs.List.{position};
-ghost use Rattle.px_socks.specs.Names.{target_of, server_of, server_in, bracketed, unbracketed, is_dial_name};
+ghost use Rattle.px_base.specs.DialNames.{target_of, server_of, server_in, bracketed, unbracketed, is_dial_name};
 
 use px_base::{place, read_port};
 

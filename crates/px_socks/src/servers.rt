@@ -1,7 +1,7 @@
 // A dial of a server, and the handshake with it.
 ghost use Rattle.std.specs.Prelude.{◌≡◌, ◌≤◌, IsTrue, IfOk, IfErr, length, ◌≢◌, Err};
-ghost use Rattle.px_base.specs.Dials.{DialerGoesOn, IsFresh};
-ghost use Rattle.px_socks.specs.Serving.{Serves, IsBehindHandshake, IsOpenLink, IsBegun, Hung};
+ghost use Rattle.px_base.specs.Dials.{DialerGoesOn, IsFresh, met};
+ghost use Rattle.px_socks.specs.Serving.{Serves, IsBehindHandshake, IsOpenLink, IsBegun, Hung, CameOf, LeavesBehind};
 
 use crate::handshakes::{GREETING_LENGTH, Refusal, handshake};
 use crate::{Passage, SocksSink, SocksSource};
@@ -72,6 +72,8 @@ pub fn dial_server<D: LocalDialer>(
     ensures begun { IfOk result (λ link. IsBegun link.1.passage link.0.source link.1.sink) }
     ensures one_passage { IfOk result (λ link. link.0.passage ≡ link.1.passage) }
     ensures messages_sent { IfOk result (λ link. link.1.passage.messages ≡ messages) }
+    ensures came { IsTrue (D.state inner.old).tells → IsTrue (D.state inner.old).tells_coming → CameOf (met (D.state inner.old) host.now) result }
+    ensures coming_left { IsTrue (D.state inner.old).tells_coming → LeavesBehind (D.state inner.old) (D.state inner.new) host.now result }
     ensures goes_on { DialerGoesOn (D.state inner.old) (D.state inner.new) }
 {
     match inner.dial(host, port) {

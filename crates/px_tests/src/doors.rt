@@ -265,7 +265,7 @@ fn a_late_byte_does_not_take_the_end_of_an_answer(rt: HostRuntime) {
     };
     same(&rt, write_all(&mut link_out, b"\r\n"), Ok(()));
     same(&rt, answer_and_part(rt.alloc(), &mut doors, 60), true);
-    doors.close();
+    drop(doors);
     same(&rt, count_to_end(&mut link_in), Some(60_000));
 }
 

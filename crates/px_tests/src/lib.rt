@@ -1,11 +1,11 @@
-//! The tests that aren't rows of data: objects in memory and over the system, threads, sockets, doors and workers; and the
-//! rows of the profile that the prover computes from the definitions.
+//! The tests that aren't rows of data: objects in memory and over the system, threads, sockets, doors and workers.
 #![tactic(auto)]
 
 #[cfg(test)]
 mod aliases;
 #[cfg(test)]
 mod boards;
+mod command_rows;
 #[cfg(test)]
 mod common;
 #[cfg(test)]
@@ -22,7 +22,6 @@ mod pool;
 mod publish;
 #[cfg(test)]
 mod pumps;
-mod rows;
 #[cfg(test)]
 mod serving;
 #[cfg(test)]

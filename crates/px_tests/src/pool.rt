@@ -207,7 +207,10 @@ fn a_fifth_link_hangs_up_the_oldest(rt: HostRuntime) {
     for _ in 0..5 {
         add_link(&rt, alloc, &mut answers, bytes.as_bytes(), &[40, 40], &[]);
     }
-    let mut pool = LinkPool::new(alloc, MemDialer::new(alloc, answers).expect(&rt, "memory"));
+    let mut pool: LinkPool<MemDialer> = LinkPool::new(
+        alloc,
+        MemDialer::new(alloc, answers).expect(&rt, "memory"),
+    );
     for host in ["a.test", "b.test", "c.test", "d.test", "e.test"] {
         same(&rt, visit(&mut pool, host, 80, CLOSES), Some(40));
     }
@@ -259,7 +262,10 @@ const POSTS: &str = "POST / HTTP/1.1\r\nContent-Length: 1\r\nConnection: close\r
 fn is_kept_though(rt: &impl Abort, alloc: Global, write_fails: &[u64]) -> bool {
     let mut answers = List::new(alloc);
     add_link(rt, alloc, &mut answers, ANSWER.as_bytes(), &[], write_fails);
-    let mut pool = LinkPool::new(alloc, MemDialer::new(alloc, answers).expect(rt, "memory"));
+    let mut pool: LinkPool<MemDialer> = LinkPool::new(
+        alloc,
+        MemDialer::new(alloc, answers).expect(rt, "memory"),
+    );
     holds(
         rt,
         visit_in_two(&mut pool, POSTS.as_bytes(), 57),

@@ -40,6 +40,65 @@ fn conn(alloc: Global) -> Result<MemConn, Mem>
     })
 }
 
+/// A connection with two requests. Each of its two dials would give an answer to both, one at a time.
+fn conn_of_two(alloc: Global) -> Result<MemConn, Mem>
+    ensures { IfOk result (λ conn. IsFreshConn (mem_conn conn)) }
+{
+    let mut answers = List::new(alloc);
+    answers.add(two_answers(alloc)?)?;
+    answers.add(two_answers(alloc)?)?;
+    let mut asked = Text::from_bytes(alloc, GET)?;
+    asked.push_all(GET)?;
+    Ok(Conn {
+        client_in: TapeIn::new(alloc, asked.as_bytes(), &[], &[])?,
+        client_out: TapeOut::new(alloc, &[], &[])?,
+        dialer: MemDialer::new(alloc, answers)?,
+        clock: FixedClock::new(List::new(alloc)),
+        peer: Peer {
+            address: Text::from_bytes(alloc, b"127.0.0.1")?,
+        },
+    })
+}
+
+/// A link with two answers, of which a read brings one.
+fn two_answers(alloc: Global) -> Result<Answer, Mem> {
+    let mut bytes = Text::from_bytes(alloc, ANSWER)?;
+    bytes.push_all(ANSWER)?;
+    let cuts = vec![in alloc; ANSWER.len(), ANSWER.len()]?;
+    Ok(Answer::Link {
+        bytes,
+        cuts: List::from_vec(cuts),
+        read_fails: List::new(alloc),
+        write_fails: List::new(alloc),
+    })
+}
+
+/// Runs `serve c 1` over one connection with two requests.
+fn proxied_two<R: Threads + Wait + Sync>(
+    alloc: Global,
+    rt: &R,
+    main: &[u8],
+) -> Result<Proxied<MemFiles, MemDoors, TapeOut>, Fail> {
+    let mut state = List::new(alloc);
+    state.add((
+        Text::from_bytes(alloc, b"c")?,
+        Text::from_bytes(alloc, main)?,
+    ))?;
+    let mut states = List::new(alloc);
+    states.add(state)?;
+    let conns = vec![in alloc; conn_of_two(alloc)?]?;
+    let parts = Parts {
+        files: MemFiles::new(alloc, states, &[])?,
+        doors: MemDoors::new(alloc, List::from_vec(conns), &[])?,
+        err: TapeOut::new(alloc, &[], &[])?,
+    };
+    let mut words = Vec::new(alloc);
+    for word in ["serve", "c", "1"] {
+        words.push(String::from_str(alloc, word)?)?;
+    }
+    Ok(run_proxy(alloc, rt, &words, parts))
+}
+
 /// Runs `serve c 1 2` over three connections and an empty `c`, those calls of the doors failing.
 fn proxied<R: Threads + Wait + Sync>(
     alloc: Global,
@@ -98,6 +157,37 @@ fn doors_that_fail_are_status_7(rt: HostRuntime) -> Result<(), Fail> {
             doors.parted().len(),
         );
         same_at(&rt, fails, seen, (status, listened, count));
+    }
+    Ok(())
+}
+
+/// What is sent over a link of its own, and twice over one that is shared.
+const CLOSED: &[u8] = b"GET /x HTTP/1.1\r\nHost: a.test\r\nConnection: close\r\n\r\n";
+
+const KEPT_TWICE: &[u8] = b"GET /x HTTP/1.1\r\nHost: a.test\r\nConnection: keep-alive\r\n\r\n\
+GET /x HTTP/1.1\r\nHost: a.test\r\nConnection: keep-alive\r\n\r\n";
+
+/// The main file, how many links are dialled for two requests, and what is sent over each.
+const SHARING: [(&[u8], usize, &[u8]); 3] = [
+    (b"", 2, CLOSED),
+    (b"link-reuse 0\n", 2, CLOSED),
+    (b"link-reuse 1\n", 1, KEPT_TWICE),
+];
+
+#[test]
+fn the_requests_of_a_connection_share_a_link_where_the_main_file_says_so(
+    rt: HostRuntime,
+) -> Result<(), Fail> {
+    for (main, links, sent) in SHARING {
+        let proxied = proxied_two(rt.alloc(), &rt, main)?;
+        same_at(&rt, main, proxied.status, 0);
+        for parted in proxied.parts.doors.parted() {
+            same_at(&rt, main, parted.conn.dialer.links().len(), links);
+            for link in parted.conn.dialer.links() {
+                same_at(&rt, main, link.sent.as_bytes(), sent);
+            }
+        }
+        same_at(&rt, main, proxied.parts.doors.parted().len(), 1);
     }
     Ok(())
 }

@@ -4,14 +4,13 @@ use px_base::{
     Answer, Dialer, FixedClock, LinkNote, List, MemDialer, MemFiles, Peer, TapeIn, TapeOut, Text,
 };
 use px_config::{Config, load};
-use px_publish::{Configs, FixedConfig};
-use px_serve::{SessionEnd, Store};
-use px_shared::{Shared, serve_shared, serve_stored_shared};
+use px_publish::FixedConfig;
+use px_serve::SessionEnd;
+use px_shared::{Shared, serve_shared};
 use px_ways::Way;
 use std::alloc::Global;
 use std::process::Abort;
 use std::sync::Arc;
-use std::thread::Threads;
 
 const GET: &str = "GET http://a.test/x HTTP/1.1\r\nHost: a.test\r\n\r\n";
 
@@ -161,47 +160,4 @@ fn begins_with_one_reply(rt: &impl Abort, taken: &[u8]) {
         ),
         None => same(rt, taken, REPLY.as_bytes()),
     }
-}
-
-/// Serves with a store of the newest entry.
-fn serve_stored_over<R: Threads + Sync, K: Configs<Held = Config>>(
-    rt: &R,
-    alloc: Global,
-    configs: &mut K,
-    ends: &mut Ends,
-    dialer: MemDialer,
-) -> Option<Shared<MemDialer>> {
-    let number = configs.current().number;
-    match configs.owner() {
-        Ok(owner) => {
-            let mut store = Store::new(alloc, number, &owner);
-            Some(serve_stored_shared(
-                alloc,
-                &Way::AtOnce(rt),
-                &mut store,
-                configs,
-                &mut ends.client_in,
-                &mut ends.client_out,
-                dialer,
-                &mut ends.clock,
-                &ends.peer,
-                &[],
-            ))
-        }
-        Err(_) => None,
-    }
-}
-
-#[test]
-fn a_kept_store_serves_over_a_shared_link(rt: HostRuntime) {
-    let alloc = rt.alloc();
-    let mut ends = lent(&rt, alloc);
-    let config = Arc::new(alloc, config(&rt, alloc)).expect(&rt, "memory");
-    let mut configs = FixedConfig::new(config);
-    let dialer = dialer(&rt, alloc, &[40, 40]);
-    let shared = serve_stored_over(&rt, alloc, &mut configs, &mut ends, dialer).expect(
-        &rt,
-        "the one entry",
-    );
-    was_shared(&rt, alloc, &ends, shared);
 }

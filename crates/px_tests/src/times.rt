@@ -156,6 +156,43 @@ fn a_client_waits_longer_while_its_connection_holds_a_link(rt: HostRuntime) {
 }
 
 #[test]
+fn a_client_whose_link_rests_is_asked_for_a_head(rt: HostRuntime) {
+    let Some(
+        Pair {
+            link_in: own_in,
+            link_out: own_out,
+            mut caller,
+            mut listener,
+        },
+    ) = open_pair(&rt)
+    else {
+        panic!(rt; "no link");
+    };
+    let port = listener.port;
+    let client_in = &mut caller.client_in;
+    let mut dialer = SocketDialer::of_client(rt.alloc(), &rt, short_times(), client_in, 7);
+    let Ok((mut link_in, mut link_out)) = dialer.dial(b"127.0.0.1", port) else {
+        panic!(rt; "no link");
+    };
+    let Ok(mut origin) = listener.accept(8) else {
+        panic!(rt; "no origin");
+    };
+    same(&rt, write_all(&mut origin.client_out, b"whole"), Ok(()));
+    same(&rt, link_in.read(&mut [0; 8]), Ok(5));
+    let waited = wait_in_vain(&rt, client_in);
+    holds(&rt, waited >= 190, "a piece of a head");
+    holds(&rt, waited < 900, "and no longer");
+    same(&rt, write_all(&mut link_out, b"more"), Ok(()));
+    holds(
+        &rt,
+        wait_in_vain(&rt, client_in) >= 990,
+        "the time of a link that is written to",
+    );
+    dialer.hang_up(link_in, link_out);
+    drop((own_in, own_out));
+}
+
+#[test]
 fn a_dial_that_nobody_answers_ends_in_time(rt: HostRuntime) {
     let (alloc, times) = (rt.alloc(), short_times());
     let Ok(listener) = SocketListener::listen(alloc, &rt, times, b"127.0.0.1", 0) else {
@@ -312,7 +349,7 @@ fn what_comes_late_does_not_take_the_end_of_an_answer(rt: HostRuntime) {
     same(&rt, write_all(&mut link_out, b"\r\n"), Ok(()));
     drop(caller);
     let start = Instant::now(&rt).ok().expect(&rt, "a clock");
-    listener.close();
+    drop(listener);
     let waited = millis_since(&rt, &start);
     holds(&rt, waited >= 390, "it waits for the client");
     holds(&rt, waited < 3_000, "and no longer");
@@ -336,7 +373,7 @@ fn a_client_that_closes_is_not_waited_for(rt: HostRuntime) {
     same(&rt, answer(&mut caller.client_out, 1), Ok(()));
     drop((link_in, link_out, caller));
     let start = Instant::now(&rt).ok().expect(&rt, "a clock");
-    listener.close();
+    drop(listener);
     holds(&rt, millis_since(&rt, &start) < 300, "it is gone");
 }
 

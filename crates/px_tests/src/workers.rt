@@ -134,6 +134,7 @@ impl<'c> Dialer for Origin<'c> {
       dials = [];
       tells_coming = false;
       coming = [];
+      through_servers = false;
       names = 0;
       reach = 0;
       link_reads = d.link_reads;

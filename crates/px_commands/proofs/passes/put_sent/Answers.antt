@@ -2,7 +2,7 @@ use Rattle.std.proofs.Common.{refl, sym, ◌∙◌, inl, inr}
 use Rattle.px_commands.proofs.passes.put_sent.Goals as goal
 
 pub returns-then-is_wanting-clause-puts : goal.returns-then-is_wanting-clause-puts
-returns-then-is_wanting-clause-puts g c = inr (record { wanting = refl; unchanged = λ t name. refl })
+returns-then-is_wanting-clause-puts g c = inr (record { wanting = refl; unput = refl; unchanged = λ t name. refl })
 
 pub returns-clause-puts : goal.returns-clause-puts
 returns-clause-puts g c =
@@ -13,5 +13,6 @@ returns-clause-puts g c =
       put = puts.put;
       others = puts.others;
       cause = puts.cause;
+      counted = puts.counted;
       status_is = c.status_after.ensures;
     })

@@ -7,7 +7,7 @@ returns-in-Ok-clause-runs g c errors =
     let read = c.read_answers.ensures in
     inr (inr (inl (passes_by c.args.loaded c.args.pass.origin.now c.args.pass.sent.now _
     (g.F.Files.state c.args.files.now) (g.F.Files.state c.read_answers.new.files) (g.F.Files.state c.put_served.new.files) _ _ _ _ errors _ _ c.in-Answers.answers c.in-Ok.served.end c.in-Ok.served.sent c.put_served.result
-    (record { tells_same = read.go_on.tells_same; unchanged = read.unchanged; reads_same = c.in-Answers.ensures.cause.0; puts_same = c.in-Answers.ensures.cause.1 })
+    (record { tells_same = read.go_on.tells_same; unchanged = read.unchanged; reads_same = c.in-Answers.ensures.cause.0; put_faults_same = c.in-Answers.ensures.cause.1; unput = read.unput })
     c.in-Answers.ensures.reads c.in-Ok.ensures.served c.put_served.ensures.puts)))
 
 pub returns-in-Err-clause-runs : goal.returns-in-Err-clause-runs

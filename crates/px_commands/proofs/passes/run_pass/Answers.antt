@@ -11,7 +11,7 @@ returns-in-Ok-clause-runs g c =
     c.in-Ok.ensures.config
     (loaded_behind c.in-Ok.loaded c.args.pass.origin.now c.args.pass.sent.now (map string_bytes c.args.pass.tags.now)
     (g.F.Files.state c.args.files.now) (g.F.Files.state c.load.new.files) (g.S.Source.state c.args.input.now) (g.O.Sink.state c.args.out.now) (g.E.Sink.state c.args.err.now) (g.T.Clock.state c.args.clock.now) _ c.run_loaded.result
-    (record { tells_same = read.tells_same; unchanged = read.unchanged; reads_same = c.in-Ok.ensures.cause; puts_same = read.put_faults_same })
+    (record { tells_same = read.tells_same; unchanged = read.unchanged; reads_same = c.in-Ok.ensures.cause; put_faults_same = read.put_faults_same; unput = read.puts_same })
     (c.run_loaded.ensures.runs (g.E.Sink.state c.args.err.now)))
 
 pub returns-in-Ok-clause-goes_on : goal.returns-in-Ok-clause-goes_on
@@ -23,7 +23,7 @@ pub returns-in-Err-clause-runs : goal.returns-in-Err-clause-runs
 returns-in-Err-clause-runs g c =
     pass_fails c.args.pass.config.now c.args.pass.origin.now c.args.pass.sent.now (map string_bytes c.args.pass.tags.now) (g.F.Files.state c.args.files.now) (g.F.Files.state c.load.new.files) (g.S.Source.state c.args.input.now)
     (g.O.Sink.state c.args.out.now) (g.E.Sink.state c.args.err.now) (g.E.Sink.state c.report_load.new.err) (g.T.Clock.state c.args.clock.now) c.in-Err.fault c.report_load.result
-    c.load.ensures.only_reads.unchanged c.in-Err.ensures.refused c.in-Err.ensures.cause c.report_load.ensures.reports
+    c.load.ensures.only_reads.unchanged (λ told. (c.in-Err.ensures.refused told, c.in-Err.ensures.named told)) c.in-Err.ensures.cause c.report_load.ensures.reports
 
 pub returns-in-Err-clause-goes_on : goal.returns-in-Err-clause-goes_on
 returns-in-Err-clause-goes_on g c =

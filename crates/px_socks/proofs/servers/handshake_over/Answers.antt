@@ -10,6 +10,7 @@ returns-in-Err-NotReached-clause-hung g c = record {
   hung_up = c.hang_up.ensures.hung_up;
   in_goes_on = c.in-Err-NotReached.ensures.in_goes_on;
   out_goes_on = c.in-Err-NotReached.ensures.out_goes_on;
+  still_open = c.in-Err-NotReached.ensures.open;
   sent = λ t u.
       sent_front (g.D.In.LocalSource.state c.args.link.0) (g.D.In.LocalSource.state c.handshake.new.link_in) (g.D.Out.LocalSink.state c.args.link.1) (g.D.Out.LocalSink.state c.handshake.new.link_out) _ _
       c.requires.fresh.nothing_read c.in-Err-NotReached.ensures.in_goes_on.offered_same c.requires.fresh.nothing_taken (rw c.as_bytes.ensures at (c.in-Err-NotReached.ensures.due t u));
@@ -28,6 +29,7 @@ returns-clause-hung g c = record {
   hung_up = c.hang_up-in-Err-Mem.ensures.hung_up;
   in_goes_on = c.in-Err-Mem.ensures.in_goes_on;
   out_goes_on = c.in-Err-Mem.ensures.out_goes_on;
+  still_open = c.in-Err-Mem.ensures.open;
   sent = λ t u.
       sent_front (g.D.In.LocalSource.state c.args.link.0) (g.D.In.LocalSource.state c.handshake.new.link_in) (g.D.Out.LocalSink.state c.args.link.1) (g.D.Out.LocalSink.state c.handshake.new.link_out) _ _
       c.requires.fresh.nothing_read c.in-Err-Mem.ensures.in_goes_on.offered_same c.requires.fresh.nothing_taken (rw c.as_bytes.ensures at (c.in-Err-Mem.ensures.due t u));

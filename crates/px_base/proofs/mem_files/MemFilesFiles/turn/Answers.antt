@@ -8,4 +8,5 @@ returns-then-self-len-clause-turns c = record {
   later = λ t. later_after_next c.args.self.now.states c.args.self.now.at (omega arith);
   read_faults_same = refl;
   put_faults_same = refl;
+  puts_same = refl;
 }

@@ -3,6 +3,8 @@ use Rattle.px_base.specs.declared.dials.DialOutcome.TheVariants as outcome
 use Rattle.px_socks.specs.Serving.{open_dial}
 use Rattle.px_socks.specs.Notes.{no_handshake}
 use Rattle.px_socks.proofs.DialLemmas.{new_open, new_refused, new_nameless, plain_noted, noted_keeps, noted_outer, told_behind}
+use Rattle.std.proofs.lemmas.Bool.{and_parts}
+use Rattle.px_socks.proofs.ComingLemmas.{plain_agrees, plain_left}
 use Rattle.px_socks.proofs.dialers.SocksDialer.dial_plain.Goals as goal
 
 pub invariant_of-self-in-Ok : goal.invariant_of-self-in-Ok
@@ -61,3 +63,14 @@ returns-in-Ok-clause-dials g c = rw (← c.self.view_is, c.new.ensures.made, c.n
 pub returns-in-Ok-clause-told : goal.returns-in-Ok-clause-told
 returns-in-Ok-clause-told g c = rw (← c.self.view_is, c.new.ensures.made, c.new-in-Ok.ensures.made, c.no_handshake.ensures.passage, c.no_handshake-in-Ok.ensures.passage) (λ t.
     told_behind _ no_handshake (g.D.In.LocalSource.state c.in-Ok.link_in) (g.D.Out.LocalSink.state c.in-Ok.link_out) (c.in-Ok.ensures.told t))
+
+pub returns-in-Ok-clause-coming : goal.returns-in-Ok-clause-coming
+returns-in-Ok-clause-coming g c = rw (← c.self.view_is, c.new.ensures.made, c.new-in-Ok.ensures.made, c.no_handshake.ensures.passage, c.no_handshake-in-Ok.ensures.passage) (λ t.
+    let both = and_parts (g.D.LocalDialer.state c.self.inside.inner).tells (g.D.LocalDialer.state c.self.inside.inner).tells_coming t in
+    plain_agrees (g.D.LocalDialer.state c.self.inside.inner) c.args.host.now (g.D.In.LocalSource.state c.in-Ok.link_in) (g.D.Out.LocalSink.state c.in-Ok.link_out)
+    c.requires.plain (c.in-Ok.ensures.told both.0).in_tells (c.in-Ok.ensures.coming both.1))
+
+pub returns-in-Ok-clause-coming_left : goal.returns-in-Ok-clause-coming_left
+returns-in-Ok-clause-coming_left g c = rw (← c.self.view_is) (λ t.
+    let both = and_parts (g.D.LocalDialer.state c.self.inside.inner).tells (g.D.LocalDialer.state c.self.inside.inner).tells_coming t in
+    plain_left (g.D.LocalDialer.state c.self.inside.inner) c.args.host.now (g.D.LocalDialer.state c.dial.new.self).coming c.requires.plain (c.in-Ok.ensures.coming_left both.1))

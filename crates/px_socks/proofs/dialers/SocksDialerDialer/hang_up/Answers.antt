@@ -1,4 +1,6 @@
-use Rattle.std.proofs.Common.{refl, sym, ◌∙◌}
+use Rattle.std.proofs.Common.{refl, sym, ap, map, ◌∙◌}
+use Rattle.std.proofs.lemmas.Bool.{and_parts}
+use Rattle.px_socks.specs.Comings.{through_server}
 use Rattle.px_socks.specs.Dialers.{Kept}
 use Rattle.px_socks.proofs.HangLemmas.{held, hung_outer, hung_keeps, rises}
 use Rattle.px_socks.proofs.dialers.SocksDialerDialer.hang_up.Goals as goal
@@ -34,7 +36,9 @@ returns-clause-hung_up g c = rw (← c.self.view_is) (record {
       let one = rw (← c.self.view_is) at c.requires.one_mark in
       let ended = rw (c.into_inner.ensures.inner, c.into_inner-2.ensures.inner) at (c.hang_up.ensures.hung_up.dials t) in
       hung_outer k (g.D.Dialer.state c.hang_up.new.self) c.args.link_in c.args.link_out (held k c.args.link_in c.args.link_out (open_there t) (one t)) (c.self.invariant t) ended;
-  coming_same = λ t. refl;
+  coming_same = λ t.
+      let both = and_parts (g.D.Dialer.state c.self.inside.inner).tells (g.D.Dialer.state c.self.inside.inner).tells_coming t in
+      ap (map through_server) (c.hang_up.ensures.hung_up.coming_same both.1);
   names_same = refl;
   reach_same = refl;
   link_reads = rises c.self.inside.link_reads c.raised-self-inside.result c.args.link_in.source.faults c.has_failed.result c.has_failed.ensures.failed c.raised-self-inside.ensures.cases;
