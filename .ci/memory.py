@@ -71,7 +71,7 @@ def calls_of(crate, wanting):
 
 def main():
     root = Path(__file__).resolve().parent.parent
-    crates = [path.parent.parent for path in sorted(root.glob("crates/*/src/lib.rt")) if path.parent.parent.name != "px_tests"]
+    crates = [path.parent.parent for path in sorted(root.glob("crates/*/src/lib.rt")) if path.parent.parent.name not in ("px_leaf_rows", "px_part_tests", "px_tests")]
     wanting = wanting_types([text for crate in crates for text in sources(crate)])
     wanted = {(crate.name, call) for crate in crates for call in calls_of(crate, wanting)}
     table, wrong = {}, 0

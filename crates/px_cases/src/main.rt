@@ -2,14 +2,10 @@
 #![tactic(auto)]
 
 mod cases;
-mod escapes;
-mod faults;
-mod kinds;
-mod leaves;
 mod reports;
 
-use crate::faults::{Fault, Misread};
-use crate::reports::Report;
+use crate::reports::print_report;
+use px_leaf_rows::{Fault, Misread, Report, run as run_rows};
 use std::process::ExitCode;
 use std::rt::{Env, Files};
 use std::thread::Threads;
@@ -39,7 +35,7 @@ fn run_text<R: Threads + Sync + AllocGlobal>(
         return Err(Fault::Form("the file is cut: its last line isn't ended").at(last));
     }
     match stem_and_ending(name) {
-        Some((kind, "tsv")) => leaves::run(rt.alloc(), kind, text, report),
+        Some((kind, "tsv")) => run_rows(rt.alloc(), kind, text, report),
         Some((_, "case")) => cases::run(rt, text, report),
         _ => Err(Fault::Form("neither a .tsv nor a .case file").at(0)),
     }
@@ -59,7 +55,7 @@ fn run_file<R: Files + Print + Threads + Sync + AllocGlobal>(
     };
     let mut report = Report::new(rt.alloc());
     let ran = run_text(rt, name, text.as_slice(), &mut report);
-    report.print(rt, name, ran)
+    print_report(rt, name, &report, ran)
 }
 
 /// Runs the files in turn, and says whether each row of each gave what it wants.

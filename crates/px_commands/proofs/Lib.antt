@@ -3,5 +3,4 @@ pub mod WordLemmas
 pub mod ReadLemmas
 pub mod PassLemmas
 pub mod LoadLemmas
-pub mod ProxyLemmas
 pub mod ExerciseLemmas

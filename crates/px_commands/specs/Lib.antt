@@ -9,4 +9,3 @@ pub mod Loads
 pub mod Passing
 pub mod Exercising
 pub mod Commands
-pub mod Proxies

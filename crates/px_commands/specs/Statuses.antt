@@ -2,8 +2,6 @@
 use Rattle.std.specs.Prelude.{ℕ, Bool, true, false, Result, Ok, Err}
 use Rattle.px_base.specs.declared.faults.FilesFault.{FilesFault}
 use Rattle.px_base.specs.declared.faults.FilesFault.TheVariants as fault
-use Rattle.px_desk.specs.declared.desks.ServeEnd.{ServeEnd}
-use Rattle.px_desk.specs.declared.desks.ServeEnd.TheVariants as serving
 use Rattle.px_serve.specs.declared.ends.SessionEnd.{SessionEnd}
 use Rattle.px_serve.specs.declared.ends.SessionEnd.TheVariants as end
 use Rattle.px_commands.specs.declared.statuses.Status.{Status}
@@ -45,9 +43,3 @@ status_after end.Spent put = status_of_put put
 status_after end.ReadFailed put = status.ReadFailed
 status_after end.WriteFailed put = status.WriteFailed
 status_after end.NoMemory put = status.NoMemory
-
--- the status behind serving
-abbrev pub status_of_serving : ServeEnd → Status
-status_of_serving serving.End = status.Done
-status_of_serving serving.DoorsFailed = status.DoorsFailed
-status_of_serving serving.NoMemory = status.NoMemory

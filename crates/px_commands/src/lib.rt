@@ -8,7 +8,6 @@ mod loads;
 mod origins;
 mod parses;
 mod passes;
-mod proxies;
 mod reports;
 mod sents;
 mod statuses;
@@ -16,7 +15,8 @@ mod texts;
 mod words;
 
 pub use commands::run_tool;
-pub use proxies::{Proxied, run_proxy};
-pub use px_desk::{Parts, ReloadCounts};
+pub use loads::report_load;
+pub use parses::parse_serve;
 pub use reports::report;
 pub use statuses::{Status, USAGE, constants};
+pub use words::{ServeWords, read_serve};

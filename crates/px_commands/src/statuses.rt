@@ -1,9 +1,8 @@
 // How a command ends.
 ghost use Rattle.std.specs.Prelude.{◌≡◌, codes};
-ghost use Rattle.px_commands.specs.Statuses.{code_of, is_wanting, status_after, status_of_put, status_of_serving};
+ghost use Rattle.px_commands.specs.Statuses.{code_of, is_wanting, status_after, status_of_put};
 
 use px_base::FilesFault;
-use px_desk::ServeEnd;
 use px_serve::SessionEnd;
 
 /// How the commands are used, a line for each that is built.
@@ -83,17 +82,6 @@ pub fn is_wanting(end: SessionEnd) -> bool
         SessionEnd::Cut => false,
         SessionEnd::Closed => false,
         SessionEnd::Spent => false,
-    }
-}
-
-/// The status behind serving.
-pub fn status_of_serving(end: ServeEnd) -> Status
-    ensures { result ≡ status_of_serving end }
-{
-    match end {
-        ServeEnd::End => Status::Done,
-        ServeEnd::DoorsFailed => Status::DoorsFailed,
-        ServeEnd::NoMemory => Status::NoMemory,
     }
 }
 

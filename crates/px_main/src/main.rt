@@ -5,8 +5,9 @@ mod help;
 
 use help::asked_text;
 use px_base::{DiskFiles, ReaderSource, SystemClock, WriterSink};
-use px_commands::{Parts, Status, USAGE, report, run_proxy, run_tool};
+use px_commands::{Status, USAGE, report, run_tool};
 use px_doors::{SocketDoors, Times};
+use px_serve_command::{Parts, run_proxy};
 use px_ways::Way;
 use std::process::ExitCode;
 use std::rt::Env;

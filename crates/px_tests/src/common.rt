@@ -24,11 +24,6 @@ pub(crate) fn same_text(rt: &impl Abort, seen: &Text, expected: &str) {
     assert_eq!(rt; seen.as_bytes(), expected.as_bytes());
 }
 
-/// Asserts that something holds, and names it where it doesn't.
-pub(crate) fn holds(rt: &impl Abort, fact: bool, name: &str) {
-    assert!(rt; fact, "{name}");
-}
-
 /// A text of those bytes.
 pub(crate) fn text(rt: &impl Abort, alloc: Global, bytes: &str) -> Text {
     Text::from_bytes(alloc, bytes.as_bytes()).expect(rt, "memory")

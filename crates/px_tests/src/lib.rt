@@ -1,10 +1,6 @@
-//! The tests that aren't rows of data: objects in memory and over the system, threads, sockets, doors and workers.
+//! The tests of sessions and of what stands above that aren't rows of data: pumps, shared links, doors, workers and commands.
 #![tactic(auto)]
 
-#[cfg(test)]
-mod aliases;
-#[cfg(test)]
-mod boards;
 mod command_rows;
 #[cfg(test)]
 mod common;
@@ -12,14 +8,6 @@ mod common;
 mod doors;
 #[cfg(test)]
 mod exercise;
-#[cfg(test)]
-mod generated;
-#[cfg(test)]
-mod memory;
-#[cfg(test)]
-mod pool;
-#[cfg(test)]
-mod publish;
 #[cfg(test)]
 mod pumps;
 #[cfg(test)]
@@ -29,20 +17,8 @@ mod sharing;
 #[cfg(test)]
 mod sides;
 #[cfg(test)]
-mod sockets;
-#[cfg(test)]
-mod socks;
-#[cfg(test)]
-mod streams;
-#[cfg(test)]
-mod texts;
-#[cfg(test)]
 mod threads;
 #[cfg(test)]
-mod times;
-#[cfg(test)]
 mod waiting;
-#[cfg(test)]
-mod ways;
 #[cfg(test)]
 mod workers;

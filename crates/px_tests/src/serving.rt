@@ -5,8 +5,8 @@ ghost use Rattle.px_doors.specs.MemConns.{mem_conn};
 
 use crate::common::{same, same_at};
 use px_base::{Answer, FixedClock, List, Mem, MemDialer, MemFiles, Peer, TapeIn, TapeOut, Text};
-use px_commands::{Parts, Proxied, run_proxy};
 use px_doors::{Conn, MemConn, MemDoors};
+use px_serve_command::{Parts, Proxied, run_proxy};
 use std::alloc::Global;
 use std::sync::Wait;
 use std::test::Fail;

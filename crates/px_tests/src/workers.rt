@@ -9,8 +9,8 @@ use px_base::{
     Clock, DialFault, Dialer, Failed, FixedClock, List, Mem, MemFiles, Peer, Sink, SinkFault,
     Source, TapeIn, TapeOut, Text,
 };
-use px_commands::{Parts, Proxied, ReloadCounts, run_proxy};
 use px_doors::{AcceptFault, Conn, Doors, ListenAddress, Parted};
+use px_serve_command::{Parts, Proxied, ReloadCounts, run_proxy};
 use std::alloc::Global;
 use std::sync::Wait;
 use std::sync::atomic::{AtomicU64, Ordering};

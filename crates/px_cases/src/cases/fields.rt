@@ -3,7 +3,7 @@
 //! `case TITLE` begins a case. Each further line is a field: a key, words, and text behind `|`. A line that begins with white space
 //! and `|` is one more line of the text above it. `again`, right below `case`, stands for the fields of the case before, but for
 //! those whose key the case gives itself. Empty lines and those that begin with `#` say nothing.
-use crate::faults::{Fault, Misread};
+use px_leaf_rows::{Fault, Misread};
 use std::alloc::Global;
 
 /// What a field of a case says.

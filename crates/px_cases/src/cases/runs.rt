@@ -3,13 +3,13 @@ ghost use Rattle.std.specs.Prelude.{◌≡◌, [], IfOk};
 
 use crate::cases::fields::Key;
 use crate::cases::setups::{Device, Failing, NamedFile, Origin, Setup};
-use crate::faults::Fault;
 use px_base::{
     Answer, Content, Dialer, Files, FixedClock, List, MemDialer, MemFiles, Peer, TapeIn, TapeOut,
     Text,
 };
 use px_commands::run_tool;
 use px_config::{Config, load};
+use px_leaf_rows::Fault;
 use px_publish::StepConfig;
 use px_serve::{Session, serve_connection};
 use px_socks::SocksDialer;

@@ -1,7 +1,6 @@
 //! What a case is run on: the words of a command, files, the client's bytes, the origins' answers, and how the objects behave.
 use crate::cases::fields::{Case, Field, Key};
-use crate::escapes::decoded;
-use crate::faults::{Fault, Misread};
+use px_leaf_rows::{Fault, Misread, decoded};
 use std::alloc::Global;
 use std::str::FromStr;
 

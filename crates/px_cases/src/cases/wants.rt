@@ -2,8 +2,7 @@
 use crate::cases::fields::{Case, Field, Key};
 use crate::cases::runs::{Seen, UNTOUCHED};
 use crate::cases::setups::{Setup, number_of, text_bytes};
-use crate::escapes::decoded;
-use crate::faults::{Fault, Misread};
+use px_leaf_rows::{Fault, Misread, decoded};
 use std::alloc::Global;
 
 /// What a run is to show under a key, and the line that says so.

@@ -1,4 +1,0 @@
-use Rattle.px_cases.proofs.kinds.patterns.answer.Given as goal
-
-abbrev pub ghosts-matches_counted : goal.ghosts-matches_counted
-ghosts-matches_counted a = record { name = a.blank.name; parts = a.blank.parts }

@@ -1,0 +1,18 @@
+use Rattle.std.proofs.Common.{◌≡◌, ℕ, true, ◌==◌, List, [], ◌∷◌, ◌++◌, refl, ◌∙◌}
+use Rattle.std.proofs.lemmas.Bool.{or_left, or_right, eq-eqb}
+use Rattle.px_base.specs.declared.dials.Dial.{Dial}
+use Rattle.px_base.specs.declared.dials.DialOutcome.TheVariants as outcome
+use Rattle.px_base.specs.Dials.{is_open, is_open_at}
+use Rattle.px_base.specs.Entries.{merged}
+use Rattle.px_part_tests.proofs.memory.listen_twice.Goals as goal
+
+-- a link that was just dialled is open
+open_last : (host : List ℕ) (port mark : ℕ) (offered : List ℕ) (ds : List Dial) → is_open mark (ds ++ record { host = host; port = port; outcome = outcome.Open mark offered } ∷ []) ≡ true
+open_last host port mark offered [] = or_left (mark == mark) _ (eq-eqb mark mark refl)
+open_last host port mark offered (d ∷ ds) = or_right (is_open_at mark d.outcome) _ (open_last host port mark offered ds)
+
+pub hang_up-requires-clause-open : goal.hang_up-requires-clause-open
+hang_up-requires-clause-open g c =
+    let opened = c.in-Ok.ensures.dials refl in
+    let same_mark = c.read-2.ensures.goes_on.mark_same ∙ c.read.ensures.goes_on.mark_same in
+    λ t. rw same_mark (rw opened (open_last _ 80 c.in-Ok.link.0.mark c.in-Ok.link.0.bytes.items (merged 0 c.in_ok-dialer.dialer.entries.items c.in_ok-dialer.dialer.links.items)))

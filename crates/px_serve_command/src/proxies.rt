@@ -1,0 +1,316 @@
+// The command `serve`: connections of doors by a configuration that is loaded again with each.
+ghost use Rattle.std.specs.Prelude.{◌≡◌, ◌∷◌, ◌<◌, ◌≤◌, [], All, IfErr, IfOk, IsTrue, Some, map, string_bytes, vec_len};
+ghost use Rattle.px_base.specs.Contents.{FilesGoOn};
+ghost use Rattle.px_config.specs.Gathering.{OnlyReads, ReadsOneOf, gathered, names_read};
+ghost use Rattle.px_config.specs.Loading.{IsLoadFault, LoadCauses};
+ghost use Rattle.px_config.specs.Spelling.{spelled};
+ghost use Rattle.px_publish.specs.Published.{pair_of, published, reader_pair};
+ghost use Rattle.px_desk.specs.Desks.{BeginsWith, StandsAfter};
+ghost use Rattle.px_desk.specs.Facts.{Begun, Closes};
+ghost use Rattle.px_desk.specs.Sets.{Spells};
+ghost use Rattle.px_desk.specs.Turns.{none};
+ghost use Rattle.px_serve_command.specs.Proxies.{ProxyGoesOn, RunsProxy, RunsServe, ServesBy, ServesFirst, ServesLoaded, ServesPublished, ServesSharing};
+
+use crate::endings::status_of_serving;
+use px_base::{Failed, Files, Mem, Sink};
+use px_commands::{ServeWords, Status, USAGE, parse_serve, read_serve, report, report_load};
+use px_config::{Config, FileSet, LoadFault, gather, spell};
+use px_desk::{Desk, Parts, ReloadCounts};
+use px_doors::{Doors, ListenAddress};
+use px_proxy::serve_all;
+use px_publish::{ConfigReader, Publisher, publish_pair};
+use px_shared::{Opening, SharedDoors};
+use std::alloc::Global;
+use std::marker::Brand;
+use std::sync::{Arc, Wait};
+use std::thread::Threads;
+
+/// How a proxy ended: the exit status, what it was run with, and how many connections were handed out with each result of loading
+/// the configuration again.
+#[derive(Drop)]
+pub struct Proxied<F, A, E> {
+    pub status: u8,
+    pub parts: Parts<F, A, E>,
+    pub counts: ReloadCounts,
+}
+
+/// The same before the status is a number.
+struct Ended<F, A, E> {
+    status: Status,
+    parts: Parts<F, A, E>,
+    counts: ReloadCounts,
+}
+
+/// No connection was handed out.
+fn unserved<F, A, E>(status: Status, parts: Parts<F, A, E>) -> Ended<F, A, E>
+    ensures { result ≡ record { status = status; parts = parts; counts = none } }
+{
+    Ended {
+        status,
+        parts,
+        counts: ReloadCounts::NONE,
+    }
+}
+
+/// Runs `serve` by its words, and gives the exit status, the parts and the counts: 0 where no connection was left or CONNECTIONS
+/// were served, 1 where the configuration doesn't load at first, 2 where the words aren't of `serve`, 3 where a file couldn't be
+/// read before the first configuration was there, 4 after a fault of the error output, 5 where memory was wanting, and 7 where the
+/// doors failed. It may wait.
+pub fn run_proxy<R: Threads + Wait + Sync, F: Files, A: Doors, E: Sink>(
+    alloc: Global,
+    rt: &R,
+    words: &[String],
+    parts: Parts<F, A, E>,
+) -> Proxied<F, A, E>
+    requires begun { Begun (A.state parts.doors) }
+    ensures runs { RunsProxy (record { ins = A.Dial.In.state; outs = A.Dial.Out.state }) (map string_bytes words.now)
+        (record { files = F.state parts.files; doors = A.state parts.doors; errors = E.state parts.err })
+        (record { files = F.state result.parts.files; doors = A.state result.parts.doors; errors = E.state result.parts.err }) result.counts result.status }
+{
+    let Ended {
+        status,
+        parts,
+        counts,
+    } = serve_by(alloc, rt, words, parts);
+    Proxied {
+        status: status.code(),
+        parts,
+        counts,
+    }
+}
+
+fn serve_by<R: Threads + Wait + Sync, F: Files, A: Doors, E: Sink>(
+    alloc: Global,
+    rt: &R,
+    words: &[String],
+    parts: Parts<F, A, E>,
+) -> Ended<F, A, E>
+    requires begun { Begun (A.state parts.doors) }
+    ensures serves { ServesBy (record { ins = A.Dial.In.state; outs = A.Dial.Out.state }) (map string_bytes words.now)
+        (record { files = F.state parts.files; doors = A.state parts.doors; errors = E.state parts.err })
+        (record { files = F.state result.parts.files; doors = A.state result.parts.doors; errors = E.state result.parts.err }) result.counts result.status }
+    ensures goes_on { ProxyGoesOn
+        (record { files = F.state parts.files; doors = A.state parts.doors; errors = E.state parts.err })
+        (record { files = F.state result.parts.files; doors = A.state result.parts.doors; errors = E.state result.parts.err }) }
+{
+    match read_serve(words) {
+        Some(serve) => match parse_serve(alloc, words, serve) {
+            Ok(serve) => run_serve(alloc, rt, serve, parts),
+            Err(Mem) => unserved(Status::NoMemory, parts),
+        },
+        None => {
+            let Parts {
+                files,
+                doors,
+                mut err,
+            } = parts;
+            let status = report(&mut err, USAGE, Status::Usage);
+            unserved(status, Parts { files, doors, err })
+        }
+    }
+}
+
+/// Gathers the files of CONFIG, and gives them with the configuration that they spell.
+fn load_set<F: Files>(
+    alloc: Global,
+    files: &mut F,
+    main: &str,
+) -> Result<(FileSet, Config), LoadFault>
+    ensures set { IsTrue (F.state files.old).tells → IfOk result (λ l. l.0 ≡ gathered (F.state files.old).contents main.now) }
+    ensures spells { IfOk result (λ l. Spells l.0 l.1) }
+    ensures refused { IsTrue (F.state files.old).tells → IfErr result (IsLoadFault (spelled (gathered (F.state files.old).contents main.now))) }
+    ensures named { IsTrue (F.state files.old).tells → IfErr result (ReadsOneOf (names_read (F.state files.old).contents main.now)) }
+    ensures cause { LoadCauses (F.state files.old) (F.state files.new) result }
+    ensures only_reads { OnlyReads (F.state files.old) (F.state files.new) }
+    ensures go_on { FilesGoOn (F.state files.old) (F.state files.new) }
+{
+    let set = gather(alloc, files, main)?;
+    let config = spell(alloc, &set)?;
+    Ok((set, config))
+}
+
+/// Loads CONFIG, listens at its address, and serves.
+fn run_serve<R: Threads + Wait + Sync, F: Files, A: Doors, E: Sink>(
+    alloc: Global,
+    rt: &R,
+    serve: ServeWords<'_>,
+    parts: Parts<F, A, E>,
+) -> Ended<F, A, E>
+    requires begun { Begun (A.state parts.doors) }
+    requires some { 0 < serve.workers }
+    requires at_most { serve.workers ≤ 64 }
+    ensures runs { RunsServe (record { ins = A.Dial.In.state; outs = A.Dial.Out.state }) serve.entry.config.now serve.entry.most
+        (record { files = F.state parts.files; doors = A.state parts.doors; errors = E.state parts.err })
+        (record { files = F.state result.parts.files; doors = A.state result.parts.doors; errors = E.state result.parts.err }) result.counts result.status }
+    ensures goes_on { ProxyGoesOn
+        (record { files = F.state parts.files; doors = A.state parts.doors; errors = E.state parts.err })
+        (record { files = F.state result.parts.files; doors = A.state result.parts.doors; errors = E.state result.parts.err }) }
+{
+    let Parts {
+        mut files,
+        doors,
+        mut err,
+    } = parts;
+    match load_set(alloc, &mut files, serve.config) {
+        Ok((loaded, first)) => {
+            let parts = Parts { files, doors, err };
+            serve_first(alloc, rt, serve, loaded, first, parts)
+        }
+        Err(fault) => {
+            let status = report_load(alloc, &mut err, &fault);
+            unserved(status, Parts { files, doors, err })
+        }
+    }
+}
+
+/// Serves with a configuration that was loaded. Where it says so, the requests of a connection share links to an origin.
+fn serve_first<R: Threads + Wait + Sync, F: Files, A: Doors, E: Sink>(
+    alloc: Global,
+    rt: &R,
+    serve: ServeWords<'_>,
+    loaded: FileSet,
+    first: Config,
+    parts: Parts<F, A, E>,
+) -> Ended<F, A, E>
+    requires begun { Begun (A.state parts.doors) }
+    requires spells { Spells loaded first }
+    requires some { 0 < serve.workers }
+    requires at_most { serve.workers ≤ 64 }
+    ensures serves { ServesFirst (record { ins = A.Dial.In.state; outs = A.Dial.Out.state }) serve.entry.config.now serve.entry.most loaded first
+        (record { files = F.state parts.files; doors = A.state parts.doors; errors = E.state parts.err })
+        (record { files = F.state result.parts.files; doors = A.state result.parts.doors; errors = E.state result.parts.err }) result.counts result.status }
+    ensures goes_on { ProxyGoesOn
+        (record { files = F.state parts.files; doors = A.state parts.doors; errors = E.state parts.err })
+        (record { files = F.state result.parts.files; doors = A.state result.parts.doors; errors = E.state result.parts.err }) }
+{
+    if first.settings.sharing {
+        serve_sharing::<Brand, R, F, A, E>(alloc, rt, serve, loaded, first, parts)
+    } else {
+        serve_loaded(alloc, rt, serve, loaded, first, parts)
+    }
+}
+
+/// Serves over doors that give each connection a pool of links, and takes them apart again.
+fn serve_sharing<N: Opening + Send, R: Threads + Wait + Sync, F: Files, A: Doors, E: Sink>(
+    alloc: Global,
+    rt: &R,
+    serve: ServeWords<'_>,
+    loaded: FileSet,
+    first: Config,
+    parts: Parts<F, A, E>,
+) -> Ended<F, A, E>
+    requires begun { Begun (A.state parts.doors) }
+    requires opening { A.state parts.doors ≡ N.doors }
+    requires spells { Spells loaded first }
+    requires some { 0 < serve.workers }
+    requires at_most { serve.workers ≤ 64 }
+    ensures serves { ServesSharing (record { ins = A.Dial.In.state; outs = A.Dial.Out.state }) serve.entry.config.now serve.entry.most loaded first
+        (record { files = F.state parts.files; doors = A.state parts.doors; errors = E.state parts.err })
+        (record { files = F.state result.parts.files; doors = A.state result.parts.doors; errors = E.state result.parts.err }) result.counts result.status }
+    ensures goes_on { ProxyGoesOn
+        (record { files = F.state parts.files; doors = A.state parts.doors; errors = E.state parts.err })
+        (record { files = F.state result.parts.files; doors = A.state result.parts.doors; errors = E.state result.parts.err }) }
+{
+    let Parts { files, doors, err } = parts;
+    let doors = SharedDoors::<A, N>::new(alloc, doors);
+    let parts = Parts { files, doors, err };
+    let Ended {
+        status,
+        parts,
+        counts,
+    } = serve_loaded(alloc, rt, serve, loaded, first, parts);
+    let Parts { files, doors, err } = parts;
+    let doors = doors.into_inner();
+    Ended {
+        status,
+        parts: Parts { files, doors, err },
+        counts,
+    }
+}
+
+/// Publishes the first configuration, listens at its address, and serves.
+fn serve_loaded<R: Threads + Wait + Sync, F: Files, A: Doors, E: Sink>(
+    alloc: Global,
+    rt: &R,
+    serve: ServeWords<'_>,
+    loaded: FileSet,
+    first: Config,
+    parts: Parts<F, A, E>,
+) -> Ended<F, A, E>
+    requires begun { Begun (A.state parts.doors) }
+    requires spells { Spells loaded first }
+    requires some { 0 < serve.workers }
+    requires at_most { serve.workers ≤ 64 }
+    ensures serves { ServesLoaded serve.entry.config.now serve.entry.most loaded first
+        (record { files = F.state parts.files; doors = A.state parts.doors; errors = E.state parts.err })
+        (record { files = F.state result.parts.files; doors = A.state result.parts.doors; errors = E.state result.parts.err }) result.counts result.status }
+    ensures goes_on { ProxyGoesOn
+        (record { files = F.state parts.files; doors = A.state parts.doors; errors = E.state parts.err })
+        (record { files = F.state result.parts.files; doors = A.state result.parts.doors; errors = E.state result.parts.err }) }
+{
+    let settings = &first.settings;
+    let host = settings.listen_host.as_bytes();
+    let Ok(address) = ListenAddress::copied(alloc, host, settings.listen_port) else {
+        return unserved(Status::NoMemory, parts);
+    };
+    let Ok(first) = Arc::new(alloc, first) else {
+        return unserved(Status::NoMemory, parts);
+    };
+    let Ok((publisher, readers)) = publish_pair(rt, alloc, first, serve.workers) else {
+        return unserved(Status::NoMemory, parts);
+    };
+    let Parts {
+        files,
+        mut doors,
+        err,
+    } = parts;
+    match doors.listen(address) {
+        Ok(()) => {
+            let parts = Parts { files, doors, err };
+            serve_published(alloc, rt, serve, loaded, publisher, readers, parts)
+        }
+        Err(Failed) => {
+            drop(publisher.end(rt));
+            unserved(Status::DoorsFailed, Parts { files, doors, err })
+        }
+    }
+}
+
+/// Serves at doors that listen, with a published configuration.
+fn serve_published<R: Threads + Wait + Sync, F: Files, A: Doors, E: Sink>(
+    alloc: Global,
+    rt: &R,
+    serve: ServeWords<'_>,
+    loaded: FileSet,
+    publisher: Publisher<Config>,
+    readers: Vec<ConfigReader<Config>>,
+    parts: Parts<F, A, E>,
+) -> Ended<F, A, E>
+    requires begun { Begun (A.state parts.doors) }
+    requires first { BeginsWith loaded (published publisher) }
+    requires some { 0 < vec_len readers }
+    requires pair { All (λ r. reader_pair r ≡ pair_of publisher) readers.items }
+    ensures serves { ServesPublished
+        (record { files = F.state parts.files; doors = A.state parts.doors; err = E.state parts.err; main = serve.entry.config.now; loaded = loaded; pair = pair_of publisher; most = serve.entry.most })
+        (record { files = F.state result.parts.files; doors = A.state result.parts.doors; errors = E.state result.parts.err }) result.counts result.status }
+{
+    match Desk::new(
+        rt,
+        alloc,
+        parts,
+        serve.config,
+        loaded,
+        publisher,
+        serve.most,
+    ) {
+        Ok(desk) => {
+            let served = serve_all(rt, alloc, desk, readers);
+            Ended {
+                status: status_of_serving(served.end),
+                parts: served.parts,
+                counts: served.counts,
+            }
+        }
+        Err(refused) => unserved(Status::NoMemory, refused.parts),
+    }
+}
