@@ -1,8 +1,8 @@
 //! Words of actions, and sets.
 use crate::faults::Fault;
-use crate::kinds::made::{apply_words, push_item, push_lines, said, set_of};
+use crate::kinds::made::{apply_words, push_item, push_set, said, set_of};
 use crate::leaves::Row;
-use px_actions::{Change, Update};
+use px_actions::{ActionSet, Change, Update};
 use px_base::Text;
 use std::alloc::Global;
 
@@ -38,14 +38,24 @@ pub(crate) fn words(row: &Row<'_>) -> Result<Text, Fault> {
 /// The lines of a set to which words are applied in turn, and behind `then` those of its copy to which further ones are.
 pub(crate) fn sets(row: &Row<'_>) -> Result<Text, Fault> {
     let set = set_of(row)?;
-    let mut copy = set.copy()?;
-    let further = row.items("further")?;
-    apply_words(row.alloc, &mut copy, further.as_slice())?;
     let mut out = Text::new(row.alloc);
-    push_lines(&mut out, set.print()?.as_bytes())?;
+    push_set(&mut out, &set)?;
+    let further = row.items("further")?;
     if !further.is_empty() {
         push_item(&mut out, b"then")?;
-        push_lines(&mut out, copy.print()?.as_bytes())?;
+        push_changed(row.alloc, &mut out, &set, further.as_slice())?;
     }
     Ok(out)
+}
+
+/// Adds the lines of a set's copy to which words are applied.
+fn push_changed(
+    alloc: Global,
+    out: &mut Text,
+    set: &ActionSet,
+    words: &[Text],
+) -> Result<(), Fault> {
+    let mut copy = set.copy()?;
+    apply_words(alloc, &mut copy, words)?;
+    push_set(out, &copy)
 }

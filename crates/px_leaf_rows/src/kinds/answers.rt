@@ -13,8 +13,9 @@ use std::alloc::Global;
 
 /// The status line and the fields of an answer with that head, behind the actions of the row's words at its moment.
 fn changed(row: &Row<'_>, filters: &Filters, mut head: ResponseHead) -> Result<ServerOut, Fault> {
-    let (set, vars) = (set_of(row)?, vars_of(row.alloc, b"")?);
     let moment = row.number("moment")?;
+    let set = set_of(row)?;
+    let vars = vars_of(row.alloc, b"")?;
     let mut warm = filters.warm(row.alloc)?;
     let out = server_headers(
         row.alloc, &mut head, &set, filters, &mut warm, &vars, moment,
@@ -66,10 +67,17 @@ fn terms(row: &Row<'_>) -> Result<Terms, Fault> {
 
 /// The head of an answer, its body's rule and what the request says of it, as they are framed.
 fn framed(row: &Row<'_>, files: &Filters) -> Result<Framed, Fault> {
-    let head = ResponseHead::read(row.alloc, head_of(row)?.as_bytes())?;
-    let rule = response_body(&head, row.word("method")?.as_bytes())?;
-    let lines = lines(row.alloc, &head)?;
-    Ok(BodyPlan::new(row.alloc, files, &head, rule, terms(row)?)?.behind(lines))
+    let block = head_of(row)?;
+    let head = ResponseHead::read(row.alloc, block.as_bytes())?;
+    let plan = plan(row, files, &head)?;
+    Ok(plan.behind(lines(row.alloc, &head)?))
+}
+
+/// What is to become of the body of an answer with that head.
+fn plan(row: &Row<'_>, files: &Filters, head: &ResponseHead) -> Result<BodyPlan, Fault> {
+    let rule = response_body(head, row.word("method")?.as_bytes())?;
+    let terms = terms(row)?;
+    Ok(BodyPlan::new(row.alloc, files, head, rule, terms)?)
 }
 
 /// Adds what is returned of an answer whose body comes in pieces.
@@ -79,8 +87,9 @@ fn pass(
     pieces: &[&[u8]],
     out: &mut Text,
 ) -> Result<Option<Outcome>, Fault> {
+    let framed = framed(row, files)?;
+    let vars = vars_of(row.alloc, b"")?;
     let mut warm = files.warm(row.alloc)?;
-    let (framed, vars) = (framed(row, files)?, vars_of(row.alloc, b"")?);
     let mut passage = Passage::new(row.alloc, &mut warm, vars, framed, out)?;
     for piece in pieces {
         passage.feed(&mut warm, piece, out)?;

@@ -103,11 +103,21 @@ pub(crate) fn bodies(row: &Row<'_>) -> Result<Text, Fault> {
     let ends = row.is("ends")?;
     let whole = read(row.alloc, rule, &[bytes.as_slice()], ends)?;
     for cut in Cut::all(row.alloc, bytes.len())?.iter() {
-        let pieces = cut.pieces(row.alloc, bytes.as_slice())?;
-        let got = read(row.alloc, rule, pieces.as_slice(), ends)?;
+        let got = read_cut(row.alloc, rule, *cut, bytes.as_slice(), ends)?;
         if got.as_bytes() != whole.as_bytes() {
             return cut.said(row.alloc, &got);
         }
     }
     Ok(whole)
+}
+
+fn read_cut(
+    alloc: Global,
+    rule: BodyRule,
+    cut: Cut,
+    bytes: &[u8],
+    ends: bool,
+) -> Result<Text, Fault> {
+    let pieces = cut.pieces(alloc, bytes)?;
+    read(alloc, rule, pieces.as_slice(), ends)
 }

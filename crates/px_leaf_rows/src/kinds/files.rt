@@ -65,20 +65,22 @@ pub(crate) fn filters(row: &Row<'_>) -> Result<Text, Fault> {
     let file = filter_file_of(row)?;
     let mut out = Text::new(row.alloc);
     for named in file.filters.as_slice() {
-        let kind = named.kind;
-        push_item(
-            &mut out,
-            format!(in row.alloc; "{} {kind:?} ", named.line)?.as_bytes(),
-        )?;
+        let (line, kind) = (named.line, named.kind);
+        let told = format!(in row.alloc; "{line} {kind:?} ")?;
+        push_item(&mut out, told.as_bytes())?;
         out.push_all(named.name.as_bytes())?;
     }
-    for line in file.skipped.as_slice() {
-        push_item(
-            &mut out,
-            format!(in row.alloc; "{line} left out")?.as_bytes(),
-        )?;
-    }
+    push_skipped(row.alloc, &mut out, file.skipped.as_slice())?;
     Ok(out)
+}
+
+/// Adds the lines of the jobs that are left out.
+fn push_skipped(alloc: Global, out: &mut Text, skipped: &[u32]) -> Result<(), Fault> {
+    for line in skipped {
+        let told = format!(in alloc; "{line} left out")?;
+        push_item(out, told.as_bytes())?;
+    }
+    Ok(())
 }
 
 /// The hits of jobs on a text, and what they make of it.
@@ -92,22 +94,36 @@ pub(crate) fn jobs(row: &Row<'_>) -> Result<Text, Fault> {
 
 /// What a filter makes of a text, if each way to run it gives the same: afresh, or kept and run twice.
 fn run(row: &Row<'_>, filter: &Filter) -> Result<Text, Fault> {
-    let vars = vars_of(row.alloc, row.bytes("host")?.as_slice())?;
+    let host = row.bytes("host")?;
+    let vars = vars_of(row.alloc, host.as_slice())?;
     let text = row.bytes("text")?;
-    let afresh = filter.run(row.alloc, text.as_slice(), &vars)?;
-    let mut kept = filter.keep(row.alloc)?;
-    for _ in 0..2 {
-        let again = kept.run(row.alloc, text.as_slice(), &vars)?;
-        if !is_same(&again, &afresh) {
-            return said(row.alloc, "a kept filter gives something else");
-        }
+    run_on(row.alloc, filter, text.as_slice(), &vars)
+}
+
+fn run_on(alloc: Global, filter: &Filter, text: &[u8], vars: &Vars) -> Result<Text, Fault> {
+    let afresh = filter.run(alloc, text, vars)?;
+    if !gives_again(alloc, filter, text, vars, &afresh)? {
+        return said(alloc, "a kept filter gives something else");
     }
-    let mut out = said(
-        row.alloc,
-        format!(in row.alloc; "{} ", afresh.hits)?.as_str(),
-    )?;
+    let hits = afresh.hits;
+    let told = format!(in alloc; "{hits} ")?;
+    let mut out = said(alloc, told.as_str())?;
     out.push_all(afresh.text.as_bytes())?;
     Ok(out)
+}
+
+/// Whether a filter that is kept gives the same twice.
+fn gives_again(
+    alloc: Global,
+    filter: &Filter,
+    text: &[u8],
+    vars: &Vars,
+    afresh: &Outcome,
+) -> Result<bool, Fault> {
+    let mut kept = filter.keep(alloc)?;
+    let first = kept.run(alloc, text, vars)?;
+    let second = kept.run(alloc, text, vars)?;
+    Ok(is_same(&first, afresh) && is_same(&second, afresh))
 }
 
 fn is_same(one: &Outcome, other: &Outcome) -> bool {

@@ -89,6 +89,12 @@ pub(crate) fn set_of(row: &Row<'_>) -> Result<ActionSet, Fault> {
     Ok(set)
 }
 
+/// Adds the lines of a set, each behind what parts items.
+pub(crate) fn push_set(out: &mut Text, set: &ActionSet) -> Result<(), Fault> {
+    let lines = set.print()?;
+    push_lines(out, lines.as_bytes())
+}
+
 /// The actions file of some bytes.
 pub(crate) fn actions_of(alloc: Global, file: &[u8]) -> Result<ActionFile, Fault> {
     let lines = lines_of(alloc, file)?;

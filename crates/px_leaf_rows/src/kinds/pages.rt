@@ -2,7 +2,7 @@
 use crate::faults::Fault;
 use crate::kinds::made::said;
 use crate::leaves::Row;
-use px_base::Text;
+use px_base::{List, Text};
 use px_templates::{Local, PAGES, Page, Symbols, Template, built_in, local_reply};
 use std::alloc::Global;
 
@@ -21,12 +21,18 @@ fn symbols(alloc: Global, host: &[u8], reason: &[u8], error: &[u8]) -> Result<Sy
 
 /// The page of a template, beside which the template `head` stands.
 pub(crate) fn templates(row: &Row<'_>) -> Result<Text, Fault> {
-    let head = [(said(row.alloc, "head")?, row.text("head")?)];
-    let template = Template::read(row.alloc, row.bytes("template")?.as_slice(), &head)?;
+    let template = template_of(row)?;
     let host = row.bytes("host")?;
     let reason = row.bytes("reason")?;
     let symbols = symbols(row.alloc, host.as_slice(), reason.as_slice(), b"")?;
     Ok(template.render(row.alloc, &symbols)?)
+}
+
+fn template_of(row: &Row<'_>) -> Result<Template, Fault> {
+    let text = row.bytes("template")?;
+    let mut beside = List::new(row.alloc);
+    beside.add((said(row.alloc, "head")?, row.text("head")?))?;
+    Ok(Template::read(row.alloc, text.as_slice(), beside.as_slice())?)
 }
 
 /// A built-in page, with the reason `no` and the error `TwoLengths`.

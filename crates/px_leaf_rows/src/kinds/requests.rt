@@ -1,7 +1,7 @@
 //! Requests behind header actions and filters, and tags.
 use crate::faults::Fault;
 use crate::kinds::made::{
-    filters_of, head_of, push_fields, push_item, push_lines, said, sections_of, set_of, side_of,
+    filters_of, head_of, push_fields, push_item, push_set, said, sections_of, set_of, side_of,
     vars_of,
 };
 use crate::leaves::Row;
@@ -10,20 +10,32 @@ use px_base::{List, Peer, Text};
 use px_filter_files::Filters;
 use px_head::RequestHead;
 use px_headers::{ClientOut, client_headers};
+use px_merge::Sections;
 use px_patterns::Url;
+use px_subst::Vars;
 use px_taggers::tag_headers;
+use std::alloc::Global;
 
 /// Where a request with that head goes and its fields, behind the actions of the row's words. The client's address is 127.0.0.1.
 fn sent(row: &Row<'_>, filters: &Filters, mut head: RequestHead) -> Result<ClientOut, Fault> {
-    let url = Url::read(row.alloc, head.target.as_bytes())?;
-    let (set, vars) = (set_of(row)?, vars_of(row.alloc, b"")?);
+    let set = set_of(row)?;
+    let vars = vars_of(row.alloc, b"")?;
+    sent_by(row.alloc, filters, &mut head, &set, &vars)
+}
+
+fn sent_by(
+    alloc: Global,
+    filters: &Filters,
+    head: &mut RequestHead,
+    set: &ActionSet,
+    vars: &Vars,
+) -> Result<ClientOut, Fault> {
     let peer = Peer {
-        address: said(row.alloc, "127.0.0.1")?,
+        address: said(alloc, "127.0.0.1")?,
     };
-    let mut warm = filters.warm(row.alloc)?;
-    let out = client_headers(
-        row.alloc, &mut head, url, &set, filters, &mut warm, &vars, &peer,
-    )?;
+    let url = Url::read(alloc, head.target.as_bytes())?;
+    let mut warm = filters.warm(alloc)?;
+    let out = client_headers(alloc, head, url, set, filters, &mut warm, vars, &peer)?;
     Ok(out)
 }
 
@@ -38,13 +50,25 @@ pub(crate) fn requests(row: &Row<'_>) -> Result<Text, Fault> {
 
 /// The tags that the lines of a message make, which apply their sections to the set.
 fn tags(row: &Row<'_>, set: &mut ActionSet) -> Result<List<Text>, Fault> {
-    let (sections, filters) = (sections_of(row)?, filters_of(row)?);
-    let (lines, side, vars) = (row.items("lines")?, side_of(row)?, vars_of(row.alloc, b"")?);
+    let sections = sections_of(row)?;
+    let filters = filters_of(row)?;
+    tags_by(row, &sections, &filters, set)
+}
+
+fn tags_by(
+    row: &Row<'_>,
+    sections: &Sections,
+    filters: &Filters,
+    set: &mut ActionSet,
+) -> Result<List<Text>, Fault> {
+    let side = side_of(row)?;
+    let lines = row.items("lines")?;
+    let vars = vars_of(row.alloc, b"")?;
     let mut tags = List::new(row.alloc);
     tag_headers(
         row.alloc,
-        &sections,
-        &filters,
+        sections,
+        filters,
         set,
         &mut tags,
         lines.as_slice(),
@@ -63,6 +87,6 @@ pub(crate) fn taggers(row: &Row<'_>) -> Result<Text, Fault> {
         push_item(&mut out, tag.as_bytes())?;
     }
     push_item(&mut out, b"set")?;
-    push_lines(&mut out, set.print()?.as_bytes())?;
+    push_set(&mut out, &set)?;
     Ok(out)
 }
