@@ -57,6 +57,17 @@ pub struct Seen {
 }
 
 impl Seen {
+    fn new(alloc: Global) -> Seen {
+        Seen {
+            shown: Vec::new(alloc),
+        }
+    }
+
+    /// Shows a text under a key.
+    fn show(&mut self, key: Key<'static>, text: Text) -> Result<(), Fault> {
+        Ok(self.shown.push((key, text))?)
+    }
+
     /// What it shows under a key.
     pub(crate) fn shown(&self, key: Key<'_>) -> Option<&[u8]> {
         for (shown, text) in &self.shown {
@@ -191,17 +202,62 @@ impl Run<'_, '_> {
 
     /// The files of a configuration.
     fn files(&self, named: &[NamedFile<'_>], fails: &[u64]) -> Result<MemFiles, Fault> {
-        let mut state = List::new(self.alloc);
+        let mut states = List::new(self.alloc);
+        states.add(self.named_files(named)?)?;
+        Ok(MemFiles::new(self.alloc, states, fails)?)
+    }
+
+    fn named_files(&self, named: &[NamedFile<'_>]) -> Result<List<(Text, Text)>, Fault> {
+        let mut files = List::new(self.alloc);
         for file in named {
-            let name = self.text(file.name.as_bytes())?;
-            state.add((name, self.text(file.bytes.as_slice())?))?;
+            self.add_file(&mut files, file.name, file.bytes.as_slice())?;
         }
         if self.setup.has_origins {
-            state.add((self.text(b"o")?, self.origin_file()?))?;
+            let origins = self.origin_file()?;
+            self.add_file(&mut files, "o", origins.as_bytes())?;
         }
-        let mut states = List::new(self.alloc);
-        states.add(state)?;
-        Ok(MemFiles::new(self.alloc, states, fails)?)
+        Ok(files)
+    }
+
+    fn add_file(
+        &self,
+        files: &mut List<(Text, Text)>,
+        name: &str,
+        bytes: &[u8],
+    ) -> Result<(), Fault> {
+        let name = self.text(name.as_bytes())?;
+        let bytes = self.text(bytes)?;
+        Ok(files.add((name, bytes))?)
+    }
+
+    /// The streams and the clock of a command.
+    fn streams(&self) -> Result<Streams, Fault> {
+        let input = self.input()?;
+        let out = self.output(Device::ClientWrite)?;
+        let err = self.output(Device::ErrorWrite)?;
+        let clock = self.clock()?;
+        Ok(Streams {
+            input,
+            out,
+            err,
+            clock,
+        })
+    }
+
+    /// The client of a session.
+    fn client(&self) -> Result<Client, Fault> {
+        let input = self.input()?;
+        let out = self.output(Device::ClientWrite)?;
+        let tags = self.tags()?;
+        let peer = Peer {
+            address: self.text(b"127.0.0.1")?,
+        };
+        Ok(Client {
+            input,
+            out,
+            tags,
+            peer,
+        })
     }
 
     /// The words of the command.
@@ -251,6 +307,15 @@ fn sent_file(setup: &Setup<'_>, files: &mut MemFiles) -> Option<Text> {
     }
 }
 
+/// The streams and the clock of a command.
+#[derive(Drop)]
+struct Streams {
+    input: TapeIn,
+    out: TapeOut,
+    err: TapeOut,
+    clock: FixedClock,
+}
+
 /// Runs the command, the directions of a tunnel in turn.
 pub(crate) fn run_command<R: Threads + Sync>(
     _rt: &R,
@@ -259,35 +324,60 @@ pub(crate) fn run_command<R: Threads + Sync>(
 ) -> Result<Seen, Fault> {
     let alloc = setup.alloc;
     let run = Run { alloc, setup, plan };
-    let words = run.words()?;
     let Some(named) = setup.states.first() else {
         return Err(Fault::Form("a command has files"));
     };
     let fails = run.fails(Device::Files, 0)?;
     let mut files = run.files(named.as_slice(), fails.as_slice())?;
-    let mut input = run.input()?;
-    let mut out = run.output(Device::ClientWrite)?;
-    let mut err = run.output(Device::ErrorWrite)?;
-    let mut clock = run.clock()?;
-    let way: Way<'_, R> = Way::InTurn;
-    let status = run_tool(
-        alloc, &way, &words, &mut files, &mut input, &mut out, &mut err, &mut clock,
-    );
+    let mut streams = run.streams()?;
+    let status = run_over::<R>(&run, &mut files, &mut streams)?;
     let sent = match sent_file(setup, &mut files) {
         Some(sent) => sent,
         None => run.text(UNTOUCHED)?,
     };
-    Ok(Seen {
-        shown: vec![in alloc;
-            (Key::Out, out.into_taken()),
-            (Key::Err, err.into_taken()),
-            (
-                Key::Status,
-                run.text(format!(in alloc; "{status}")?.as_bytes())?
-            ),
-            (Key::Sent, sent),
-        ]?,
-    })
+    command_seen(&run, status, streams, sent)
+}
+
+/// Runs the command over files and streams.
+fn run_over<R: Threads + Sync>(
+    run: &Run<'_, '_>,
+    files: &mut MemFiles,
+    streams: &mut Streams,
+) -> Result<u8, Fault> {
+    let words = run.words()?;
+    let way: Way<'_, R> = Way::InTurn;
+    Ok(run_tool(
+        run.alloc,
+        &way,
+        &words,
+        files,
+        &mut streams.input,
+        &mut streams.out,
+        &mut streams.err,
+        &mut streams.clock,
+    ))
+}
+
+/// What is seen behind a command.
+fn command_seen(
+    run: &Run<'_, '_>,
+    status: u8,
+    streams: Streams,
+    sent: Text,
+) -> Result<Seen, Fault> {
+    let Streams {
+        input: _,
+        out,
+        err,
+        clock: _,
+    } = streams;
+    let mut seen = Seen::new(run.alloc);
+    seen.show(Key::Out, out.into_taken())?;
+    seen.show(Key::Err, err.into_taken())?;
+    seen.show(Key::Sent, sent)?;
+    let status = format!(in run.alloc; "{status}")?;
+    seen.show(Key::Status, run.text(status.as_bytes())?)?;
+    Ok(seen)
 }
 
 /// The configurations of the files of a case.
@@ -317,6 +407,15 @@ fn sent_over(alloc: Global, dialer: &MemDialer) -> Result<Text, Fault> {
     Ok(sent)
 }
 
+/// The client of a session by itself.
+#[derive(Drop)]
+struct Client {
+    input: TapeIn,
+    out: TapeOut,
+    tags: Vec<Text>,
+    peer: Peer,
+}
+
 /// Runs the session by itself, both directions of a tunnel at once.
 pub(crate) fn run_session<R: Threads + Sync>(
     rt: &R,
@@ -326,47 +425,77 @@ pub(crate) fn run_session<R: Threads + Sync>(
 ) -> Result<Seen, Fault> {
     let alloc = setup.alloc;
     let run = Run { alloc, setup, plan };
-    let mut configs = run.configs(configs)?;
-    let mut input = run.input()?;
-    let mut out = run.output(Device::ClientWrite)?;
+    let mut client = run.client()?;
     let mut dialer = SocksDialer::new(alloc, run.dialer()?);
-    let mut clock = run.clock()?;
-    let tags = run.tags()?;
-    let peer = Peer {
-        address: run.text(b"127.0.0.1")?,
-    };
-    let session = serve_connection(
-        alloc,
-        &Way::AtOnce(rt),
-        &mut configs,
-        &mut input,
-        &mut out,
-        &mut dialer,
-        &mut clock,
-        &peer,
-        tags.as_slice(),
-    );
-    let dialer = dialer.into_inner();
-    let (end, notes) = told_session(alloc, &session)?;
-    Ok(Seen {
-        shown: vec![in alloc;
-            (Key::Out, out.into_taken()),
-            (Key::Sent, sent_over(alloc, &dialer)?),
-            (Key::End, run.text(end.as_bytes())?),
-            (Key::Notes, run.text(notes.as_str().trim().as_bytes())?),
-        ]?,
-    })
+    let session = serve(&run, rt, configs, &mut client, &mut dialer)?;
+    let Client {
+        input: _,
+        out,
+        tags: _,
+        peer: _,
+    } = client;
+    session_seen(&run, &session, out.into_taken(), &dialer.into_inner())
 }
 
-/// How a session and its exchanges ended, and the configuration and the moment of each exchange as `NUMBER@MOMENT`.
-fn told_session(alloc: Global, session: &Session) -> Result<(String, String), Fault> {
+/// Serves a client by configurations in turn.
+fn serve<R: Threads + Sync>(
+    run: &Run<'_, '_>,
+    rt: &R,
+    configs: &[Arc<Config>],
+    client: &mut Client,
+    dialer: &mut SocksDialer<MemDialer>,
+) -> Result<Session, Fault> {
+    let mut configs = run.configs(configs)?;
+    let mut clock = run.clock()?;
+    Ok(serve_connection(
+        run.alloc,
+        &Way::AtOnce(rt),
+        &mut configs,
+        &mut client.input,
+        &mut client.out,
+        dialer,
+        &mut clock,
+        &client.peer,
+        client.tags.as_slice(),
+    ))
+}
+
+/// What is seen behind a session.
+fn session_seen(
+    run: &Run<'_, '_>,
+    session: &Session,
+    out: Text,
+    dialer: &MemDialer,
+) -> Result<Seen, Fault> {
+    let mut seen = Seen::new(run.alloc);
+    seen.show(Key::Out, out)?;
+    seen.show(Key::Sent, sent_over(run.alloc, dialer)?)?;
+    let end = told_end(run.alloc, session)?;
+    seen.show(Key::End, run.text(end.as_bytes())?)?;
+    let notes = told_notes(run.alloc, session)?;
+    seen.show(Key::Notes, run.text(notes.as_str().trim().as_bytes())?)?;
+    Ok(seen)
+}
+
+/// How a session and its exchanges ended.
+fn told_end(alloc: Global, session: &Session) -> Result<String, Fault> {
     let end = session.end;
-    let mut ends = format!(in alloc; "{end:?}")?;
-    let mut notes = String::new(alloc);
+    let mut told = format!(in alloc; "{end:?}")?;
     for note in session.exchanges.as_slice() {
-        let (ending, config, moment) = (note.ending, note.config, note.moment);
-        ends.push_str(format!(in alloc; " {ending:?}")?.as_str())?;
-        notes.push_str(format!(in alloc; " {config}@{moment}")?.as_str())?;
+        let ending = note.ending;
+        let more = format!(in alloc; " {ending:?}")?;
+        told.push_str(more.as_str())?;
     }
-    Ok((ends, notes))
+    Ok(told)
+}
+
+/// The configuration and the moment of each exchange of a session, as `NUMBER@MOMENT`.
+fn told_notes(alloc: Global, session: &Session) -> Result<String, Fault> {
+    let mut told = String::new(alloc);
+    for note in session.exchanges.as_slice() {
+        let (config, moment) = (note.config, note.moment);
+        let more = format!(in alloc; " {config}@{moment}")?;
+        told.push_str(more.as_str())?;
+    }
+    Ok(told)
 }

@@ -5,7 +5,8 @@ use crate::kinds::made::{as_str, filter_file_of, lines_of, push_item, said, vars
 use crate::leaves::Row;
 use px_action_files::{ActionFile, Pattern, refusal_name};
 use px_base::{List, Text};
-use px_subst::{Filter, Job, Outcome};
+use px_subst::{Filter, Job, Outcome, Vars};
+use std::alloc::Global;
 
 /// The lines that a file's bytes stand for, each behind its number.
 pub(crate) fn lines(row: &Row<'_>) -> Result<Text, Fault> {
