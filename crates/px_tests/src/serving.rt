@@ -1,11 +1,12 @@
 //! The command `serve` over doors in memory.
 ghost use Rattle.std.specs.Prelude.{IfOk};
 ghost use Rattle.px_doors.specs.Conns.{IsFreshConn};
-ghost use Rattle.px_doors.specs.MemConns.{mem_conn};
+ghost use Rattle.px_desk.specs.Facts.{Begun};
+ghost use Rattle.px_doors.specs.MemConns.{AreFresh, mem_conn};
 
 use crate::common::{same, same_at};
 use px_base::{Answer, FixedClock, List, Mem, MemDialer, MemFiles, Peer, TapeIn, TapeOut, Text};
-use px_doors::{Conn, MemConn, MemDoors};
+use px_doors::{Conn, Doors, MemConn, MemDoors};
 use px_serve_command::{Parts, Proxied, run_proxy};
 use std::alloc::Global;
 use std::sync::Wait;
@@ -73,58 +74,80 @@ fn two_answers(alloc: Global) -> Result<Answer, Mem> {
     })
 }
 
-/// Runs `serve c 1` over one connection with two requests.
-fn proxied_two<R: Threads + Wait + Sync>(
-    alloc: Global,
-    rt: &R,
-    main: &[u8],
-) -> Result<Proxied<MemFiles, MemDoors, TapeOut>, Fail> {
-    let mut state = List::new(alloc);
-    state.add((
-        Text::from_bytes(alloc, b"c")?,
-        Text::from_bytes(alloc, main)?,
-    ))?;
-    let mut states = List::new(alloc);
-    states.add(state)?;
-    let conns = vec![in alloc; conn_of_two(alloc)?]?;
-    let parts = Parts {
-        files: MemFiles::new(alloc, states, &[])?,
-        doors: MemDoors::new(alloc, List::from_vec(conns), &[])?,
-        err: TapeOut::new(alloc, &[], &[])?,
-    };
-    let mut words = Vec::new(alloc);
-    for word in ["serve", "c", "1"] {
-        words.push(String::from_str(alloc, word)?)?;
-    }
-    Ok(run_proxy(alloc, rt, &words, parts))
+/// Three connections with one request each.
+fn three_conns(alloc: Global) -> Result<List<MemConn>, Mem>
+    ensures { IfOk result (λ conns. AreFresh conns) }
+{
+    let conns = vec![in alloc; conn(alloc)?, conn(alloc)?, conn(alloc)?]?;
+    Ok(List::from_vec(conns))
 }
 
-/// Runs `serve c 1 2` over three connections and an empty `c`, those calls of the doors failing.
+/// One connection with two requests.
+fn one_conn(alloc: Global) -> Result<List<MemConn>, Mem>
+    ensures { IfOk result (λ conns. AreFresh conns) }
+{
+    let conns = vec![in alloc; conn_of_two(alloc)?]?;
+    Ok(List::from_vec(conns))
+}
+
+/// Files of which `c` is the one.
+fn files_of(alloc: Global, main: &[u8]) -> Result<MemFiles, Mem> {
+    let name = Text::from_bytes(alloc, b"c")?;
+    let main = Text::from_bytes(alloc, main)?;
+    let mut files = List::new(alloc);
+    files.add((name, main))?;
+    let mut states = List::new(alloc);
+    states.add(files)?;
+    MemFiles::new(alloc, states, &[])
+}
+
+/// What `serve` is run with: such files, and doors with those connections, of which those calls fail.
+fn parts_of(
+    alloc: Global,
+    main: &[u8],
+    conns: List<MemConn>,
+    fails: &[u64],
+) -> Result<Parts<MemFiles, MemDoors, TapeOut>, Mem>
+    requires fresh { AreFresh conns }
+    ensures begun { IfOk result (λ parts. Begun (⟦<MemDoors as Doors>⟧.state parts.doors)) }
+{
+    let doors = MemDoors::new(alloc, conns, fails)?;
+    let files = files_of(alloc, main)?;
+    let err = TapeOut::new(alloc, &[], &[])?;
+    Ok(Parts { files, doors, err })
+}
+
+fn words_of(alloc: Global, words: &[&str]) -> Result<Vec<String>, Fail> {
+    let mut owned = Vec::new(alloc);
+    for word in words {
+        owned.push(String::from_str(alloc, word)?)?;
+    }
+    Ok(owned)
+}
+
+/// Runs `serve` by words, over a main file and connections, those calls of the doors failing.
 fn proxied<R: Threads + Wait + Sync>(
     alloc: Global,
     rt: &R,
+    words: &[&str],
+    main: &[u8],
+    conns: List<MemConn>,
     fails: &[u64],
-) -> Result<Proxied<MemFiles, MemDoors, TapeOut>, Fail> {
-    let mut state = List::new(alloc);
-    state.add((Text::from_bytes(alloc, b"c")?, Text::new(alloc)))?;
-    let mut states = List::new(alloc);
-    states.add(state)?;
-    let conns = vec![in alloc; conn(alloc)?, conn(alloc)?, conn(alloc)?]?;
-    let parts = Parts {
-        files: MemFiles::new(alloc, states, &[])?,
-        doors: MemDoors::new(alloc, List::from_vec(conns), fails)?,
-        err: TapeOut::new(alloc, &[], &[])?,
-    };
-    let mut words = Vec::new(alloc);
-    for word in ["serve", "c", "1", "2"] {
-        words.push(String::from_str(alloc, word)?)?;
-    }
+) -> Result<Proxied<MemFiles, MemDoors, TapeOut>, Fail>
+    requires fresh { AreFresh conns }
+{
+    let parts = parts_of(alloc, main, conns, fails)?;
+    let words = words_of(alloc, words)?;
     Ok(run_proxy(alloc, rt, &words, parts))
 }
 
+/// Two of three connections are to be served by one worker.
+const TWO: [&str; 4] = ["serve", "c", "1", "2"];
+
 #[test]
 fn two_of_three_connections_are_served(rt: HostRuntime) -> Result<(), Fail> {
-    let proxied = proxied(rt.alloc(), &rt, &[])?;
+    let conns = three_conns(rt.alloc())?;
+    let proxied = proxied(rt.alloc(), &rt, &TWO, b"", conns, &[])?;
     same(&rt, proxied.status, 0);
     let address = proxied.parts.doors.listens_at().expect(&rt, "an address");
     same(&rt, address.host.as_bytes(), b"127.0.0.1".as_slice());
@@ -149,7 +172,8 @@ const FAULTS: [(&[u64], u8, bool, usize); 3] = [
 #[test]
 fn doors_that_fail_are_status_7(rt: HostRuntime) -> Result<(), Fail> {
     for (fails, status, listened, count) in FAULTS {
-        let proxied = proxied(rt.alloc(), &rt, fails)?;
+        let conns = three_conns(rt.alloc())?;
+        let proxied = proxied(rt.alloc(), &rt, &TWO, b"", conns, fails)?;
         let doors = &proxied.parts.doors;
         let seen = (
             proxied.status,
@@ -179,7 +203,8 @@ fn the_requests_of_a_connection_share_a_link_where_the_main_file_says_so(
     rt: HostRuntime,
 ) -> Result<(), Fail> {
     for (main, links, sent) in SHARING {
-        let proxied = proxied_two(rt.alloc(), &rt, main)?;
+        let conns = one_conn(rt.alloc())?;
+        let proxied = proxied(rt.alloc(), &rt, &["serve", "c", "1"], main, conns, &[])?;
         same_at(&rt, main, proxied.status, 0);
         for parted in proxied.parts.doors.parted() {
             same_at(&rt, main, parted.conn.dialer.links().len(), links);

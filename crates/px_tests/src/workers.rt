@@ -5,6 +5,7 @@ ghost use Rattle.px_base.specs.Dials.{IsFresh};
 ghost use Rattle.px_doors.specs.Conns.{HasMark, IsFreshConn, conn_as, parted_as};
 ghost use Rattle.px_doors.specs.Doors.{DoorsGoesOn, Parts as TakesPart, untold_doors};
 
+use crate::common::same;
 use px_base::{
     Clock, DialFault, Dialer, Failed, FixedClock, List, Mem, MemFiles, Peer, Sink, SinkFault,
     Source, TapeIn, TapeOut, Text,
@@ -326,12 +327,12 @@ fn a_connection_is_served_while_another_waits_and_the_files_change(
         answered: [AtomicU64::new(0), AtomicU64::new(0), AtomicU64::new(0)],
     };
     let proxied = proxied(&rt, rt.alloc(), &seen)?;
-    assert_eq!(rt; proxied.status, 0);
+    same(&rt, proxied.status, 0);
     let doors = &proxied.parts.doors;
-    assert_eq!(rt; (doors.parted.len(), doors.lost), (3, 0));
-    assert_eq!(rt; numbers(doors, 0), [Some(0), Some(1)]);
-    assert_eq!(rt; numbers(doors, 1), [Some(1), None]);
-    assert_eq!(rt; numbers(doors, 2), [Some(1), None]);
+    same(&rt, (doors.parted.len(), doors.lost), (3, 0));
+    same(&rt, numbers(doors, 0), [Some(0), Some(1)]);
+    same(&rt, numbers(doors, 1), [Some(1), None]);
+    same(&rt, numbers(doors, 2), [Some(1), None]);
     let counts = ReloadCounts {
         same: 1,
         published: 1,
@@ -339,8 +340,8 @@ fn a_connection_is_served_while_another_waits_and_the_files_change(
         read_faults: 0,
         wanting: 0,
     };
-    assert_eq!(rt; proxied.counts, counts);
+    same(&rt, proxied.counts, counts);
     let printed = proxied.parts.err.taken();
-    assert_eq!(rt; printed, b"c:1: 30 NotLoopback\n".as_slice());
+    same(&rt, printed, b"c:1: 30 NotLoopback\n".as_slice());
     Ok(())
 }
