@@ -118,7 +118,7 @@ pub clock_same : (t : ClockState) → ClockGoesOn t t
 clock_same t = search rules
 
 pub is_fixed : {looks : Looks} {config : Config} → IsTrue looks.tells → looks.view ≡ config ∷ []
-    → ((k : ℕ) → looks.coming k ≡ record { number = 0; config = config }) → IsFixed looks config
+    → looks.coming ≡ record { number = 0; config = config } ∷ [] → IsFixed looks config
 is_fixed t v k = record { tells = t; view = v; coming = k }
 
 -- what a session gave, with the dialer that is just made and the one client

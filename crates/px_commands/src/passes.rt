@@ -93,7 +93,7 @@ pub struct Served {
 /// The one configuration, at each look.
 fn fixed_config(alloc: Global, loaded: Config) -> Result<FixedConfig<Config>, Mem>
     ensures view { IfOk result (λ configs. ⟦<FixedConfig<Config> as Configs>⟧.view configs ≡ loaded ∷ []) }
-    ensures coming { IfOk result (λ configs. (k : ℕ) → ⟦<FixedConfig<Config> as Configs>⟧.coming configs k ≡ record { number = 0; config = loaded }) }
+    ensures coming { IfOk result (λ configs. ⟦<FixedConfig<Config> as Configs>⟧.coming configs ≡ record { number = 0; config = loaded } ∷ []) }
 {
     Ok(FixedConfig::new(Arc::new(alloc, loaded)?))
 }

@@ -247,17 +247,17 @@ pub fn exchange<R: Threads + Sync, S: Source, O: Sink, D: Dialer>(
     tags: &[Text],
     peer: &Peer,
 ) -> Exchanged
-    ensures answers { IsTrue (S.state client_in.old.source).tells → IsTrue (O.state client_out.old).tells → IsTrue (D.state dialer.old).tells
+    ensures answers { IsTrue client_in.old.source.tells → IsTrue (O.state client_out.old).tells → IsTrue (D.state dialer.old).tells
         → Answers (record { config = snapshot.now.config.now; seen = head; last = last; tags = tags.now; peer = peer.now.address; moment = moment })
-        (record { stream = client_in.old.ahead ++ (S.state client_in.old.source).left; behind = client_in.new.ahead ++ (S.state client_in.new.source).left })
+        (record { stream = bytes_behind client_in.old; behind = bytes_behind client_in.new })
         (D.state dialer.old) (D.state dialer.new) (O.state client_out.old).taken (O.state client_out.new).taken (record { ending = result.note.ending; after = result.after }) }
     ensures config { result.note.config ≡ snapshot.now.number }
     ensures moment { result.note.moment ≡ moment }
-    ensures read_cause { ReadCause (S.state client_in.old.source) (S.state client_in.new.source) result.after }
+    ensures read_cause { ReadCause client_in.old.source client_in.new.source result.after }
     ensures write_cause { WriteCause (O.state client_out.old) (O.state client_out.new) (record { ending = result.note.ending; after = result.after }) }
     ensures page_cause { EndingCause (D.state dialer.old) (D.state dialer.new) result.note.ending }
     ensures open { StaysOpen (O.state client_out.old) (O.state client_out.new) (record { ending = result.note.ending; after = result.after }) }
-    ensures in_goes_on { SourceGoesOn (S.state client_in.old.source) (S.state client_in.new.source) }
+    ensures in_goes_on { SourceGoesOn client_in.old.source client_in.new.source }
     ensures out_goes_on { SinkGoesOn (O.state client_out.old) (O.state client_out.new) }
     ensures goes_on { DialerGoesOn (D.state dialer.old) (D.state dialer.new) }
 {

@@ -8,13 +8,14 @@ use Rattle.std.specs.Prelude.{All, true}
 use Rattle.px_base.specs.Causes.{Rose}
 use Rattle.px_base.specs.Dials.{DialerState, fresh_dialer}
 use Rattle.px_base.specs.Moments.{ClockState}
+use Rattle.px_base.specs.Repeating.{behind_first, behind_firsts, first_or, firsts_or}
 use Rattle.px_base.specs.Sinks.{SinkState}
 use Rattle.px_base.specs.Sources.{SourceGoesOn, SourceState, fresh_source}
 use Rattle.px_config.specs.declared.configs.Config.{Config}
 use Rattle.px_publish.specs.Views.{Entry}
 use Rattle.px_exchange.specs.declared.notes.ExchangeNote.{ExchangeNote}
 use Rattle.px_serve.specs.Ends.{ReadEndCause, WriteEndCause}
-use Rattle.px_serve.specs.Histories.{Begun, Looks, Take, entry_of, firsts, moment_of}
+use Rattle.px_serve.specs.Histories.{Begun, Looks, Take, entry_of, moment_of}
 use Rattle.px_serve.specs.Sessions.{Caller, Objects, Serves}
 use Rattle.px_serve.specs.declared.ends.SessionEnd.{SessionEnd}
 use Rattle.px_serve.specs.declared.ends.SessionEnd.TheVariants as end
@@ -24,10 +25,15 @@ use Rattle.px_exercise.specs.Runs.{AreRuns, AreRunsOf, GivesOnly, HasRun, IsRun,
 use Rattle.px_exercise.specs.declared.runs.Run.{Run}
 use Rattle.px_exercise.specs.declared.runs.Total.{Total}
 
--- each of the first values of what gives one value is that value
-all_firsts : {E : Type 0} (f : ℕ → E) (e : E) (n : ℕ) → ((k : ℕ) → f k ≡ e) → All (λ x. x ≡ e) (firsts f n)
-all_firsts f e zero h = All-nil (λ x. x ≡ e)
-all_firsts f e (suc n) h = All-push (λ x. x ≡ e) (firsts f n) (f n) (all_firsts f e n h) (h n)
+-- one item that comes again is all that is left
+one_left : {E : Type 0} (e : E) (n : ℕ) → behind_firsts (e ∷ []) n ≡ e ∷ []
+one_left e zero = refl
+one_left e (suc n) = ap behind_first (one_left e n)
+
+-- each of the first of one item that comes again is that item
+all_firsts : {E : Type 0} (none e : E) (n : ℕ) → All (λ x. x ≡ e) (firsts_or none (e ∷ []) n)
+all_firsts none e zero = All-nil (λ x. x ≡ e)
+all_firsts none e (suc n) = All-push (λ x. x ≡ e) (firsts_or none (e ∷ []) n) (first_or none (behind_firsts (e ∷ []) n)) (all_firsts none e n) (ap (first_or none) (one_left e n))
 
 -- what holds of each value of a function holds so of what it was given
 all_before_map : {X Y : Type 0} (P : Y → Type 0) (f : X → Y) (xs : List X) → All P (map f xs) → All (λ x. P (f x)) xs
@@ -35,24 +41,28 @@ all_before_map P f [] h = All-nil (λ x. P (f x))
 all_before_map P f (x ∷ xs) h = All-cons (λ x. P (f x)) x xs (All-head P (f x) (map f xs) h) (all_before_map P f xs (All-tail P (f x) (map f xs) h))
 
 -- exchanges that took one value each from what gives one value have that value
-takes_one : {E : Type 0} (value : Begun → E) (coming coming' : ℕ → E) (e : E) (begun : List Begun) → ((k : ℕ) → coming k ≡ e) → Take value coming coming' begun → All (λ b. value b ≡ e) begun
-takes_one value coming coming' e begun h t = all_before_map (λ x. x ≡ e) value begun (subst (All (λ x. x ≡ e)) (sym t.taken) (all_firsts coming e (length begun) h))
+takes_one : {E : Type 0} (value : Begun → E) (none : E) (coming coming' : List E) (e : E) (begun : List Begun) → coming ≡ e ∷ [] → Take value none coming coming' begun → All (λ b. value b ≡ e) begun
+takes_one {E = E} value none coming coming' e begun only t =
+    let firsts = subst (λ (xs : List E). All (λ x. x ≡ e) (firsts_or none xs (length begun))) (sym only) (all_firsts none e (length begun)) in
+    all_before_map (λ x. x ≡ e) value begun (subst (All (λ x. x ≡ e)) (sym t.taken) firsts)
 
 -- an exchange with that entry, at the moment 0
 uses_only : (config : Config) (b : Begun) → entry_of b ≡ record { number = 0; config = config } → b.moment ≡ 0 → UsesOnly config b
 uses_only config b e m = record { number_is = ap (λ (x : Entry Config). x.number) e; config_is = ap (λ (x : Entry Config). x.config) e; moment_is = m }
 
 -- exchanges took each look from what gives one configuration, and each moment from what gives 0
-all_use_only : (config : Config) (coming coming' : ℕ → Entry Config) (moments moments' : ℕ → ℕ) (begun : List Begun)
-    → GivesOnly config coming → ((k : ℕ) → moments k ≡ 0) → Take entry_of coming coming' begun → Take moment_of moments moments' begun → All (UsesOnly config) begun
+all_use_only : (config : Config) (coming coming' : List (Entry Config)) (moments moments' : List ℕ) (begun : List Begun)
+    → GivesOnly config coming → moments ≡ 0 ∷ [] → Take entry_of (record { number = 0; config = config }) coming coming' begun → Take moment_of 0 moments moments' begun → All (UsesOnly config) begun
 all_use_only config coming coming' moments moments' begun only zeros entries taken =
-    let same = takes_one entry_of coming coming' (record { number = 0; config = config }) begun only entries in
-    let at_zero = takes_one moment_of moments moments' 0 begun zeros taken in
+    let entry : Entry Config = record { number = 0; config = config } in
+    let same = takes_one entry_of entry coming coming' entry begun only entries in
+    let at_zero = takes_one moment_of 0 moments moments' 0 begun zeros taken in
     λ k d h. uses_only config _ (same k d h) (at_zero k d h)
 
 -- what is left of what gives one value gives that value
-left_gives : (config : Config) (coming coming' : ℕ → Entry Config) (begun : List Begun) → GivesOnly config coming → Take entry_of coming coming' begun → GivesOnly config coming'
-left_gives config coming coming' begun only t k = t.left k ∙ only (k + length begun)
+left_gives : (config : Config) (none : Entry Config) (coming coming' : List (Entry Config)) (begun : List Begun) → GivesOnly config coming → Take entry_of none coming coming' begun → GivesOnly config coming'
+left_gives config none coming coming' begun only t =
+    t.left ∙ ap (λ (xs : List (Entry Config)). behind_firsts xs (length begun)) only ∙ one_left (record { number = 0; config = config }) (length begun)
 
 -- a steady source that is just made doesn't fail
 no_read_failed : (i i' : SourceState) (e : SessionEnd) → IsTrue i.steady → i.faults ≡ 0 → SourceGoesOn i i' → ReadEndCause i i' e → e ≢ end.ReadFailed
@@ -70,12 +80,12 @@ no_write_failed o o' e before behind cause is =
 pub is_run : {config : Config} {session : JobSession} {caller : Caller} {looks looks' : Looks} {i i' : SourceState} {o o' : SinkState} {d d' : DialerState} {t t' : ClockState} {notes : List ExchangeNote} {e : SessionEnd}
     → Serves caller looks looks' i i' (record { client_out = o; dialer = d; clock = t }) (record { client_out = o'; dialer = d'; clock = t' }) notes e
     → caller ≡ client → IsTrue looks.tells → GivesOnly config looks.coming → i ≡ fresh_source session.input true → IsTrue o.tells → o.taken ≡ [] → d ≡ fresh_dialer session.answers
-    → IsTrue t.tells → ((k : ℕ) → t.coming k ≡ 0) → e ≢ end.NoMemory → o.faults ≡ 0 → o'.faults ≡ 0 → SourceGoesOn i i' → ReadEndCause i i' e → WriteEndCause o o' e
+    → IsTrue t.tells → t.coming ≡ 0 ∷ [] → e ≢ end.NoMemory → o.faults ≡ 0 → o'.faults ≡ 0 → SourceGoesOn i i' → ReadEndCause i i' e → WriteEndCause o o' e
     → IsRun config session (record { notes = notes; taken = o'.taken })
 is_run {config = config} {looks = looks} {looks' = looks'} {i = i} {i' = i'} {o = o} {o' = o'} {d' = d'} {t = t} {t' = t'} {e = e} serves caller_is looks_tell only source_is out_tells none dialer_is clock_tells zeros memory before behind on cause write_cause = record {
   begun = serves.begun;
   notes_are = serves.notes_are;
-  uses = all_use_only config looks.coming looks'.coming t.coming t'.coming serves.begun only zeros (serves.noted.entries looks_tell) (serves.noted.moments clock_tells);
+  uses = all_use_only config looks.coming looks'.coming t.coming t'.coming serves.begun only zeros (serves.noted.entries looks_tell (record { number = 0; config = config })) (serves.noted.moments clock_tells);
   left = i'.left;
   dialer = d';
   ended = e;
@@ -88,7 +98,7 @@ is_run {config = config} {looks = looks} {looks' = looks'} {i = i} {i' = i'} {o 
 -- behind a session each look still gives that configuration
 pub fixed_behind : {config : Config} {caller : Caller} {looks looks' : Looks} {i i' : SourceState} {old new : Objects} {notes : List ExchangeNote} {e : SessionEnd}
     → Serves caller looks looks' i i' old new notes e → IsTrue looks.tells → GivesOnly config looks.coming → GivesOnly config looks'.coming
-fixed_behind {config = config} {looks = looks} {looks' = looks'} serves tell only = left_gives config looks.coming looks'.coming serves.begun only (serves.noted.entries tell)
+fixed_behind {config = config} {looks = looks} {looks' = looks'} serves tell only = left_gives config (record { number = 0; config = config }) looks.coming looks'.coming serves.begun only (serves.noted.entries tell (record { number = 0; config = config }))
 
 -- what came of one session more
 total_more : (runs : List Run) (run : Run) (total : Total) → total.notes ≡ (total_of runs).notes ++ run.notes → total.returned ≡ (total_of runs).returned + length run.taken

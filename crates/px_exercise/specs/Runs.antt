@@ -1,5 +1,5 @@
 -- The sessions of the job, each over memory, and what came of them.
-use Rattle.std.specs.Prelude.{◌≡◌, ◌≢◌, ℕ, List, [], length, map, codes, All}
+use Rattle.std.specs.Prelude.{◌≡◌, ◌≢◌, ℕ, List, [], ◌∷◌, length, map, codes, All}
 use Rattle.std.specs.List.{AllZip, flat_map, sum_by}
 use Rattle.px_base.specs.Dials.{DialerState, fresh_dialer}
 use Rattle.px_config.specs.declared.configs.Config.{Config}
@@ -14,8 +14,8 @@ use Rattle.px_exercise.specs.declared.runs.Run.{Run}
 use Rattle.px_exercise.specs.declared.runs.Total.{Total}
 
 -- each look gives that configuration, with the number 0
-abbrev pub GivesOnly : Config → (ℕ → Entry Config) → Type 0
-GivesOnly config coming = (k : ℕ) → coming k ≡ record { number = 0; config = config }
+abbrev pub GivesOnly : Config → List (Entry Config) → Type 0
+GivesOnly config coming = coming ≡ record { number = 0; config = config } ∷ []
 
 -- an exchange with that configuration, whose number is 0, at the moment 0
 pub record UsesOnly (config : Config) (b : Begun) : Type 0 where
@@ -51,7 +51,7 @@ total_of runs = record { notes = flat_map (λ r. r.notes) runs; returned = sum_b
 
 -- the first sessions of the job of a number were run, so many, and came to that total; what the looks behind them give, and where the
 -- draws stand
-pub record HasRun (config : Config) (number count : ℕ) (coming : ℕ → Entry Config) (draws : ℕ) (total : Total) : Type 0 where
+pub record HasRun (config : Config) (number count : ℕ) (coming : List (Entry Config)) (draws : ℕ) (total : Total) : Type 0 where
   pub fixed : GivesOnly config coming
   pub drawn : draws ≡ draws_before count number
   pub runs : List Run

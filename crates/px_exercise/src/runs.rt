@@ -1,5 +1,5 @@
 // The sessions of the job, each over memory.
-ghost use Rattle.std.specs.Prelude.{◌≡◌, ◌+◌, ◌<◌, ◌≤◌, ◌^◌, ◌++◌, [], ℕ, IfOk, OnOk, length, true};
+ghost use Rattle.std.specs.Prelude.{◌≡◌, ◌+◌, ◌<◌, ◌≤◌, ◌^◌, ◌++◌, ◌∷◌, [], ℕ, IfOk, OnOk, length, true};
 ghost use Rattle.px_generated.specs.Jobs.{draws_before};
 ghost use Rattle.px_exercise.specs.Runs.{AreRunsOf, GivesOnly, HasRun, IsRun, total_of};
 
@@ -79,7 +79,7 @@ fn fixed_config(alloc: Global, config: Config) -> Result<FixedConfig<Config>, Me
 /// A clock that gives one moment, again and again.
 fn fixed_clock(alloc: Global, moment: u64) -> Result<FixedClock, Mem>
     ensures tells { IfOk result (λ clock. (⟦<FixedClock as Clock>⟧.state clock).tells ≡ true) }
-    ensures coming { IfOk result (λ clock. (k : ℕ) → (⟦<FixedClock as Clock>⟧.state clock).coming k ≡ moment) }
+    ensures coming { IfOk result (λ clock. (⟦<FixedClock as Clock>⟧.state clock).coming ≡ moment ∷ []) }
 {
     let mut moments = List::with_capacity(alloc, 1)?;
     moments.add(moment)?;

@@ -73,8 +73,8 @@ fn destination(
 }
 
 /// Where a request goes and with which fields, by its actions (Privoxy's manual, "Actions"). `url` is its target; `vars` are
-/// the values of a job's words; `warm` is the store of the filters. The fields are taken out of the head, and those that
-/// nothing changes are moved.
+/// the values of a job's words; `warm` is the store of the filters. The fields are taken out of the head, also where the call
+/// is refused, and those that nothing changes are moved.
 ///
 /// Host, Expect, Proxy-Authorization, the fields that speak of one connection and those that a Connection field names are
 /// taken out first. Then come crunch-outgoing-cookies, hide-referrer, hide-user-agent, hide-from-header,
@@ -98,6 +98,7 @@ pub fn client_headers(
     requires { warm.old ≡ filters.now }
     ensures out { IfOk result (λ out. client_out set.now filters.now vars.now url peer.now.address head.old ≡ Some out) }
     ensures refused { IfErr result (IsClientRefusal (client_out set.now filters.now vars.now url peer.now.address head.old)) }
+    ensures taken { head.new.fields ≡ [] }
     ensures method { head.new.method ≡ head.old.method }
     ensures target { head.new.target ≡ head.old.target }
     ensures minor { head.new.minor ≡ head.old.minor }

@@ -1,5 +1,5 @@
 // What becomes of the head of an answer.
-ghost use Rattle.std.specs.Prelude.{◌≡◌, IfOk};
+ghost use Rattle.std.specs.Prelude.{◌≡◌, [], IfOk};
 ghost use Rattle.px_headers.specs.Rewrites.{answer_line};
 ghost use Rattle.px_headers.specs.ServerRows.{server_fields, server_out};
 
@@ -69,7 +69,7 @@ fn answer_line(
 
 /// The status line and the fields of an answer that is returned, by the actions of its request (Privoxy's manual, "Actions").
 /// `moment` is in seconds since 1970; `vars` are the values of a job's words; `warm` is the store of the filters. The fields
-/// are taken out of the head, and those that nothing changes are moved.
+/// are taken out of the head, also where memory is wanting, and those that nothing changes are moved.
 ///
 /// The fields that speak of one connection, Content-Length and the fields that a Connection field names are taken out first.
 /// Then come crunch-incoming-cookies, session-cookies-only or else limit-cookie-lifetime, content-type-overwrite,
@@ -87,13 +87,14 @@ pub fn server_headers(
 ) -> Result<ServerOut, Mem>
     requires { warm.old ≡ filters.now }
     ensures out { IfOk result (λ out. out ≡ server_out set.now filters.now vars.now moment head.old) }
+    ensures taken { head.new.fields ≡ [] }
     ensures minor { head.new.minor ≡ head.old.minor }
     ensures status { head.new.status ≡ head.old.status }
     ensures reason { head.new.reason ≡ head.old.reason }
     ensures same { warm.new ≡ warm.old }
 {
-    let first_line = answer_line(alloc, head, set, filters, warm, vars)?;
     let received = mem::replace(&mut head.fields, List::new(alloc));
+    let first_line = answer_line(alloc, head, set, filters, warm, vars)?;
     let fields = server_fields(alloc, received, set, filters, warm, vars, moment)?;
     Ok(ServerOut { first_line, fields })
 }

@@ -1,9 +1,10 @@
 -- Views that go on, and the entries of a list that is taken in turn.
-use Rattle.std.proofs.Common.{◌≡◌, ℕ, zero, suc, ◌+◌, ◌≤◌, ◌<◌, min, List, [], ◌∷◌, ◌++◌, length, take, drop, map, slice_get, get_or, Some, Result, Ok, Err, Bool, true, false, not, All, IfOk, IsTrue, refl, ap, sym, ◌∙◌, arith, append-nil, length-append, length-take, add-one, zero-add, subst}
+use Rattle.std.proofs.Common.{◌≡◌, ℕ, zero, suc, ◌+◌, ◌≤◌, ◌<◌, min, List, [], ◌∷◌, ◌++◌, length, take, drop, map, slice_get, get_or, Some, Result, Ok, Err, Bool, true, false, not, All, IfOk, IsTrue, refl, ap, sym, ◌∙◌, arith, append-nil, length-append, length-take, length-drop, add-one, add-zero, zero-add, subst}
 use Rattle.std.proofs.lemmas.List.{length-map}
 use Rattle.std.proofs.lemmas.List.Elements.{All-append}
 use mathlib.Core.List.{IsPrefix}
-use Rattle.px_publish.specs.Views.{EndsIn, IsLast, GoesOn, config_behind, entry_behind}
+use Rattle.px_base.specs.Repeating as repeating
+use Rattle.px_publish.specs.Views.{Entry, EndsIn, IsLast, LookGives, GoesOn, config_behind, numbered}
 
 module _ {A : Type 0} where
   pub get_append : (xs more : List A) (k : ℕ) (x : A) → slice_get xs k ≡ Some x → slice_get (xs ++ more) k ≡ Some x
@@ -50,8 +51,8 @@ module _ {A : Type 0} where
   stands_last first (next ∷ rest) (suc k) (suc n) e = stands_last next rest k n (omega arith)
 
   -- what was taken ends in the entry so far behind the first
-  pub ends_in : (first : A) (rest : List A) (k : ℕ) → EndsIn (first ∷ take k rest) (entry_behind first rest k)
-  ends_in first rest k = record { number = omega (arith, length-take k rest); config = stands_last first rest k (min k (length rest)) refl }
+  ends_in : (first : A) (rest : List A) (k : ℕ) → k ≤ length rest → EndsIn (first ∷ take k rest) (record { number = k; config = config_behind first rest k })
+  ends_in first rest k le = record { number = omega (arith, length-take k rest); config = stands_last first rest k k (omega arith) }
 
   behind_none : (first : A) (rest : List A) → config_behind first rest 0 ≡ first
   behind_none first [] = refl
@@ -80,23 +81,48 @@ module _ {A : Type 0} where
         let same : number ≡ n = omega (arith, length-take n (map f rest), length-map rest f) in
         rw (same, is) (current_behind first rest n x le e)
 
-    -- a list that is taken in turn
-    pub taken_in_turn : (all rest : List B) (first : B) (k : ℕ) → 0 < length all → first ≡ get_or all 0 first → rest ≡ take 0 all ++ drop 1 all
-        → EndsIn (take (k + 1) (map f all)) (entry_behind (f first) (map f rest) (0 + k))
-    taken_in_turn [] rest first k some e d = absurd (omega arith)
-    taken_in_turn (x ∷ all) rest first k some e d = rw (e, d, add-one, zero-add) (ends_in (f x) (map f all) k)
+    -- the first and the others are all
+    pub first_and_rest : (all rest : List B) (first : B) → 0 < length all → first ≡ get_or all 0 first → rest ≡ take 0 all ++ drop 1 all
+        → numbered 0 (f first ∷ map f rest) ≡ numbered 0 (map f all)
+    first_and_rest [] rest first some e d = absurd (omega arith)
+    first_and_rest (x ∷ all) rest first some e d = rw (e, d) refl
 
-  config_past : (first : A) (rest : List A) (k : ℕ) → length rest ≤ k → config_behind first rest k ≡ config_behind first rest (length rest)
-  config_past first [] k le = refl
-  config_past first (next ∷ rest) zero le = absurd (omega arith)
-  config_past first (next ∷ rest) (suc k) le = config_past next rest k (omega arith)
+  numbered_at : (n : ℕ) (first : A) (rest : List A) (k : ℕ) → k ≤ length rest
+      → drop k (numbered n (first ∷ rest)) ≡ record { number = n + k; config = config_behind first rest k } ∷ drop (suc k) (numbered n (first ∷ rest))
+  numbered_at n first [] zero le = rw add-zero refl
+  numbered_at n first (next ∷ rest) zero le = rw add-zero refl
+  numbered_at n first [] (suc k) le = absurd (omega arith)
+  numbered_at n first (next ∷ rest) (suc k) le =
+      let number : n + 1 + k ≡ n + suc k = omega arith in
+      numbered_at (n + 1) next rest k (omega arith) ∙ ap (λ (m : ℕ). record { number = m; config = config_behind next rest k } ∷ drop (suc k) (numbered (n + 1) (next ∷ rest))) number
 
-  -- behind the last there is the last
-  pub entry_past : (first : A) (rest : List A) (i j : ℕ) → length rest ≤ i → length rest ≤ j → entry_behind first rest i ≡ entry_behind first rest j
-  entry_past first rest i j le le' =
-      let n : min i (length rest) ≡ min j (length rest) = omega arith in
-      let c : config_behind first rest i ≡ config_behind first rest j = config_past first rest i le ∙ sym (config_past first rest j le') in
-      cc
+  numbered_length : (n : ℕ) (xs : List A) → length (numbered n xs) ≡ length xs
+  numbered_length n [] = refl
+  numbered_length n (x ∷ xs) = ap suc (numbered_length (n + 1) xs)
+
+  -- a look gives the entry with the number of the first that is left
+  pub look_gives : (first : A) (rest : List A) (k : ℕ) → k ≤ length rest → LookGives (drop k (numbered 0 (first ∷ rest))) (first ∷ take k rest)
+  look_gives first rest k le = rw (numbered_at 0 first rest k le, zero-add) (ends_in first rest k le)
+
+  behind_some : (e : Entry A) (es : List (Entry A)) → 0 < length es → repeating.behind_first (e ∷ es) ≡ es
+  behind_some e [] some = absurd (omega arith)
+  behind_some e (x ∷ es) some = refl
+
+  behind_last : (e : Entry A) (es : List (Entry A)) → length es ≡ 0 → repeating.behind_first (e ∷ es) ≡ e ∷ es
+  behind_last e [] none = refl
+  behind_last e (x ∷ es) none = absurd (omega arith)
+
+  -- what is left behind it, where others follow
+  pub next_looks : (first : A) (rest : List A) (k : ℕ) → k < length rest → drop (k + 1) (numbered 0 (first ∷ rest)) ≡ repeating.behind_first (drop k (numbered 0 (first ∷ rest)))
+  next_looks first rest k lt =
+      let some : 0 < length (drop (suc k) (numbered 0 (first ∷ rest))) = omega (arith, length-drop (suc k) (numbered 0 (first ∷ rest)), numbered_length 0 (first ∷ rest)) in
+      rw add-one (sym (ap repeating.behind_first (numbered_at 0 first rest k (omega arith)) ∙ behind_some _ _ some))
+
+  -- and where it was the last
+  pub last_look : (first : A) (rest : List A) (k : ℕ) → k ≡ length rest → drop k (numbered 0 (first ∷ rest)) ≡ repeating.behind_first (drop k (numbered 0 (first ∷ rest)))
+  last_look first rest k e =
+      let none : length (drop (suc k) (numbered 0 (first ∷ rest))) ≡ 0 = omega (arith, length-drop (suc k) (numbered 0 (first ∷ rest)), numbered_length 0 (first ∷ rest)) in
+      numbered_at 0 first rest k (omega arith) ∙ sym (ap repeating.behind_first (numbered_at 0 first rest k (omega arith)) ∙ behind_last _ _ none)
 
   last_is : (xs : List A) (x : A) → slice_get (xs ++ x ∷ []) (length xs) ≡ Some x
   last_is [] x = refl

@@ -1,5 +1,5 @@
 -- Views: the entries that a source of configurations has had, in order.
-use Rattle.std.specs.Prelude.{◌≡◌, ℕ, zero, suc, ◌+◌, ◌≤◌, List, [], ◌∷◌, length, Some, slice_get, min}
+use Rattle.std.specs.Prelude.{◌≡◌, ℕ, zero, suc, ◌+◌, ◌≤◌, List, [], ◌∷◌, length, Some, slice_get}
 use mathlib.Core.List.{IsPrefix}
 use Rattle.logbook.specs.Pages.{Book}
 
@@ -18,6 +18,11 @@ pub record EndsIn {C : Type 0} (view : List C) (entry : Entry C) : Type 0 where
   pub number : length view ≡ entry.number + 1
   pub config : slice_get view entry.number ≡ Some entry.config
 
+-- what a look gives, by the entries that the looks to come will give: the first of them, and there is one
+abbrev pub LookGives : {C : Type 0} → List (Entry C) → List C → Type 0
+LookGives [] view = ⊥
+LookGives (next ∷ rest) view = EndsIn view next
+
 -- the configuration is the view's last
 abbrev pub IsLast : {C : Type 0} → List C → C → Type 0
 IsLast view config = (number : ℕ) → length view ≡ number + 1 → slice_get view number ≡ Some config
@@ -35,6 +40,7 @@ config_behind first [] k = first
 config_behind first (next ∷ rest) zero = first
 config_behind first (next ∷ rest) (suc k) = config_behind next rest k
 
--- the entry so far behind the first, or the last
-abbrev pub entry_behind : {C : Type 0} → C → List C → ℕ → Entry C
-entry_behind first rest k = record { number = min k (length rest); config = config_behind first rest k }
+-- the entries of configurations, by their order from that number on
+abbrev pub numbered : {C : Type 0} → ℕ → List C → List (Entry C)
+numbered number [] = []
+numbered number (config ∷ rest) = record { number = number; config = config } ∷ numbered (number + 1) rest

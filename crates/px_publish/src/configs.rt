@@ -1,7 +1,8 @@
 // Where configurations come from.
-ghost use Rattle.std.specs.Prelude.{◌≡◌, ◌+◌, ℕ, List, Bool, Option, IsTrue, IfOk, Some, length, slice_get};
+ghost use Rattle.std.specs.Prelude.{◌≡◌, ◌+◌, List, Bool, Option, IsTrue, IfOk, Some, length, slice_get};
 ghost use Rattle.std.specs.Arc.{arc_value};
-ghost use Rattle.px_publish.specs.Views.{Entry, EndsIn, GoesOn, IsLast, Pair};
+ghost use Rattle.px_base.specs.Repeating.{behind_first};
+ghost use Rattle.px_publish.specs.Views.{Entry, GoesOn, IsLast, LookGives, Pair};
 
 use std::sync::Arc;
 
@@ -31,15 +32,15 @@ pub trait Configs {
     /// Whether the type tells its looks to come.
     ghost tells: { Bool };
 
-    /// The entry that the look after so many others will give, where it tells.
-    ghost coming: { Self → ℕ → Entry Self.Held };
+    /// The entries that the next looks will give, where it tells: at least one, and the last comes again.
+    ghost coming: { Self → List (Entry Self.Held) };
 
     /// Takes the newest entry.
     fn look(&mut self)
         ensures goes_on { GoesOn (view self.old) (view self.new) }
         ensures pair { pair self.new ≡ pair self.old }
-        ensures given { IsTrue tells → EndsIn (view self.new) (coming self.old 0) }
-        ensures coming { IsTrue tells → (k : ℕ) → coming self.new k ≡ coming self.old (k + 1) };
+        ensures given { IsTrue tells → LookGives (coming self.old) (view self.new) }
+        ensures coming { IsTrue tells → coming self.new ≡ behind_first (coming self.old) };
 
     /// Lends the entry that it holds, whole.
     fn current(&self) -> Snapshot<'_, Self::Held>

@@ -1,7 +1,7 @@
 // Sources of configurations that are known beforehand.
-ghost use Rattle.std.specs.Prelude.{◌≡◌, ◌+◌, ◌<◌, ◌≤◌, ◌∷◌, [], ℕ, true, None, length, map, take};
+ghost use Rattle.std.specs.Prelude.{◌≡◌, ◌<◌, ◌≤◌, ◌∷◌, [], true, None, drop, length, map, take};
 ghost use Rattle.std.specs.Arc.{arc_value};
-ghost use Rattle.px_publish.specs.Views.{EndsIn, config_behind, entry_behind};
+ghost use Rattle.px_publish.specs.Views.{config_behind, numbered};
 
 use crate::configs::{Configs, CountFull, Snapshot, another_owner};
 use px_base::List;
@@ -16,7 +16,7 @@ pub struct FixedConfig<C: Drop> {
 impl<C: Drop> FixedConfig<C> {
     pub fn new(config: Arc<C>) -> FixedConfig<C>
         ensures view { ⟦<FixedConfig<C> as Configs>⟧.view result ≡ arc_value config ∷ [] }
-        ensures coming { (k : ℕ) → ⟦<FixedConfig<C> as Configs>⟧.coming result k ≡ record { number = 0; config = arc_value config } }
+        ensures coming { ⟦<FixedConfig<C> as Configs>⟧.coming result ≡ record { number = 0; config = arc_value config } ∷ [] }
     {
         FixedConfig { config }
     }
@@ -31,7 +31,7 @@ impl<C: Drop> Configs for FixedConfig<C> {
 
     ghost tells = { true };
 
-    ghost coming = { λ f _. record { number = 0; config = arc_value f.config } };
+    ghost coming = { λ f. record { number = 0; config = arc_value f.config } ∷ [] };
 
     fn look(&mut self) {}
 
@@ -66,7 +66,7 @@ impl<C: Drop> StepConfig<C> {
     pub fn new(configs: List<Arc<C>>) -> StepConfig<C>
         requires { 0 < length configs }
         ensures view { ⟦<StepConfig<C> as Configs>⟧.view result ≡ take 1 (map arc_value configs) }
-        ensures coming { (k : ℕ) → EndsIn (take (k + 1) (map arc_value configs)) (⟦<StepConfig<C> as Configs>⟧.coming result k) }
+        ensures coming { ⟦<StepConfig<C> as Configs>⟧.coming result ≡ numbered 0 (map arc_value configs) }
     {
         let mut rest = configs.into_vec();
         let first = rest.remove(0);
@@ -98,7 +98,7 @@ impl<C: Drop> Configs for StepConfig<C> {
 
     ghost tells = { true };
 
-    ghost coming = { λ s k. entry_behind (arc_value s.first) (map arc_value s.rest.items) (s.next + k) };
+    ghost coming = { λ s. drop s.next (numbered 0 (arc_value s.first ∷ map arc_value s.rest.items)) };
 
     fn look(&mut self) {
         self.number = self.next;

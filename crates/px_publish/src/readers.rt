@@ -110,7 +110,7 @@ impl<C: Drop> ConfigReader<C> {
 }
 
 impl<C: Drop> Configs for ConfigReader<C> {
-    ghost use Rattle.std.specs.Prelude.{Some, false};
+    ghost use Rattle.std.specs.Prelude.{Some, false, []};
     ghost use Rattle.std.specs.Arc.{arc_value};
     ghost use Rattle.px_publish.specs.Published.{seen_by, reader_pair};
 
@@ -123,7 +123,7 @@ impl<C: Drop> Configs for ConfigReader<C> {
     ghost tells = { false };
 
     // The type tells nothing, so this says nothing.
-    ghost coming = { λ r _. record { number = r.held.front.number; config = arc_value r.held.config } };
+    ghost coming = { λ r. [] };
 
     fn look(&mut self) {
         replace_with(

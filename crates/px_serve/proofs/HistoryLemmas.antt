@@ -4,32 +4,26 @@ use Rattle.std.proofs.Common.{◌≡◌, ℕ, rules, ◌+◌, ◌≤◌, suc, Is
 use Rattle.std.proofs.lemmas.List.{map-append, append-nil, append_assoc}
 use Rattle.std.proofs.lemmas.List.Elements.{All-nil, All-push, All-weaker}
 use Rattle.px_base.specs.Moments.{ClockState}
+use Rattle.px_base.specs.Repeating.{behind_first, behind_firsts, first_or, firsts_or}
 use Rattle.px_config.specs.declared.configs.Config.{Config}
-use Rattle.px_publish.specs.Views.{Entry, EndsIn, GoesOn}
-use Rattle.px_serve.specs.Histories.{Begun, Looks, UsesOf, firsts, Take, NoneOlder, Noted, TakesOne, entry_of, held_number, moment_of}
+use Rattle.px_publish.specs.Views.{Entry, EndsIn, GoesOn, LookGives}
+use Rattle.px_serve.specs.Histories.{Begun, Looks, UsesOf, Take, NoneOlder, Noted, TakesOne, entry_of, held_number, moment_of}
 
 -- the length of a list with one more
 one_more : (xs : List Begun) (x : Begun) → length (xs ++ x ∷ []) ≡ suc (length xs)
 one_more xs x = length-append xs (x ∷ []) ∙ add-one (length xs)
 
 -- one more of the values
-values_more : {E : Type 0} (value : Begun → E) (coming : ℕ → E) (xs : List Begun) (x : Begun) → map value xs ≡ firsts coming (length xs) → value x ≡ coming (length xs)
-    → map value (xs ++ x ∷ []) ≡ firsts coming (length (xs ++ x ∷ []))
-values_more {E = E} value coming xs x h e =
-    rw one_more (map-append value xs (x ∷ []) ∙ ap (λ (ys : List E). ys ++ value x ∷ []) h ∙ ap (λ (n : E). firsts coming (length xs) ++ n ∷ []) e)
+values_more : {E : Type 0} (value : Begun → E) (none : E) (coming : List E) (xs : List Begun) (x : Begun) → map value xs ≡ firsts_or none coming (length xs)
+    → value x ≡ first_or none (behind_firsts coming (length xs)) → map value (xs ++ x ∷ []) ≡ firsts_or none coming (length (xs ++ x ∷ []))
+values_more {E = E} value none coming xs x h e =
+    rw one_more (map-append value xs (x ∷ []) ∙ ap (λ (ys : List E). ys ++ value x ∷ []) h ∙ ap (λ (n : E). firsts_or none coming (length xs) ++ n ∷ []) e)
 
--- what is to come behind one more
-left_more : {E : Type 0} (first coming coming' : ℕ → E) (xs : List Begun) (x : Begun) → ((k : ℕ) → coming k ≡ first (k + length xs)) → ((k : ℕ) → coming' k ≡ coming (k + 1))
-    → (k : ℕ) → coming' k ≡ first (k + length (xs ++ x ∷ []))
-left_more first coming coming' xs x left moved k =
-    let shift : k + 1 + length xs ≡ k + length (xs ++ x ∷ []) = omega (arith, length-append xs (x ∷ [])) in
-    moved k ∙ left (k + 1) ∙ ap first shift
-
-take_more : {E : Type 0} (value : Begun → E) (first coming coming' : ℕ → E) (xs : List Begun) (x : Begun) → Take value first coming xs
-    → value x ≡ coming 0 → ((k : ℕ) → coming' k ≡ coming (k + 1)) → Take value first coming' (xs ++ x ∷ [])
-take_more value first coming coming' xs x h e moved = record {
-  taken = values_more value first xs x h.taken (e ∙ h.left 0 ∙ ap first (omega arith));
-  left = left_more first coming coming' xs x h.left moved;
+take_more : {E : Type 0} (value : Begun → E) (none : E) (first coming coming' : List E) (xs : List Begun) (x : Begun) → Take value none first coming xs
+    → value x ≡ first_or none coming → coming' ≡ behind_first coming → Take value none first coming' (xs ++ x ∷ [])
+take_more value none first coming coming' xs x h e moved = record {
+  taken = values_more value none first xs x h.taken (rw h.left at e);
+  left = rw one_more (rw h.left at moved);
 }
 
 -- an exchange of a number that isn't older
@@ -49,6 +43,11 @@ ends_in_one : (view : List Config) (a e : Entry Config) → EndsIn view a → En
 ends_in_one view a e h k =
     let number : a.number ≡ e.number = omega (arith, h.number, k.number) in
     entry_is a e number (some_is a.config e.config (sym h.config ∙ ap (λ (n : ℕ). slice_get view n) number ∙ k.config))
+
+-- the entry that was used is the first of those to come
+first_look : (coming : List (Entry Config)) (view : List Config) (a none : Entry Config) → EndsIn view a → LookGives coming view → a ≡ first_or none coming
+first_look [] view a none used given = absurd given
+first_look (next ∷ rest) view a none used given = ends_in_one view a next used given
 
 views_go_on : {a b c : List Config} → GoesOn a b → GoesOn b c → GoesOn a c
 views_go_on {a = a} {c = c} h k = record {
@@ -75,12 +74,12 @@ noted_more first looks looks' clock now next begun b one h = record {
   looks_tell = one.looks_tell ∙ h.looks_tell;
   pair = one.pair ∙ h.pair;
   clock_tells = one.clock_tells ∙ h.clock_tells;
-  entries = λ t.
+  entries = λ t none.
       let told : IsTrue looks.tells = h.looks_tell ∙ t in
-      take_more entry_of first.coming looks.coming looks'.coming begun b (h.entries t) (ends_in_one looks'.view (entry_of b) (looks.coming 0) one.used (one.look told)) (one.looks_left told);
+      take_more entry_of none first.coming looks.coming looks'.coming begun b (h.entries t none) (first_look looks.coming looks'.view (entry_of b) none one.used (one.look told)) (one.looks_left told);
   moments = λ t.
       let told : IsTrue now.tells = h.clock_tells ∙ t in
-      take_more moment_of clock.coming now.coming next.coming begun b (h.moments t) (one.moment told) (one.moments_left told);
+      take_more moment_of 0 clock.coming now.coming next.coming begun b (h.moments t) (one.moment told) (one.moments_left told);
   goes_on = views_go_on h.goes_on one.goes_on;
   used = All-push (UsesOf looks'.view) begun b (uses_on looks.view looks'.view begun one.goes_on h.used) one.used.config;
   none_older = none_older_more (held_number first) (held_number looks) (held_number looks') begun b h.none_older (omega (arith, one.goes_on.longer)) (omega (arith, one.used.number));
@@ -96,8 +95,8 @@ none_noted looks clock = record {
   looks_tell = refl;
   pair = refl;
   clock_tells = refl;
-  entries = λ t. record { taken = refl; left = λ k. ap looks.coming (omega arith) };
-  moments = λ t. record { taken = refl; left = λ k. ap clock.coming (omega arith) };
+  entries = λ t none. record { taken = refl; left = refl };
+  moments = λ t. record { taken = refl; left = refl };
   goes_on = view_same looks.view;
   used = All-nil (UsesOf looks.view);
   none_older = omega arith;

@@ -1,10 +1,11 @@
 -- The exchanges that a session began: the configuration and the moment of each.
-use Rattle.std.specs.Prelude.{◌≡◌, ℕ, ◌+◌, ◌-◌, ◌≤◌, zero, suc, Bool, IsTrue, List, [], ◌∷◌, ◌++◌, length, map, slice_get, Option, Some, All}
+use Rattle.std.specs.Prelude.{◌≡◌, ℕ, ◌-◌, ◌≤◌, Bool, IsTrue, List, [], ◌∷◌, length, map, slice_get, Option, Some, All}
 use Rattle.px_base.specs.Moments.{ClockState}
+use Rattle.px_base.specs.Repeating.{behind_first, behind_firsts, first_or, firsts_or}
 use Rattle.px_config.specs.declared.configs.Config.{Config}
 use Rattle.px_exchange.specs.declared.notes.ExchangeNote.{ExchangeNote}
 use Rattle.px_pumps.specs.declared.notes.Conclusion.{Conclusion}
-use Rattle.px_publish.specs.Views.{Entry, EndsIn, GoesOn, Pair}
+use Rattle.px_publish.specs.Views.{Entry, EndsIn, GoesOn, LookGives, Pair}
 
 -- an exchange that was begun: the configuration that it used with that one's number, its moment, and how it was concluded
 pub record Begun : Type 0 where
@@ -23,12 +24,12 @@ abbrev pub moment_of : Begun → ℕ
 moment_of b = b.moment
 
 -- what contracts see of what gives configurations: whether it tells its looks to come, the entries that it has had, of which it
--- holds the last, the publisher and readers that it is of, and the entry that the look after so many others will give
+-- holds the last, the publisher and readers that it is of, and the entries that the next looks will give, of which the last comes again
 pub record Looks : Type 0 where
   pub tells : Bool
   pub view : List Config
   pub pair : Option Pair
-  pub coming : ℕ → Entry Config
+  pub coming : List (Entry Config)
 
 -- the number of the entry that is held
 abbrev pub held_number : Looks → ℕ
@@ -38,21 +39,16 @@ held_number looks = length looks.view - 1
 pub record IsFixed (looks : Looks) (config : Config) : Type 0 where
   pub tells : IsTrue looks.tells
   pub view : looks.view ≡ config ∷ []
-  pub coming : (k : ℕ) → looks.coming k ≡ record { number = 0; config = config }
+  pub coming : looks.coming ≡ record { number = 0; config = config } ∷ []
 
 -- the exchange used an entry of that view
 abbrev pub UsesOf : List Config → Begun → Type 0
 UsesOf view b = slice_get view b.number ≡ Some b.config
 
--- the first n values
-abbrev pub firsts : {E : Type 0} → (ℕ → E) → ℕ → List E
-firsts f zero = []
-firsts f (suc n) = firsts f n ++ f n ∷ []
-
--- the exchanges took the values to come, one each and no others
-pub record Take {E : Type 0} (value : Begun → E) (coming coming' : ℕ → E) (begun : List Begun) : Type 0 where
-  pub taken : map value begun ≡ firsts coming (length begun)
-  pub left : (k : ℕ) → coming' k ≡ coming (k + length begun)
+-- the exchanges took the values to come, one each and no others; where there is none, that one stands for it
+pub record Take {E : Type 0} (value : Begun → E) (none : E) (coming coming' : List E) (begun : List Begun) : Type 0 where
+  pub taken : map value begun ≡ firsts_or none coming (length begun)
+  pub left : coming' ≡ behind_firsts coming (length begun)
 
 -- the numbers of the exchanges never fall; none is below the first number, nor above the last
 abbrev pub NoneOlder : ℕ → List Begun → ℕ → Type 0
@@ -64,8 +60,8 @@ pub record Noted (looks looks' : Looks) (clock clock' : ClockState) (begun : Lis
   pub looks_tell : looks'.tells ≡ looks.tells
   pub pair : looks'.pair ≡ looks.pair
   pub clock_tells : clock'.tells ≡ clock.tells
-  pub entries : IsTrue looks.tells → Take entry_of looks.coming looks'.coming begun
-  pub moments : IsTrue clock.tells → Take moment_of clock.coming clock'.coming begun
+  pub entries : IsTrue looks.tells → (none : Entry Config) → Take entry_of none looks.coming looks'.coming begun
+  pub moments : IsTrue clock.tells → Take moment_of 0 clock.coming clock'.coming begun
   pub goes_on : GoesOn looks.view looks'.view
   pub used : All (UsesOf looks'.view) begun
   pub none_older : NoneOlder (held_number looks) begun (held_number looks')
@@ -77,7 +73,7 @@ pub record TakesOne (looks looks' : Looks) (clock clock' : ClockState) (b : Begu
   pub clock_tells : clock'.tells ≡ clock.tells
   pub goes_on : GoesOn looks.view looks'.view
   pub used : EndsIn looks'.view (entry_of b)
-  pub look : IsTrue looks.tells → EndsIn looks'.view (looks.coming 0)
-  pub looks_left : IsTrue looks.tells → (k : ℕ) → looks'.coming k ≡ looks.coming (k + 1)
-  pub moment : IsTrue clock.tells → b.moment ≡ clock.coming 0
-  pub moments_left : IsTrue clock.tells → (k : ℕ) → clock'.coming k ≡ clock.coming (k + 1)
+  pub look : IsTrue looks.tells → LookGives looks.coming looks'.view
+  pub looks_left : IsTrue looks.tells → looks'.coming ≡ behind_first looks.coming
+  pub moment : IsTrue clock.tells → b.moment ≡ first_or 0 clock.coming
+  pub moments_left : IsTrue clock.tells → clock'.coming ≡ behind_first clock.coming

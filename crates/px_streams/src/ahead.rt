@@ -1,5 +1,5 @@
 // Bytes that were read ahead of a source.
-ghost use Rattle.std.specs.Prelude.{◌≡◌, ◌≢◌, ◌<◌, ◌≤◌, ◌++◌, [], length, drop, IsTrue, IfOk, OnOk, OnErr, Err, true, false};
+ghost use Rattle.std.specs.Prelude.{◌≡◌, ◌<◌, ◌≤◌, ◌+◌, ◌++◌, [], length, drop, IsTrue, IfOk, IfErr, true, false};
 ghost use Rattle.px_base.specs.Sources.{SourceGoesOn};
 ghost use Rattle.px_head.specs.Prints.{IsFrontOf};
 ghost use Rattle.px_streams.specs.Streams.{KeepsBytes, ReadCause};
@@ -94,29 +94,33 @@ impl Ahead {
             self.at = 0;
         }
     }
-
-    /// Adds bytes at the end. After a refusal the bytes are as before.
-    fn add(&mut self, bytes: &[u8]) -> Result<(), AllocError>
-        ensures ok { OnOk result (self.new ≡ self.old ++ bytes.now) }
-        ensures err { OnErr result (self.new ≡ self.old) }
-    {
-        self.bytes.extend_from_slice(bytes)?;
-        Ok(())
-    }
 }
 
-/// Reads a piece more. False means that the source is at its end. After want of memory the piece is lost.
-pub fn fill<S: Source>(source: &mut S, ahead: &mut Ahead) -> Result<bool, ReadFault>
-    ensures bytes { result ≢ Err ReadFault.Mem → KeepsBytes (S.state source.old) (S.state source.new) ahead.old ahead.new }
-    ensures end { IsTrue (S.state source.old).tells → IfOk result (λ more. more ≡ false → ((S.state source.old).left ≡ []) × ((S.state source.new).left ≡ [])) }
-    ensures more { IfOk result (λ more. more ≡ true → length ahead.old < length ahead.new) }
-    ensures longer { IfOk result (λ _. IsFrontOf ahead.old ahead.new) }
-    ensures failed { result ≡ Err ReadFault.Failed → ahead.new ≡ ahead.old }
+/// Reads a piece, and adds it at the end. The room is made before the read, so that after want of memory nothing was read.
+fn read_piece<S: Source>(source: &mut S, bytes: &mut Vec<u8>) -> Result<usize, ReadFault>
+    ensures added { IfOk result (λ count. (length bytes.new.items ≡ length bytes.old.items + count) × IsFrontOf bytes.old.items bytes.new.items) }
+    ensures read { IfOk result (λ count. IsTrue (S.state source.old).tells → bytes.new.items ++ (S.state source.new).left ≡ bytes.old.items ++ (S.state source.old).left) }
+    ensures end { IfOk result (λ count. count ≡ 0 → IsTrue (S.state source.old).tells → (S.state source.old).left ≡ []) }
+    ensures refused { IfErr result (λ _. (bytes.new.items ≡ bytes.old.items) × (IsTrue (S.state source.old).tells → (S.state source.new).left ≡ (S.state source.old).left)) }
     ensures cause { ReadCause (S.state source.old) (S.state source.new) result }
     ensures goes_on { SourceGoesOn (S.state source.old) (S.state source.new) }
 {
+    bytes.reserve(PIECE)?;
     let mut piece = [0u8; PIECE];
     let count = source.read(&mut piece)?;
-    ahead.add(&piece[..count])?;
-    Ok(count > 0)
+    let _added = bytes.extend_from_slice(&piece[..count]);
+    Ok(count)
+}
+
+/// Reads a piece more. False means that the source is at its end. After a refusal the bytes are as before, and nothing was read.
+pub fn fill<S: Source>(source: &mut S, ahead: &mut Ahead) -> Result<bool, ReadFault>
+    ensures bytes { KeepsBytes (S.state source.old) (S.state source.new) ahead.old ahead.new }
+    ensures end { IsTrue (S.state source.old).tells → IfOk result (λ more. more ≡ false → ((S.state source.old).left ≡ []) × ((S.state source.new).left ≡ [])) }
+    ensures more { IfOk result (λ more. more ≡ true → length ahead.old < length ahead.new) }
+    ensures longer { IfOk result (λ _. IsFrontOf ahead.old ahead.new) }
+    ensures refused { IfErr result (λ _. ahead.new ≡ ahead.old) }
+    ensures cause { ReadCause (S.state source.old) (S.state source.new) result }
+    ensures goes_on { SourceGoesOn (S.state source.old) (S.state source.new) }
+{
+    Ok(read_piece(source, &mut ahead.bytes)? > 0)
 }

@@ -1,21 +1,31 @@
 // A source with the bytes that were read ahead of it.
-ghost use Rattle.std.specs.Prelude.{◌≡◌, ◌≤◌, ◌++◌, [], length, take, IfOk};
+ghost use Rattle.std.specs.Prelude.{◌≡◌, ◌≤◌, [], length, take, IfOk};
+ghost use Rattle.px_streams.specs.Feeds.{fed_source};
 
 use crate::ahead::Ahead;
 use px_base::{Failed, Mem, Source};
 use std::alloc::Global;
+use std::marker::Model;
 
-/// A source with the bytes that were read ahead of it, which come first.
+/// A source with the bytes that were read ahead of it, which come first: one stream to contracts.
 #[derive(Drop)]
 pub struct Feed<S: Source> {
     pub source: S,
     pub ahead: Ahead,
 }
 
+impl<S: Source> Model for Feed<S> {
+    ghost use Rattle.px_streams.specs.Feeds.{FeedState};
+
+    ghost Value = { FeedState };
+
+    ghost view = { λ f. record { source = S.state f.source; ahead = f.ahead } };
+}
+
 impl<S: Source> Feed<S> {
     /// A feed that has read nothing ahead.
     pub fn new(alloc: Global, source: S) -> Result<Feed<S>, Mem>
-        ensures { IfOk result (λ feed. ⟦<Feed<S> as Source>⟧.state feed ≡ S.state source) }
+        ensures { IfOk result (λ feed. feed ≡ record { source = S.state source; ahead = [] }) }
     {
         Ok(Feed {
             source,
@@ -25,7 +35,7 @@ impl<S: Source> Feed<S> {
 }
 
 impl<S: Source> Source for Feed<S> {
-    ghost state = { λ f. record (S.state f.source) { left = f.ahead ++ (S.state f.source).left } };
+    ghost state = { λ f. fed_source f };
 
     fn read(&mut self, buf: &mut [u8]) -> Result<usize, Failed> {
         let waiting = self.ahead.as_bytes().len();

@@ -1,5 +1,5 @@
 // What stands at the front of a stream.
-ghost use Rattle.std.specs.Prelude.{◌≡◌, ◌≢◌, ◌<◌, ◌≤◌, ◌++◌, [], length, IsTrue, IfOk, Err};
+ghost use Rattle.std.specs.Prelude.{◌≡◌, ◌<◌, ◌≤◌, ◌++◌, [], length, IsTrue, IfOk, IfErr, Err};
 ghost use Rattle.px_base.specs.Sources.{SourceGoesOn};
 ghost use Rattle.px_head.specs.Blocks.{head_end};
 ghost use Rattle.px_streams.specs.Streams.{KeepsBytes, ReadCause, Stands};
@@ -23,7 +23,7 @@ pub enum Front {
 /// Reads on until a head block is whole, and uses it up.
 ///
 /// # Errors
-/// `Failed` where a read failed before. Then no head block is whole in the bytes that are read ahead.
+/// `Failed` where a read failed before. Then no head block is whole in the bytes that are read ahead. After an error no byte is lost.
 pub fn read_front<S: Source>(
     alloc: Global,
     source: &mut S,
@@ -33,7 +33,7 @@ pub fn read_front<S: Source>(
     ensures stands { IsTrue (S.state source.old).tells → IfOk result (λ front. Stands limit (ahead.old ++ (S.state source.old).left) front (ahead.new ++ (S.state source.new).left)) }
     ensures end { IsTrue (S.state source.old).tells → IfOk result (λ front. front ≡ Front.End → (S.state source.new).left ≡ []) }
     ensures failed { result ≡ Err ReadFault.Failed → head_end limit ahead.new ≡ HeadEnd.NotYet }
-    ensures bytes { result ≡ Err ReadFault.Failed → KeepsBytes (S.state source.old) (S.state source.new) ahead.old ahead.new }
+    ensures bytes { IfErr result (λ _. KeepsBytes (S.state source.old) (S.state source.new) ahead.old ahead.new) }
     ensures cause { ReadCause (S.state source.old) (S.state source.new) result }
     ensures goes_on { SourceGoesOn (S.state source.old) (S.state source.new) }
 {

@@ -28,7 +28,7 @@ returns-then-not-more-clause-sends g c t p =
     let none : c.send_piece.new.ahead ++ (g.S.Source.state c.pieces.client_in).left ≡ [] =
     ap (λ (zs : List ℕ). zs ++ (g.S.Source.state c.pieces.client_in).left) (c.in-Ok.ensures.used_up m) ∙ ended.0 in
     rw c.body_sent-then-not-more.ensures.value
-    (sent_to_end c.args.rule _ _ _ _ _ c.end.result c.send_piece.new.reader on none (sym (c.in-Ok-fill.ensures.bytes (λ e. cc) tells) ∙ none) c.in-Ok.ensures.settled (sym c.in-Ok.ensures.state ∙ m) (c.end.ensures.by_rule c.args.rule))
+    (sent_to_end c.args.rule _ _ _ _ _ c.end.result c.send_piece.new.reader on none (sym (c.in-Ok-fill.ensures.bytes tells) ∙ none) c.in-Ok.ensures.settled (sym c.in-Ok.ensures.state ∙ m) (c.end.ensures.by_rule c.args.rule))
 
 pub pieces-preserved : goal.pieces-preserved
 pieces-preserved g c =
@@ -36,7 +36,7 @@ pieces-preserved g c =
     let m : c.in-Ok.state ≡ state.More = search rules in
     record {
       so_far = λ t p.
-          still_so_far c.args.rule _ _ _ _ _ c.send_piece.new.reader (c.in-Ok-fill.ensures.bytes (λ e. cc) (i.in_goes_on.tells_same ∙ t))
+          still_so_far c.args.rule _ _ _ _ _ c.send_piece.new.reader (c.in-Ok-fill.ensures.bytes (i.in_goes_on.tells_same ∙ t))
           (sent_on c.args.rule _ c.pieces.ahead c.send_piece.new.ahead (g.S.Source.state c.pieces.client_in).left _ _ _ c.in-Ok.state c.pieces.reader c.send_piece.new.reader (i.so_far t p)
           (c.in-Ok.ensures.passes (i.link_goes_on.tells_same ∙ p) c.args.rule) m (c.in-Ok.ensures.used_up m));
       in_faults_same = c.in-Ok-fill.ensures.cause ∙ i.in_faults_same;

@@ -18,7 +18,7 @@ returns-in-Ok-End-clause-turned g c = turned_none (λ t.
 
 pub returns-in-Err-Failed-clause-turned : goal.returns-in-Err-Failed-clause-turned
 returns-in-Err-Failed-clause-turned g c = turned_none (λ t.
-    (c.read_front.new.ahead, c.in-Err-Failed.ensures.bytes (rw c.in-Err-Failed.field-0-is refl) t.client_in, c.in-Err-Failed.ensures.failed (rw c.in-Err-Failed.field-0-is refl)))
+    (c.read_front.new.ahead, c.in-Err-Failed.ensures.bytes t.client_in, c.in-Err-Failed.ensures.failed (rw c.in-Err-Failed.field-0-is refl)))
 
 pub returns-in-Err-Mem-clause-turned : goal.returns-in-Err-Mem-clause-turned
 returns-in-Err-Mem-clause-turned g c = turned_none (λ t. tt)
