@@ -1,6 +1,6 @@
 -- Refusals of lines, and faults of files.
 use Rattle.std.proofs.Common.{◌≡◌, ◌≢◌, ℕ, List, Option, None, Some, Result, Ok, Err, refl, sym, ap, ◌∙◌}
-use Rattle.std.specs.Prelude.{option_map}
+use Rattle.std.specs.Prelude.{IfErr, option_map}
 use Rattle.px_text.specs.declared.lines.Line.{Line}
 use Rattle.px_text.specs.declared.faults.TextFault.{TextFault}
 use Rattle.px_text.specs.declared.faults.TextFault.TheVariants as text
@@ -21,6 +21,7 @@ use Rattle.px_config.specs.Actions.{within}
 use Rattle.px_config.specs.Filters.{filters_or, seen_filter_fault}
 use Rattle.px_config.specs.Faults.{Fault, IsFault, IsOf, at_file, fault_at}
 use Rattle.px_config.specs.Pages.{pieces_or, seen_template_fault}
+use Rattle.px_config.specs.Loading.{IsLoadFault}
 use Rattle.px_config.specs.Parts.{lines_or, seen_text_fault}
 
 -- the refusal of a file, with the file's name, is the fault
@@ -72,3 +73,10 @@ pub filter_sound : (meaning read : Result FilterFile FilterFault) (file : Filter
 filter_sound meaning read file was is =
     let other : read ≢ Err filtering.Mem = λ e. (cc) in
     ap filters_or (sym (is other) ∙ was)
+
+-- a fault of the gathered files is one of loading
+pub load_fault : {X T : Type 0} (result : Result T LoadFault) (meaning : Result X Fault) → IfErr result (IsFault meaning) → IfErr result (IsLoadFault meaning)
+load_fault (Ok x) meaning is = tt
+load_fault (Err (fault.Spelled file line number)) meaning is = is
+load_fault (Err (fault.Read file)) meaning is = tt
+load_fault (Err fault.Mem) meaning is = tt

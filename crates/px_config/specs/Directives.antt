@@ -1,5 +1,5 @@
 -- The lines of the main file: a directive's name, white space, and a value (Privoxy's manual, "The Main Configuration File").
-use Rattle.std.specs.Prelude.{ℕ, Bool, List, [], ◌∷◌, filter_map, Option, Some, None, codes, if◌then◌else◌}
+use Rattle.std.specs.Prelude.{ℕ, Bool, List, [], ◌∷◌, ◌++◌, filter_map, Option, Some, None, codes, if◌then◌else◌}
 use Rattle.std.specs.List.{before_first, after_first}
 use Rattle.std.specs.Str.{str_eq_ignore_ascii_case}
 use Rattle.px_base.specs.Blanks.{is_blank, trimmed}
@@ -21,13 +21,22 @@ abbrev pub nonempty : List ℕ → Option (List ℕ)
 nonempty [] = None
 nonempty (b ∷ bs) = Some (b ∷ bs)
 
+-- the value that a name and a value give for a directive, if they are of it and there is one
+abbrev pub value_given : List ℕ → List ℕ → List ℕ → Option (List ℕ)
+value_given word name value = if is_named name word then nonempty value else None
+
 -- the value of a line of this directive, if it has one
 abbrev pub value_for : List ℕ → Line → Option (List ℕ)
-value_for word line = if is_named (name_in line.text) word then nonempty (value_in line.text) else None
+value_for word line = value_given word (name_in line.text) (value_in line.text)
 
 -- the values of a directive, in the order of its lines
 unfoldable pub values_of : List ℕ → List Line → List (List ℕ)
 values_of word lines = filter_map (value_for word) lines
+
+-- values with one more behind them, if there is one
+abbrev pub with_value : List (List ℕ) → Option (List ℕ) → List (List ℕ)
+with_value values None = values
+with_value values (Some value) = values ++ value ∷ []
 
 -- the last of some values, or the one before them
 abbrev pub last_of : Option (List ℕ) → List (List ℕ) → Option (List ℕ)

@@ -26,6 +26,12 @@ IsFault {X} meaning (fault.Spelled file line number) = meaning ≡ fault_at file
 IsFault {X} meaning (fault.Read file) = ⊥
 IsFault {X} meaning fault.Mem = Unit {0}
 
+-- the fault isn't that a file couldn't be read
+abbrev pub IsNoRead : LoadFault → Type 0
+IsNoRead (fault.Spelled file line number) = Unit {0}
+IsNoRead (fault.Read file) = ⊥
+IsNoRead fault.Mem = Unit {0}
+
 -- the refusal at a line of a file, with the file's name
 abbrev pub IsOf : List ℕ → FileFault → LoadFault → Type 0
 IsOf name (at.At line number) (fault.Spelled file l n) = (file ≡ name) × ((l ≡ line) × (n ≡ number))

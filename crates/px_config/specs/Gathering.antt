@@ -1,5 +1,5 @@
 -- Which files are read, and what of them is kept.
-use Rattle.std.specs.Prelude.{◌≡◌, ℕ, ◌||◌, not, Bool, Contains, List, [], ◌∷◌, ◌++◌, Option, Some, None, Result, MatchResult, IsTrue, if◌then◌else◌}
+use Rattle.std.specs.Prelude.{◌≡◌, ℕ, ◌||◌, not, Bool, Contains, List, [], ◌∷◌, ◌++◌, Option, Some, Result, Ok, Err, MatchResult, IsTrue, if◌then◌else◌}
 use Rattle.std.specs.Str.{is_utf8}
 use Rattle.px_base.specs.Causes.{Rose}
 use Rattle.px_base.specs.Contents.{Contents, FilesState, Unchanged, content_of}
@@ -9,8 +9,11 @@ use Rattle.px_config.specs.declared.faults.LoadFault.{LoadFault}
 use Rattle.px_config.specs.declared.faults.LoadFault.TheVariants as fault
 use Rattle.px_config.specs.declared.sets.FileSet.{FileSet}
 use Rattle.px_config.specs.declared.sets.TheConstants.{FILE_LIMIT}
-use Rattle.px_config.specs.Names.{action_names, confdir, filter_names, full_name, template_names, templdir}
-use Rattle.px_config.specs.Sets.{Item, all_included, is_in, readable_lines}
+use Rattle.px_action_files.specs.Faults.{Refused}
+use Rattle.px_config.specs.declared.names.Places.{Places}
+use Rattle.px_config.specs.Names.{full_name, places_of, template_names}
+use Rattle.px_config.specs.Parts.{content_lines}
+use Rattle.px_config.specs.Sets.{Item, all_included, is_in}
 
 -- a file with what it holds
 abbrev pub item_of : Contents → List ℕ → Item
@@ -26,25 +29,25 @@ with_files contents folder items [] = items
 with_files contents folder items (name ∷ names) = with_files contents folder (with_item contents items (full_name folder name)) names
 
 -- the main file, and the files that its lines name: action files, filter files, and then templates and images
-unfoldable pub named_items : Contents → List ℕ → List Line → List Item
-named_items contents main lines =
-    let files = with_files contents (confdir main lines) (item_of contents main ∷ []) (action_names lines ++ filter_names lines) in
-    with_files contents (Some (templdir main lines)) files template_names
+unfoldable pub named_items : Contents → List ℕ → Places → List Item
+named_items contents main places =
+    let files = with_files contents places.confdir (item_of contents main ∷ []) (places.action_files ++ places.filter_files) in
+    with_files contents (Some places.templdir) files template_names
 
 -- and the texts that the templates include
-unfoldable pub all_items : Contents → List ℕ → List Line → List Item
-all_items contents main lines =
-    let items = named_items contents main lines in
-    with_files contents (Some (templdir main lines)) items (all_included items (templdir main lines))
+unfoldable pub all_items : Contents → List ℕ → Places → List Item
+all_items contents main places =
+    let items = named_items contents main places in
+    with_files contents (Some places.templdir) items (all_included items places.templdir)
 
 -- a main file whose lines can't be read names no other file
-abbrev pub items_by : Contents → List ℕ → Option (List Line) → List Item
-items_by contents main None = item_of contents main ∷ []
-items_by contents main (Some lines) = all_items contents main lines
+abbrev pub items_by : Contents → List ℕ → Result (List Line) Refused → List Item
+items_by contents main (Ok lines) = all_items contents main (places_of main lines)
+items_by contents main (Err refusal) = item_of contents main ∷ []
 
 -- the files of a configuration, and what each holds: each file once, in the order in which it is named first
 unfoldable pub gathered : Contents → List ℕ → FileSet
-gathered contents main = record { main = main; items = items_by contents main (readable_lines (content_of FILE_LIMIT (contents main))) }
+gathered contents main = record { main = main; items = items_by contents main (content_lines (content_of FILE_LIMIT (contents main))) }
 
 -- files that were only read
 pub record OnlyReads (old new : FilesState) : Type 0 where
@@ -73,18 +76,18 @@ IsReadFault written fault.Mem = Unit {0}
 
 -- the names that the main file's lines and the templates give, as they are written there and in the order in which their files
 -- are read: action files, filter files, templates and images, and the texts that the templates include
-unfoldable pub names_behind : Contents → List ℕ → List Line → List (List ℕ)
-names_behind contents main lines =
-    (action_names lines ++ filter_names lines) ++ (template_names ++ all_included (named_items contents main lines) (templdir main lines))
+unfoldable pub names_behind : Contents → List ℕ → Places → List (List ℕ)
+names_behind contents main places =
+    (places.action_files ++ places.filter_files) ++ (template_names ++ all_included (named_items contents main places) places.templdir)
 
 -- a main file whose lines can't be read names no other file
-abbrev pub names_by : Contents → List ℕ → Option (List Line) → List (List ℕ)
-names_by contents main None = []
-names_by contents main (Some lines) = names_behind contents main lines
+abbrev pub names_by : Contents → List ℕ → Result (List Line) Refused → List (List ℕ)
+names_by contents main (Ok lines) = names_behind contents main (places_of main lines)
+names_by contents main (Err refusal) = []
 
 -- the names of the files that a configuration is made of: that of the main file, and those that the files give
 unfoldable pub names_read : Contents → List ℕ → List (List ℕ)
-names_read contents main = main ∷ names_by contents main (readable_lines (content_of FILE_LIMIT (contents main)))
+names_read contents main = main ∷ names_by contents main (content_lines (content_of FILE_LIMIT (contents main)))
 
 -- the file that couldn't be read has one of these names
 abbrev pub ReadsOneOf : List (List ℕ) → LoadFault → Type 0

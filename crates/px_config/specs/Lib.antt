@@ -10,6 +10,7 @@ pub mod Pages
 pub mod Addresses
 pub mod Seen
 pub mod Mains
+pub mod MainFiles
 pub mod Filters
 pub mod Spelling
 pub mod Loading

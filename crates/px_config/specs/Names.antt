@@ -3,6 +3,7 @@ use Rattle.std.specs.Prelude.{ℕ, Bool, false, ◌==◌, List, [], ◌∷◌, �
 use Rattle.px_text.specs.declared.lines.Line.{Line}
 use Rattle.px_templates.specs.declared.pages.TheConstants.{PAGES}
 use Rattle.px_templates.specs.Pages.{page_name}
+use Rattle.px_config.specs.declared.names.Places.{Places}
 use Rattle.px_config.specs.declared.names.TheConstants.{SLASH, FILES_OF_A_KIND}
 use Rattle.px_config.specs.Directives.{last_value, values_of}
 
@@ -47,6 +48,15 @@ action_names lines = take FILES_OF_A_KIND (values_of (codes "actionsfile") lines
 
 unfoldable pub filter_names : List Line → List (List ℕ)
 filter_names lines = take FILES_OF_A_KIND (values_of (codes "filterfile") lines)
+
+-- what the lines of the main file say of other files
+abbrev pub places_of : List ℕ → List Line → Places
+places_of main lines = record {
+  action_files = action_names lines;
+  filter_files = filter_names lines;
+  confdir = confdir main lines;
+  templdir = templdir main lines;
+}
 
 -- the names of the templates, in the order of the pages
 unfoldable pub page_names : List (List ℕ)

@@ -1,14 +1,10 @@
 -- Sets of files, and what of them is read.
-use Rattle.std.specs.Prelude.{ℕ, ◌==◌, ◌&&◌, Bool, not, List, [], ◌∷◌, filter, flat_map, Option, Some, None, map, All, if◌then◌else◌}
+use Rattle.std.specs.Prelude.{ℕ, ◌==◌, ◌&&◌, Bool, not, List, [], ◌∷◌, filter, flat_map, Some, All, if◌then◌else◌}
 use Rattle.std.specs.List.{list_any}
 use Rattle.std.specs.Str.{bytes_eq, is_utf8}
 use Rattle.px_base.specs.declared.files.Content.{Content}
 use Rattle.px_base.specs.declared.files.Content.TheVariants as content
 use Rattle.px_base.specs.Contents.{FitsLimit}
-use Rattle.px_text.specs.declared.lines.Line.{Line}
-use Rattle.px_text.specs.Faults.{first_fault}
-use Rattle.px_text.specs.Lines.{logical}
-use Rattle.px_text.specs.declared.faults.TextFault.{TextFault}
 use Rattle.px_templates.specs.Lines.{included_names}
 use Rattle.px_config.specs.declared.names.TheConstants.{SLASH}
 use Rattle.px_config.specs.declared.sets.TheConstants.{FILE_LIMIT}
@@ -29,17 +25,6 @@ is_in items name = list_any (λ item. bytes_eq item.0 name) items
 -- what is found is within the limit
 abbrev pub FitsItem : Item → Type 0
 FitsItem item = FitsLimit FILE_LIMIT item.1
-
--- a text's lines, if none of them is refused
-abbrev pub lines_without : Option TextFault → List Line → Option (List Line)
-lines_without None lines = Some lines
-lines_without (Some fault) lines = None
-
--- the lines of a file, if they can be read
-unfoldable pub readable_lines : Content → Option (List Line)
-readable_lines content.Missing = None
-readable_lines content.Over = None
-readable_lines (content.Found text) = lines_without (first_fault text) (logical text)
 
 -- a text may be included by a name without a slash
 abbrev pub may_include : List ℕ → Bool

@@ -16,13 +16,14 @@ use Rattle.px_config.specs.declared.settings.Note.{Note}
 use Rattle.px_config.specs.declared.settings.Settings.{Settings}
 use Rattle.px_config.specs.Faults.{Fault, at_file}
 use Rattle.px_config.specs.Mains.{main_of, parts_of}
-use Rattle.px_config.specs.Names.{action_names, confdir, filter_names, template_names, templdir}
+use Rattle.px_config.specs.Names.{places_of, template_names}
 use Rattle.px_config.specs.Actions.{ActionsGiven, ActionsSeen, action_files, no_actions}
 use Rattle.px_config.specs.Filters.{filter_files}
 use Rattle.px_config.specs.Pages.{all_fit, pages_of, text_in}
 use Rattle.px_config.specs.Parts.{file_lines}
 use Rattle.px_config.specs.Sets.{Item, all_included}
 use Rattle.px_config.specs.declared.filters.FilterFiles.{FilterFiles}
+use Rattle.px_config.specs.declared.names.Places.{Places}
 use Rattle.px_config.specs.declared.settings.MainParts.{MainParts}
 
 -- ---- what a configuration is
@@ -93,18 +94,18 @@ unfoldable pub behind_filters : List Item → List ℕ → Settings → List For
 behind_filters items folder settings forwards actions filters = and_then (sizes items folder) (λ done. behind_sizes items folder settings forwards actions filters)
 
 -- 4. the filter files
-unfoldable pub behind_actions : FileSet → List Line → MainParts → ActionsGiven → Result ConfigSeen Fault
-behind_actions set lines parts actions =
-    and_then (filter_files set.items (confdir set.main lines) (no_filters parts.notes) (filter_names lines))
-    (behind_filters set.items (templdir set.main lines) parts.settings parts.forwards actions)
+unfoldable pub behind_actions : FileSet → Places → MainParts → ActionsGiven → Result ConfigSeen Fault
+behind_actions set places parts actions =
+    and_then (filter_files set.items places.confdir (no_filters parts.notes) places.filter_files)
+    (behind_filters set.items places.templdir parts.settings parts.forwards actions)
 
 -- 3. the action files
-unfoldable pub behind_main : FileSet → List Line → MainParts → Result ConfigSeen Fault
-behind_main set lines parts = and_then (action_files set.items (confdir set.main lines) parts.settings.pattern_limit no_actions (action_names lines)) (behind_actions set lines parts)
+unfoldable pub behind_main : FileSet → Places → MainParts → Result ConfigSeen Fault
+behind_main set places parts = and_then (action_files set.items places.confdir parts.settings.pattern_limit no_actions places.action_files) (behind_actions set places parts)
 
 -- 2. the lines of the main file
 unfoldable pub behind_lines : FileSet → List Line → Result ConfigSeen Fault
-behind_lines set lines = and_then (at_file set.main (main_of set.main lines)) (λ m. behind_main set lines (parts_of m))
+behind_lines set lines = and_then (at_file set.main (main_of set.main lines)) (λ m. behind_main set (places_of set.main lines) (parts_of m))
 
 -- the configuration for which a set stands, or the first fault: 1. the main file and its lines
 unfoldable pub spelled : FileSet → Result ConfigSeen Fault

@@ -47,7 +47,7 @@ fn file_fault(number: u8) -> FileFault
 
 /// The lines of a file: it isn't over the limit, and its lines can be read.
 #[tactic(auto, unfolding(crate::specs::Parts::content_lines), using(crate::proofs::FaultLemmas::text_rules))]
-fn content_lines(alloc: Global, content: &Content) -> Result<List<Line>, FileFault>
+pub(crate) fn content_lines(alloc: Global, content: &Content) -> Result<List<Line>, FileFault>
     requires { FitsLimit FILE_LIMIT content.now }
     ensures lines { IfOk result (λ lines. content_lines content.now ≡ Ok lines) }
     ensures refused { IfErr result (IsReported (content_lines content.now)) }

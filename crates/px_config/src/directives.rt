@@ -1,12 +1,12 @@
 // The directives of the main file, and its lines.
-ghost use Rattle.std.specs.Prelude.{◌≡◌, ◌<◌, length, IfOk, IfSome, option_copied};
+ghost use Rattle.std.specs.Prelude.{◌≡◌, ◌<◌, length, IfSome, OnOk, option_copied};
 ghost use Rattle.std.specs.List.{position};
 ghost use Rattle.px_base.specs.Blanks.{is_blank};
-ghost use Rattle.px_config.specs.Directives.{last_value, name_in, nonempty, value_for, value_in, values_of};
+ghost use Rattle.px_config.specs.Directives.{name_in, nonempty, value_given, value_in, with_value};
 ghost use Rattle.px_config.specs.Mains.{directive_of, row_of};
+ghost use Rattle.px_config.specs.Names.{or_else};
 
-use px_base::{Mem, Text, is_blank, same_without_case, trim};
-use px_text::Line;
+use px_base::{List, Mem, Text, is_blank, same_without_case, trim};
 use std::alloc::Global;
 
 /// A directive of the main file (Privoxy's manual, "The Main Configuration File").
@@ -129,11 +129,10 @@ fn nonempty(value: &[u8]) -> Option<&[u8]>
     if value.is_empty() { None } else { Some(value) }
 }
 
-/// The value of a line of this directive, if it has one.
-fn value_for<'l>(line: &'l Line, word: &[u8]) -> Option<&'l [u8]>
-    ensures { option_copied result ≡ value_for word.now line.now }
+/// The value that a line's name and value give for a directive, if they are of it and there is one.
+fn value_given<'v>(word: &[u8], name: &[u8], value: &'v [u8]) -> Option<&'v [u8]>
+    ensures { option_copied result ≡ value_given word.now name.now value.now }
 {
-    let (name, value) = split_directive(line.text.as_bytes());
     if same_without_case(name, word) {
         nonempty(value)
     } else {
@@ -141,34 +140,34 @@ fn value_for<'l>(line: &'l Line, word: &[u8]) -> Option<&'l [u8]>
     }
 }
 
-/// The values of a directive, in the order of its lines.
-#[tactic(auto, unfolding(crate::specs::Directives::values_of))]
-pub(crate) fn values(alloc: Global, lines: &[Line], word: &[u8]) -> Result<Vec<Text>, Mem>
-    ensures { IfOk result (λ values. values.items ≡ values_of word.now lines.now) }
+/// Adds the value of a directive, if a line of this name and value gives one.
+pub(crate) fn add_value(
+    alloc: Global,
+    word: &[u8],
+    name: &[u8],
+    value: &[u8],
+    values: &mut List<Text>,
+) -> Result<(), Mem>
+    ensures { OnOk result (values.new ≡ with_value values.old (value_given word.now name.now value.now)) }
 {
-    let mut values = Vec::new(alloc);
-    let mut rest = lines;
-    'lines: while let Some((line, others)) = rest.split_first() {
-        if let Some(value) = value_for(line, word) {
-            values.push(Text::from_bytes(alloc, value)?)?;
-        }
-        rest = others;
+    match value_given(word, name, value) {
+        Some(value) => values.add(Text::from_bytes(alloc, value)?),
+        None => Ok(()),
     }
-    Ok(values)
 }
 
-/// The last value of a directive, if a line has one.
-#[tactic(auto, unfolding(crate::specs::Directives::values_of))]
-pub(crate) fn last_value<'l>(lines: &'l [Line], word: &[u8]) -> Option<&'l [u8]>
-    ensures { option_copied result ≡ last_value word.now lines.now }
+/// Keeps the value of a directive, if a line of this name and value gives one.
+pub(crate) fn keep_value(
+    alloc: Global,
+    word: &[u8],
+    name: &[u8],
+    value: &[u8],
+    last: &mut Option<Text>,
+) -> Result<(), Mem>
+    ensures { OnOk result (last.new ≡ or_else (value_given word.now name.now value.now) last.old) }
 {
-    let mut last = None;
-    let mut rest = lines;
-    'lines: while let Some((line, others)) = rest.split_first() {
-        if let Some(value) = value_for(line, word) {
-            last = Some(value);
-        }
-        rest = others;
+    if let Some(value) = value_given(word, name, value) {
+        *last = Some(Text::from_bytes(alloc, value)?);
     }
-    last
+    Ok(())
 }

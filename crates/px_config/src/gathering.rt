@@ -1,18 +1,21 @@
 // Reading the files of a configuration.
-ghost use Rattle.std.specs.Prelude.{◌≡◌, ◌++◌, ◌∷◌, [], ℕ, All, IfOk, IfErr, IsTrue, OnOk, option_copied};
+ghost use Rattle.std.specs.Prelude.{◌≡◌, ◌++◌, ◌∷◌, [], ℕ, All, Err, IfOk, IfErr, IsTrue, Ok, OnOk, Some, option_copied};
 ghost use Rattle.px_base.specs.Contents.{FilesGoOn, FitsLimit, content_of};
 ghost use Rattle.px_config.specs.Gathering.{GatherCause, GatherCauses, IsReadFault, OnlyReads, ReadsOneOf, all_items, gathered, item_of, names_behind, names_read, with_files, with_item};
-ghost use Rattle.px_config.specs.Names.{action_names, confdir, filter_names};
-ghost use Rattle.px_config.specs.Sets.{FitsItem};
+ghost use Rattle.px_config.specs.MainFiles.{IsMainOf};
+ghost use Rattle.px_config.specs.Names.{places_of, template_names};
+ghost use Rattle.px_config.specs.Parts.{content_lines};
+ghost use Rattle.px_config.specs.Sets.{FitsItem, all_included};
 ghost use Rattle.px_base.specs.Causes.{Rose};
 
+use crate::contents::content_lines;
 use crate::faults::LoadFault;
 use crate::indexes::Gathered;
-use crate::names::{
-    action_names, confdir, filter_names, full_name, page_names, template_names, templdir,
-};
-use crate::sets::{FILE_LIMIT, FileSet, all_included, readable_lines};
-use px_base::{Content, Files, FilesFault, Mem, Text, as_text};
+use crate::main_files::MainFile;
+use crate::names::{Places, full_name, template_names};
+use crate::sets::{FILE_LIMIT, FileSet, all_included};
+use px_action_files::FileFault;
+use px_base::{Content, Files, FilesFault, List, Mem, Text, as_text};
 use px_text::Line;
 use std::alloc::Global;
 
@@ -103,60 +106,182 @@ fn read_files<F: Files>(
     Ok(())
 }
 
+/// Files that were read, and what the main file among them gives, or the refusal of the whole main file.
+#[derive(Drop)]
+pub(crate) struct FilesRead {
+    pub(crate) set: FileSet,
+    pub(crate) main: Result<MainFile, FileFault>,
+}
+
 /// Reads the files that the main file's lines name, and then the texts that the templates include.
 #[tactic(auto, using(crate::proofs::GatherLemmas::reads_rules), unfolding(crate::specs::Gathering::all_items, crate::specs::Gathering::named_items, crate::specs::Gathering::names_behind))]
 fn read_named<F: Files>(
     alloc: Global,
     files: &mut F,
     main: &[u8],
-    lines: &[Line],
+    places: &Places,
     items: &mut Gathered,
 ) -> Result<(), LoadFault>
-    ensures items { IsTrue (F.state files.old).tells → items.old ≡ item_of (F.state files.old).contents main.now ∷ [] → OnOk result (items.new ≡ all_items (F.state files.old).contents main.now lines.now) }
+    ensures items { IsTrue (F.state files.old).tells → items.old ≡ item_of (F.state files.old).contents main.now ∷ [] → OnOk result (items.new ≡ all_items (F.state files.old).contents main.now places.now) }
     ensures fits { OnOk result (All FitsItem items.old → All FitsItem items.new) }
-    ensures named { IsTrue (F.state files.old).tells → items.old ≡ item_of (F.state files.old).contents main.now ∷ [] → IfErr result (ReadsOneOf (names_behind (F.state files.old).contents main.now lines.now)) }
+    ensures named { IsTrue (F.state files.old).tells → items.old ≡ item_of (F.state files.old).contents main.now ∷ [] → IfErr result (ReadsOneOf (names_behind (F.state files.old).contents main.now places.now)) }
     ensures cause { GatherCauses (F.state files.old) (F.state files.new) result }
     ensures only_reads { OnlyReads (F.state files.old) (F.state files.new) }
     ensures go_on { FilesGoOn (F.state files.old) (F.state files.new) }
 {
-    read_listed(alloc, files, main, lines, items)?;
-    let folder = templdir(alloc, main, lines)?;
-    let folder = folder.as_bytes();
-    let names = template_names(alloc)?;
-    read_files(alloc, files, Some(folder), names.as_slice(), items)?;
-    let pages = page_names(alloc)?;
-    let included = all_included(alloc, items.as_slice(), folder, pages.as_slice())?;
-    read_files(alloc, files, Some(folder), included.as_slice(), items)?;
+    let folder = places.templdir.as_bytes();
+    read_listed(alloc, files, places, items)?;
+    read_templates(alloc, files, folder, items)?;
+    read_included(alloc, files, folder, items)?;
     Ok(())
 }
 
-/// The names of the action files, and of the filter files behind them.
-fn listed_names(alloc: Global, lines: &[Line]) -> Result<Vec<Text>, Mem>
-    ensures { IfOk result (λ names. names.items ≡ action_names lines.now ++ filter_names lines.now) }
-{
-    let mut names = action_names(alloc, lines)?.into_vec();
-    let mut others = filter_names(alloc, lines)?.into_vec();
-    names.append(&mut others)?;
-    Ok(names)
-}
-
 /// Reads the action files and the filter files.
+#[tactic(auto, using(crate::proofs::GatherLemmas::reads_rules))]
 fn read_listed<F: Files>(
     alloc: Global,
     files: &mut F,
-    main: &[u8],
-    lines: &[Line],
+    places: &Places,
     items: &mut Gathered,
 ) -> Result<(), LoadFault>
-    ensures items { IsTrue (F.state files.old).tells → OnOk result (items.new ≡ with_files (F.state files.old).contents (confdir main.now lines.now) items.old (action_names lines.now ++ filter_names lines.now)) }
+    ensures items { IsTrue (F.state files.old).tells → OnOk result (items.new ≡ with_files (F.state files.old).contents places.now.confdir items.old (places.now.action_files ++ places.now.filter_files)) }
     ensures fits { OnOk result (All FitsItem items.old → All FitsItem items.new) }
-    ensures named { IfErr result (ReadsOneOf (action_names lines.now ++ filter_names lines.now)) }
+    ensures named { IfErr result (ReadsOneOf (places.now.action_files ++ places.now.filter_files)) }
     ensures cause { GatherCauses (F.state files.old) (F.state files.new) result }
     ensures only_reads { OnlyReads (F.state files.old) (F.state files.new) }
     ensures go_on { FilesGoOn (F.state files.old) (F.state files.new) }
 {
-    let names = listed_names(alloc, lines)?;
-    read_files(alloc, files, confdir(main, lines), names.as_slice(), items)
+    let folder = places.folder();
+    read_files(alloc, files, folder, places.action_files.as_slice(), items)?;
+    read_files(alloc, files, folder, places.filter_files.as_slice(), items)?;
+    Ok(())
+}
+
+/// Reads the templates and the images.
+fn read_templates<F: Files>(
+    alloc: Global,
+    files: &mut F,
+    folder: &[u8],
+    items: &mut Gathered,
+) -> Result<(), LoadFault>
+    ensures items { IsTrue (F.state files.old).tells → OnOk result (items.new ≡ with_files (F.state files.old).contents (Some folder.now) items.old template_names) }
+    ensures fits { OnOk result (All FitsItem items.old → All FitsItem items.new) }
+    ensures named { IfErr result (ReadsOneOf template_names) }
+    ensures cause { GatherCauses (F.state files.old) (F.state files.new) result }
+    ensures only_reads { OnlyReads (F.state files.old) (F.state files.new) }
+    ensures go_on { FilesGoOn (F.state files.old) (F.state files.new) }
+{
+    let names = template_names(alloc)?;
+    read_files(alloc, files, Some(folder), names.as_slice(), items)
+}
+
+/// Reads the texts that the templates include.
+fn read_included<F: Files>(
+    alloc: Global,
+    files: &mut F,
+    folder: &[u8],
+    items: &mut Gathered,
+) -> Result<(), LoadFault>
+    ensures items { IsTrue (F.state files.old).tells → OnOk result (items.new ≡ with_files (F.state files.old).contents (Some folder.now) items.old (all_included items.old folder.now)) }
+    ensures fits { OnOk result (All FitsItem items.old → All FitsItem items.new) }
+    ensures named { IfErr result (ReadsOneOf (all_included items.old folder.now)) }
+    ensures cause { GatherCauses (F.state files.old) (F.state files.new) result }
+    ensures only_reads { OnlyReads (F.state files.old) (F.state files.new) }
+    ensures go_on { FilesGoOn (F.state files.old) (F.state files.new) }
+{
+    let names = all_included(alloc, items.as_slice(), folder)?;
+    read_files(alloc, files, Some(folder), names.as_slice(), items)
+}
+
+/// The items of the main file and of the files that its lines name.
+fn read_items<F: Files>(
+    alloc: Global,
+    files: &mut F,
+    main: &[u8],
+    content: Content,
+    places: &Places,
+) -> Result<List<(Text, Content)>, LoadFault>
+    ensures items { IsTrue (F.state files.old).tells → content ≡ content_of FILE_LIMIT ((F.state files.old).contents main.now) → IfOk result (λ items. items ≡ all_items (F.state files.old).contents main.now places.now) }
+    ensures fits { FitsLimit FILE_LIMIT content → IfOk result (All FitsItem) }
+    ensures named { IsTrue (F.state files.old).tells → content ≡ content_of FILE_LIMIT ((F.state files.old).contents main.now) → IfErr result (ReadsOneOf (names_behind (F.state files.old).contents main.now places.now)) }
+    ensures cause { GatherCauses (F.state files.old) (F.state files.new) result }
+    ensures only_reads { OnlyReads (F.state files.old) (F.state files.new) }
+    ensures go_on { FilesGoOn (F.state files.old) (F.state files.new) }
+{
+    let mut items = Gathered::new(alloc);
+    items.add(alloc, Text::from_bytes(alloc, main)?, content)?;
+    read_named(alloc, files, main, places, &mut items)?;
+    Ok(items.into_items())
+}
+
+/// Goes on with a main file whose lines can be read.
+fn read_behind<F: Files>(
+    alloc: Global,
+    files: &mut F,
+    main: &[u8],
+    content: Content,
+    lines: List<Line>,
+) -> Result<FilesRead, LoadFault>
+    ensures set { IsTrue (F.state files.old).tells → content ≡ content_of FILE_LIMIT ((F.state files.old).contents main.now) → IfOk result (λ read. read.set ≡ record { main = main.now; items = all_items (F.state files.old).contents main.now (places_of main.now lines) }) }
+    ensures file { IfOk result (λ read. IsMainOf main.now (Ok lines) read.main) }
+    ensures fits { FitsLimit FILE_LIMIT content → IfOk result (λ read. All FitsItem read.set.items) }
+    ensures named { IsTrue (F.state files.old).tells → content ≡ content_of FILE_LIMIT ((F.state files.old).contents main.now) → IfErr result (ReadsOneOf (names_behind (F.state files.old).contents main.now (places_of main.now lines))) }
+    ensures cause { GatherCauses (F.state files.old) (F.state files.new) result }
+    ensures only_reads { OnlyReads (F.state files.old) (F.state files.new) }
+    ensures go_on { FilesGoOn (F.state files.old) (F.state files.new) }
+{
+    let file = MainFile::of(alloc, main, lines)?;
+    let items = read_items(alloc, files, main, content, &file.places)?;
+    let main = Text::from_bytes(alloc, main)?;
+    Ok(FilesRead {
+        set: FileSet { main, items },
+        main: Ok(file),
+    })
+}
+
+/// A main file whose lines can't be read, which is the only one.
+fn only_main(
+    alloc: Global,
+    main: &[u8],
+    content: Content,
+    refusal: FileFault,
+) -> Result<FilesRead, Mem>
+    ensures set { IfOk result (λ read. read.set ≡ record { main = main.now; items = (main.now, content) ∷ [] }) }
+    ensures file { IfOk result (λ read. read.main ≡ Err refusal) }
+{
+    let mut items = List::new(alloc);
+    items.add((Text::from_bytes(alloc, main)?, content))?;
+    let main = Text::from_bytes(alloc, main)?;
+    Ok(FilesRead {
+        set: FileSet { main, items },
+        main: Err(refusal),
+    })
+}
+
+/// Reads the files of a configuration, and gives what the main file among them gives.
+#[tactic(auto, using(crate::proofs::GatherLemmas::reads_rules), unfolding(crate::specs::Gathering::gathered, crate::specs::Gathering::names_read))]
+pub(crate) fn gather_files<F: Files>(
+    alloc: Global,
+    files: &mut F,
+    main: &str,
+) -> Result<FilesRead, LoadFault>
+    ensures set { IsTrue (F.state files.old).tells → IfOk result (λ read. read.set ≡ gathered (F.state files.old).contents main.now) }
+    ensures file { IsTrue (F.state files.old).tells → IfOk result (λ read. IsMainOf main.now (content_lines (content_of FILE_LIMIT ((F.state files.old).contents main.now))) read.main) }
+    ensures fits { IfOk result (λ read. All FitsItem read.set.items) }
+    ensures named { IsTrue (F.state files.old).tells → IfErr result (ReadsOneOf (names_read (F.state files.old).contents main.now)) }
+    ensures cause { GatherCauses (F.state files.old) (F.state files.new) result }
+    ensures only_reads { OnlyReads (F.state files.old) (F.state files.new) }
+    ensures go_on { FilesGoOn (F.state files.old) (F.state files.new) }
+{
+    let content = read_content(alloc, files, main, main.as_bytes())?;
+    match content_lines(alloc, &content) {
+        Ok(lines) => read_behind(alloc, files, main.as_bytes(), content, lines),
+        Err(FileFault::Mem) => Err(LoadFault::Mem),
+        Err(FileFault::At { line, number }) => {
+            let refusal = FileFault::At { line, number };
+            Ok(only_main(alloc, main.as_bytes(), content, refusal)?)
+        }
+    }
 }
 
 /// Reads the files of a configuration: the main file of this name, the action files and the filter files that its lines
@@ -165,7 +290,6 @@ fn read_listed<F: Files>(
 ///
 /// `Read` comes only where the files' count of faults rose, with the name of one of these files as it is written, and no other
 /// fault than that and `Mem`.
-#[tactic(auto, using(crate::proofs::GatherLemmas::reads_rules), unfolding(crate::specs::Gathering::gathered, crate::specs::Gathering::names_read))]
 pub fn gather<F: Files>(alloc: Global, files: &mut F, main: &str) -> Result<FileSet, LoadFault>
     ensures set { IsTrue (F.state files.old).tells → IfOk result (λ set. set ≡ gathered (F.state files.old).contents main.now) }
     ensures fits { IfOk result (λ set. All FitsItem set.items) }
@@ -174,15 +298,7 @@ pub fn gather<F: Files>(alloc: Global, files: &mut F, main: &str) -> Result<File
     ensures only_reads { OnlyReads (F.state files.old) (F.state files.new) }
     ensures go_on { FilesGoOn (F.state files.old) (F.state files.new) }
 {
-    let content = read_content(alloc, files, main, main.as_bytes())?;
-    let lines = readable_lines(alloc, &content)?;
-    let mut items = Gathered::new(alloc);
-    items.add(alloc, Text::from_bytes(alloc, main.as_bytes())?, content)?;
-    if let Some(lines) = lines {
-        read_named(alloc, files, main.as_bytes(), lines.as_slice(), &mut items)?;
-    }
-    Ok(FileSet {
-        main: Text::from_bytes(alloc, main.as_bytes())?,
-        items: items.into_items(),
-    })
+    let FilesRead { set, main } = gather_files(alloc, files, main)?;
+    drop(main);
+    Ok(set)
 }

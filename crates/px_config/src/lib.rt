@@ -12,6 +12,7 @@ mod filters;
 mod gathering;
 mod indexes;
 mod laws;
+mod main_files;
 mod mains;
 mod names;
 mod pages;

@@ -1,12 +1,10 @@
 // Where the files of a configuration stand.
 ghost use Rattle.std.specs.Prelude.{◌≡◌, ◌++◌, ◌∷◌, IfOk, map, option_copied};
 ghost use Rattle.px_templates.specs.Pages.{page_name};
-ghost use Rattle.px_config.specs.Names.{action_names, confdir, filter_names, folder_of, full_name, image_names, is_rooted, joined, page_names, template_names, templdir};
+ghost use Rattle.px_config.specs.Names.{folder_of, full_name, image_names, is_rooted, joined, page_names, template_names};
 
-use crate::directives::{last_value, values};
 use px_base::{List, Mem, Text};
 use px_templates::{PAGES, Page};
-use px_text::Line;
 use std::alloc::Global;
 
 /// The byte between folders and names.
@@ -20,6 +18,38 @@ pub(crate) const IMAGE_BLANK: &[u8] = b"image-blank";
 
 /// The name of the image of a pattern, in the templates' folder.
 pub(crate) const IMAGE_PATTERN: &[u8] = b"image-pattern";
+
+/// Which files the main file's lines name, and where they stand. The names are as written.
+#[derive(Drop)]
+pub(crate) struct Places {
+    /// The names of the action files. More than sixteen are refused, and left out here.
+    pub(crate) action_files: List<Text>,
+    /// The names of the filter files. More than sixteen are refused, and left out here.
+    pub(crate) filter_files: List<Text>,
+    /// The folder of action files and filter files: the last `confdir`, or the main file's folder.
+    pub(crate) confdir: Option<Text>,
+    /// The folder of templates and images: the last `templdir`, or `templates` in confdir.
+    pub(crate) templdir: Text,
+}
+
+impl Places {
+    /// The folder of action files and filter files, if there is one.
+    pub(crate) fn folder(&self) -> Option<&[u8]>
+        ensures { option_copied result ≡ self.now.confdir }
+    {
+        bytes_of(&self.confdir)
+    }
+}
+
+/// The bytes of a text, if there is one.
+pub(crate) fn bytes_of(text: &Option<Text>) -> Option<&[u8]>
+    ensures { option_copied result ≡ text.now }
+{
+    match text {
+        Some(text) => Some(text.as_bytes()),
+        None => None,
+    }
+}
 
 /// The folder in which a file stands: the text before the last slash of its name, if there is one.
 #[tactic(auto, unfolding(crate::specs::Names::folder_of), using(crate::proofs::NameLemmas::folder_rules))]
@@ -56,7 +86,7 @@ pub(crate) fn full_name(alloc: Global, folder: Option<&[u8]>, name: &[u8]) -> Re
 }
 
 /// A folder and a name, joined by a slash.
-fn joined(alloc: Global, folder: Option<&[u8]>, name: &[u8]) -> Result<Text, Mem>
+pub(crate) fn joined(alloc: Global, folder: Option<&[u8]>, name: &[u8]) -> Result<Text, Mem>
     ensures { IfOk result (λ full. full ≡ joined (option_copied folder.entry) name.now) }
 {
     let Some(folder) = folder else {
@@ -66,48 +96,6 @@ fn joined(alloc: Global, folder: Option<&[u8]>, name: &[u8]) -> Result<Text, Mem
     full.push(SLASH)?;
     full.push_all(name)?;
     Ok(full)
-}
-
-/// The folder of action files and filter files: the last `confdir`, or the main file's folder.
-#[tactic(auto, unfolding(crate::specs::Names::confdir))]
-pub(crate) fn confdir<'l>(main: &'l [u8], lines: &'l [Line]) -> Option<&'l [u8]>
-    ensures { option_copied result ≡ confdir main.now lines.now }
-{
-    match last_value(lines, b"confdir") {
-        Some(folder) => Some(folder),
-        None => folder_of(main),
-    }
-}
-
-/// The folder of templates and images: the last `templdir`, or `templates` in confdir.
-#[tactic(auto, unfolding(crate::specs::Names::templdir))]
-pub(crate) fn templdir(alloc: Global, main: &[u8], lines: &[Line]) -> Result<Text, Mem>
-    ensures { IfOk result (λ folder. folder ≡ templdir main.now lines.now) }
-{
-    match last_value(lines, b"templdir") {
-        Some(folder) => Text::from_bytes(alloc, folder),
-        None => joined(alloc, confdir(main, lines), b"templates"),
-    }
-}
-
-/// The names of the action files. More than sixteen are refused, and left out here.
-#[tactic(auto, unfolding(crate::specs::Names::action_names))]
-pub(crate) fn action_names(alloc: Global, lines: &[Line]) -> Result<List<Text>, Mem>
-    ensures { IfOk result (λ names. names ≡ action_names lines.now) }
-{
-    let mut names = values(alloc, lines, b"actionsfile")?;
-    names.truncate(FILES_OF_A_KIND);
-    Ok(List::from_vec(names))
-}
-
-/// The names of the filter files. More than sixteen are refused, and left out here.
-#[tactic(auto, unfolding(crate::specs::Names::filter_names))]
-pub(crate) fn filter_names(alloc: Global, lines: &[Line]) -> Result<List<Text>, Mem>
-    ensures { IfOk result (λ names. names ≡ filter_names lines.now) }
-{
-    let mut names = values(alloc, lines, b"filterfile")?;
-    names.truncate(FILES_OF_A_KIND);
-    Ok(List::from_vec(names))
 }
 
 /// The names of the templates, in the order of the pages.

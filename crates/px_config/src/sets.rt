@@ -1,14 +1,12 @@
 // Sets of files.
 ghost use Rattle.std.specs.Prelude.{◌≡◌, ◌==◌, ◌++◌, IfOk, OnOk, filter, option_copied, unwrap_or};
 ghost use Rattle.std.specs.List.{list_any};
-ghost use Rattle.px_base.specs.Contents.{FitsLimit};
 ghost use Rattle.px_base.specs.declared.files.Content.TheVariants as content;
-ghost use Rattle.px_config.specs.Sets.{content_in, included_by, included_on, may_include, names_included, readable_lines};
+ghost use Rattle.px_config.specs.Sets.{all_included, content_in, included_by, included_on, may_include, names_included};
 
-use crate::names::{SLASH, full_name};
+use crate::names::{SLASH, full_name, page_names};
 use px_base::{Content, List, Mem, Text, is_text};
 use px_templates::included_names;
-use px_text::{Line, TextFault, logical_lines};
 use std::alloc::Global;
 
 /// The most bytes of a configuration file, a template or an image.
@@ -35,24 +33,6 @@ pub(crate) fn find<'s>(items: &'s [(Text, Content)], name: &[u8]) -> Option<&'s 
         rest = others;
     }
     None
-}
-
-/// The lines of a file, if they can be read.
-#[tactic(auto, unfolding(crate::specs::Sets::readable_lines))]
-pub(crate) fn readable_lines(alloc: Global, content: &Content) -> Result<Option<List<Line>>, Mem>
-    requires { FitsLimit FILE_LIMIT content.now }
-    ensures { IfOk result (λ lines. lines ≡ readable_lines content.now) }
-{
-    match content {
-        Content::Missing => Ok(None),
-        Content::Over => Ok(None),
-        Content::Found(text) => match logical_lines(alloc, text.as_bytes()) {
-            Ok(lines) => Ok(Some(lines)),
-            Err(TextFault::NotText { line: _ }) => Ok(None),
-            Err(TextFault::TooLong { line: _ }) => Ok(None),
-            Err(TextFault::Mem) => Err(Mem),
-        },
-    }
 }
 
 /// Whether a text may be included by a name: one that is UTF-8 and has no slash.
@@ -93,9 +73,21 @@ fn keep_names(found: List<Text>, names: &mut Vec<Text>) -> Result<(), Mem>
     Ok(())
 }
 
-/// The names of the texts that the templates in a folder include, in the order of the pages.
-#[tactic(auto, unfolding(crate::specs::Sets::included_by))]
+/// The names of the texts that all templates in a folder include, in the order of the pages.
 pub(crate) fn all_included(
+    alloc: Global,
+    items: &[(Text, Content)],
+    folder: &[u8],
+) -> Result<List<Text>, Mem>
+    ensures { IfOk result (λ names. names ≡ all_included items.now folder.now) }
+{
+    let pages = page_names(alloc)?;
+    included_by(alloc, items, folder, pages.as_slice())
+}
+
+/// The names of the texts that these templates in a folder include.
+#[tactic(auto, unfolding(crate::specs::Sets::included_by))]
+fn included_by(
     alloc: Global,
     items: &[(Text, Content)],
     folder: &[u8],

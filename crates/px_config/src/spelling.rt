@@ -2,8 +2,11 @@
 ghost use Rattle.std.specs.Prelude.{◌≡◌, All, IsTrue, Ok, None, IfErr, IfOk, OnOk, length, sum_by};
 ghost use Rattle.px_base.specs.Contents.{FilesGoOn};
 ghost use Rattle.px_config.specs.Actions.{seen_actions};
-ghost use Rattle.px_config.specs.Faults.{IsFault};
+ghost use Rattle.px_config.specs.Faults.{IsFault, IsNoRead};
 ghost use Rattle.px_config.specs.Gathering.{GatherCauses, OnlyReads, ReadsOneOf, gathered, names_read};
+ghost use Rattle.px_config.specs.MainFiles.{IsMainOf};
+ghost use Rattle.px_config.specs.Names.{places_of};
+ghost use Rattle.px_config.specs.Parts.{file_lines};
 ghost use Rattle.px_config.specs.Sets.{FitsItem};
 ghost use Rattle.px_config.specs.Spelling.{behind_filters, behind_lines, behind_main, behind_actions, behind_sizes, config_of, filters_seen, seen_config, sizes, spelled};
 ghost use Rattle.px_config.specs.Loading.{IsLoadFault, LoadCauses};
@@ -13,51 +16,76 @@ use crate::configs::Config;
 use crate::contents::{fault_in, file_lines};
 use crate::faults::LoadFault;
 use crate::filters::FilterFiles;
-use crate::gathering::gather;
+use crate::gathering::{FilesRead, gather_files};
 use crate::indexes::Index;
+use crate::main_files::MainFile;
 use crate::mains::Main;
-use crate::names::{
-    IMAGE_BLANK, IMAGE_PATTERN, action_names, confdir, filter_names, page_names, template_names,
-    templdir,
-};
+use crate::names::{IMAGE_BLANK, IMAGE_PATTERN, Places, template_names};
 use crate::sets::{FileSet, all_included};
 use crate::settings::{MainParts, Settings};
 use crate::templates::{check_sizes, image_in, read_pages};
+use px_action_files::FileFault;
 use px_base::{Content, Files, List, Mem, Text};
 use px_decide::Forwards;
 use px_filter_files::{FilterFile, Filters};
 use px_merge::Sections;
 use px_templates::Template;
-use px_text::Line;
 use std::alloc::Global;
 
 /// The configuration for which a set of files stands, or its first fault, in this order: the main file as a whole, its
 /// lines, the action files, the filter files, the sizes of templates, images and included texts, and the templates.
-#[tactic(auto, unfolding(crate::specs::Spelling::spelled), using(crate::proofs::FaultLemmas::fault_of))]
 pub fn spell(alloc: Global, set: &FileSet) -> Result<Config, LoadFault>
     requires { All FitsItem set.now.items }
     ensures config { IfOk result (λ config. spelled set.now ≡ Ok (seen_config config)) }
     ensures refused { IfErr result (IsFault (spelled set.now)) }
 {
+    let main = read_main(alloc, set);
+    spell_with(alloc, set, main)
+}
+
+/// What the main file of a set gives, or the refusal of the whole file.
+fn read_main(alloc: Global, set: &FileSet) -> Result<MainFile, FileFault>
+    requires { All FitsItem set.now.items }
+    ensures { IsMainOf set.now.main (file_lines set.now.items None set.now.main) result }
+{
     let main = set.main.as_bytes();
     match file_lines(alloc, set.items.as_slice(), None, main) {
-        Ok(lines) => spell_lines(alloc, set, lines.as_slice()),
-        Err(fault) => Err(fault_in(alloc, main, fault)),
+        Ok(lines) => Ok(MainFile::of(alloc, main, lines)?),
+        Err(refusal) => Err(refusal),
+    }
+}
+
+/// The configuration for which a set of files stands, or its first fault, by what its main file gives.
+#[tactic(auto, unfolding(crate::specs::Spelling::spelled), using(crate::proofs::FaultLemmas::fault_of))]
+fn spell_with(
+    alloc: Global,
+    set: &FileSet,
+    main: Result<MainFile, FileFault>,
+) -> Result<Config, LoadFault>
+    requires { All FitsItem set.now.items }
+    ensures config { IsMainOf set.now.main (file_lines set.now.items None set.now.main) main → IfOk result (λ config. spelled set.now ≡ Ok (seen_config config)) }
+    ensures refused { IsMainOf set.now.main (file_lines set.now.items None set.now.main) main → IfErr result (IsFault (spelled set.now)) }
+    ensures no_read { IfErr result IsNoRead }
+{
+    match main {
+        Ok(main) => spell_lines(alloc, set, &main),
+        Err(fault) => Err(fault_in(alloc, set.main.as_bytes(), fault)),
     }
 }
 
 /// Goes on with the lines of the main file.
 #[tactic(auto, unfolding(crate::specs::Spelling::behind_lines), using(crate::proofs::FaultLemmas::fault_of))]
-fn spell_lines(alloc: Global, set: &FileSet, lines: &[Line]) -> Result<Config, LoadFault>
+fn spell_lines(alloc: Global, set: &FileSet, main: &MainFile) -> Result<Config, LoadFault>
     requires { All FitsItem set.now.items }
-    ensures config { IfOk result (λ config. behind_lines set.now lines.now ≡ Ok (seen_config config)) }
-    ensures refused { IfErr result (IsFault (behind_lines set.now lines.now)) }
+    ensures config { main.now.places ≡ places_of set.now.main main.now.lines → IfOk result (λ config. behind_lines set.now main.now.lines ≡ Ok (seen_config config)) }
+    ensures refused { main.now.places ≡ places_of set.now.main main.now.lines → IfErr result (IsFault (behind_lines set.now main.now.lines)) }
+    ensures no_read { IfErr result IsNoRead }
 {
     let file = set.main.as_bytes();
-    match Main::read(alloc, file, lines) {
-        Ok(main) => {
-            let parts = main.into_parts(alloc)?;
-            spell_actions(alloc, set, lines, parts)
+    match Main::read(alloc, file, main.lines.as_slice()) {
+        Ok(lines) => {
+            let parts = lines.into_parts(alloc)?;
+            spell_actions(alloc, set, &main.places, parts)
         }
         Err(fault) => Err(fault_in(alloc, file, fault)),
     }
@@ -68,18 +96,17 @@ fn spell_lines(alloc: Global, set: &FileSet, lines: &[Line]) -> Result<Config, L
 fn spell_actions(
     alloc: Global,
     set: &FileSet,
-    lines: &[Line],
+    places: &Places,
     parts: MainParts,
 ) -> Result<Config, LoadFault>
     requires { All FitsItem set.now.items }
-    ensures config { IfOk result (λ config. behind_main set.now lines.now parts ≡ Ok (seen_config config)) }
-    ensures refused { IfErr result (IsFault (behind_main set.now lines.now parts)) }
+    ensures config { IfOk result (λ config. behind_main set.now places.now parts ≡ Ok (seen_config config)) }
+    ensures refused { IfErr result (IsFault (behind_main set.now places.now parts)) }
 {
-    let names = action_names(alloc, lines)?;
-    let folder = confdir(set.main.as_bytes(), lines);
+    let names = places.action_files.as_slice();
     let limit = parts.settings.pattern_limit as usize;
-    match ActionFiles::read(alloc, set.items.as_slice(), folder, limit, names.as_slice()) {
-        Ok(actions) => spell_filters(alloc, set, lines, parts, actions),
+    match ActionFiles::read(alloc, set.items.as_slice(), places.folder(), limit, names) {
+        Ok(actions) => spell_filters(alloc, set, places, parts, actions),
         Err(fault) => Err(fault),
     }
 }
@@ -89,33 +116,28 @@ fn spell_actions(
 fn spell_filters(
     alloc: Global,
     set: &FileSet,
-    lines: &[Line],
+    places: &Places,
     parts: MainParts,
     actions: ActionFiles,
 ) -> Result<Config, LoadFault>
     requires { All FitsItem set.now.items }
-    ensures config { IfOk result (λ config. behind_actions set.now lines.now parts (seen_actions actions) ≡ Ok (seen_config config)) }
-    ensures refused { IfErr result (IsFault (behind_actions set.now lines.now parts (seen_actions actions))) }
+    ensures config { IfOk result (λ config. behind_actions set.now places.now parts (seen_actions actions) ≡ Ok (seen_config config)) }
+    ensures refused { IfErr result (IsFault (behind_actions set.now places.now parts (seen_actions actions))) }
 {
-    let names = filter_names(alloc, lines)?;
-    let templates = templdir(alloc, set.main.as_bytes(), lines)?;
-    let folder = confdir(set.main.as_bytes(), lines);
+    let names = places.filter_files.as_slice();
+    let templates = places.templdir.as_bytes();
     let items = set.items.as_slice();
     let MainParts {
         settings,
         forwards,
         notes,
     } = parts;
-    match FilterFiles::read(alloc, items, folder, names.as_slice(), notes) {
-        Ok(filters) => spell_templates(
-            alloc,
-            items,
-            templates.as_bytes(),
-            settings,
-            forwards,
-            actions,
-            filters,
-        ),
+    match FilterFiles::read(alloc, items, places.folder(), names, notes) {
+        Ok(filters) => {
+            spell_templates(
+                alloc, items, templates, settings, forwards, actions, filters,
+            )
+        }
         Err(fault) => Err(fault),
     }
 }
@@ -147,8 +169,7 @@ fn check_all(alloc: Global, items: &Index<'_>, folder: &[u8]) -> Result<(), Load
     ensures refused { IfErr result (IsFault (sizes items.now folder.now)) }
 {
     let names = template_names(alloc)?;
-    let pages = page_names(alloc)?;
-    let included = all_included(alloc, items.as_slice(), folder, pages.as_slice())?;
+    let included = all_included(alloc, items.as_slice(), folder)?;
     match check_sizes(alloc, items, folder, names.as_slice()) {
         Ok(()) => check_sizes(alloc, items, folder, included.as_slice()),
         Err(fault) => Err(fault),
@@ -250,6 +271,6 @@ pub fn load<F: Files>(alloc: Global, files: &mut F, main: &str) -> Result<Config
     ensures only_reads { OnlyReads (F.state files.old) (F.state files.new) }
     ensures go_on { FilesGoOn (F.state files.old) (F.state files.new) }
 {
-    let set = gather(alloc, files, main)?;
-    spell(alloc, &set)
+    let FilesRead { set, main } = gather_files(alloc, files, main)?;
+    spell_with(alloc, &set, main)
 }
