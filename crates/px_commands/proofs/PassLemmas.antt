@@ -12,16 +12,17 @@ use Rattle.px_decide.specs.Forwards.{has_socks}
 use Rattle.px_config.specs.declared.configs.Config.{Config}
 use Rattle.px_commands.specs.Loads.{Loads}
 use Rattle.px_commands.specs.Passing.{RunsPass}
-use Rattle.px_exchange.specs.declared.notes.ExchangeNote.{ExchangeNote}
 use Rattle.px_serve.specs.declared.ends.SessionEnd.{SessionEnd}
 use Rattle.px_serve.specs.Ends.{ReadEndCause, WriteEndCause}
 use Rattle.px_serve.specs.Histories.{IsFixed, Looks}
-use Rattle.px_serve.specs.Sessions.{Caller, Serves}
+use Rattle.px_serve.specs.Sessions.{Caller}
+use Rattle.px_link_pool.specs.Histories.{Views}
+use Rattle.px_commands.specs.Clients.{ServesClient, SharesLinks, TakesNewLinks, caller_of, in_memory, through_server}
 use Rattle.px_commands.specs.Sents.{sent_text}
 use Rattle.px_commands.specs.declared.statuses.Status.{Status}
 use Rattle.px_socks.specs.Dialers.{Kept, outer_state}
 use Rattle.px_socks.specs.Handshakes.{Handshakes}
-use Rattle.px_commands.specs.Passes.{Outside, IsSame, HasAnswers, PutsAfter, HasServed, IsServed, IsServedThrough, Passes, RunsLoaded, ServesInput, begun_socks, caller_of}
+use Rattle.px_commands.specs.Passes.{Outside, IsSame, HasAnswers, PutsAfter, HasServed, IsServed, IsServedShared, IsServedSharedThrough, IsServedThrough, Passes, RunsLoaded, ServesApart, ServesInput, ServesShared, begun_socks}
 
 -- files that were only read
 pub record OnlyRead (old new : FilesState) : Type 0 where
@@ -121,15 +122,23 @@ pub is_fixed : {looks : Looks} {config : Config} → IsTrue looks.tells → look
     → looks.coming ≡ record { number = 0; config = config } ∷ [] → IsFixed looks config
 is_fixed t v k = record { tells = t; view = v; coming = k }
 
+-- A session's records by whether its requests share links: what the client's session over a dialer gave, beside the record that is
+-- made of each kind.
+by_sharing : {S T : Type 0} (v : Views S T) (sharing : Bool) (caller : Caller) (looks : Looks) (i i' : SourceState) (o o' : SinkState) (d d' : DialerState) (t t' : ClockState) (e : SessionEnd) {Shared Apart : Type 0}
+    → (SharesLinks v caller looks i i' o o' d d' t t' e → Shared) → (TakesNewLinks caller looks i i' o o' d d' t t' e → Apart)
+    → ServesClient v sharing caller looks i i' o o' d d' t t' e → MatchBool sharing Shared Apart
+by_sharing v true caller looks i i' o o' d d' t t' e shared apart h = shared h
+by_sharing v false caller looks i i' o o' d d' t t' e shared apart h = apart h
+
 -- what a session gave, with the dialer that is just made and the one client
-pub has_served : {tags : List (List ℕ)} {answers : List Answer} {i i' : SourceState} {o o' : SinkState} {t t' : ClockState} {e : SessionEnd} {made : Option (List ℕ)} {looks looks' : Looks} {config : Config} {d d' : DialerState} {notes : List ExchangeNote} {caller : Caller}
-    → Serves caller looks looks' i i' (record { client_out = o; dialer = d; clock = t }) (record { client_out = o'; dialer = d'; clock = t' }) notes e
-    → caller ≡ caller_of tags → d ≡ fresh_dialer answers → IsFixed looks config
+pub has_served : {tags : List (List ℕ)} {answers : List Answer} {i i' : SourceState} {o o' : SinkState} {t t' : ClockState} {e : SessionEnd} {made : Option (List ℕ)} {looks : Looks} {config : Config} {sharing : Bool} {d : DialerState} (d' : DialerState) {caller : Caller}
+    → ServesClient in_memory sharing caller looks i i' o o' d d' t t' e
+    → caller ≡ caller_of tags → d ≡ fresh_dialer answers → sharing ≡ config.settings.sharing → IsFixed looks config
     → ReadEndCause i i' e → WriteEndCause o o' e
     → ((x : List ℕ) → made ≡ Some x → x ≡ sent_text (finished_links d'.dials))
     → has_socks config.forwards ≡ false
     → HasServed config tags answers i i' o o' t t' e made
-has_served {tags = tags} {answers = answers} {i = i} {i' = i'} {o = o} {o' = o'} {t = t} {t' = t'} {e = e} {looks = looks} {looks' = looks'} {config = config} {d' = d'} {notes = notes} serves client fresh fixed read write made_is plain = record {
+has_served {tags = tags} {answers = answers} {i = i} {i' = i'} {o = o} {o' = o'} {t = t} {t' = t'} {e = e} {looks = looks} {config = config} d' served client fresh by fixed read write made_is plain = record {
   text = sent_text (finished_links d'.dials);
   served = whole;
   made_is = made_is;
@@ -138,32 +147,46 @@ has_served {tags = tags} {answers = answers} {i = i} {i' = i'} {o = o} {o' = o'}
     text : List ℕ
     text = sent_text (finished_links d'.dials)
 
-    session : IsServed config tags answers i i' o o' t t' e text
-    session = record {
+    shared : SharesLinks in_memory (caller_of tags) looks i i' o o' (fresh_dialer answers) d' t t' e → ServesShared config tags answers i i' o o' t t' e text
+    shared h = subst (λ b. MatchBool b (IsServedSharedThrough config tags answers i i' o o' t t' e text) (IsServedShared config tags answers i i' o o' t t' e text)) (sym plain) (record {
       looks = looks;
-      looks_after = looks';
       fixed = fixed;
       dialer = d';
-      notes = notes;
-      serves = rw (client, fresh) at serves;
+      shares = h;
       text_is = refl;
       read_cause = read;
       write_cause = write;
-    }
+    })
+
+    apart : TakesNewLinks (caller_of tags) looks i i' o o' (fresh_dialer answers) d' t t' e → ServesApart config tags answers i i' o o' t t' e text
+    apart h = subst (λ b. MatchBool b (IsServedThrough config tags answers i i' o o' t t' e text) (IsServed config tags answers i i' o o' t t' e text)) (sym plain) (record {
+      looks = looks;
+      looks_after = h.looks_after;
+      fixed = fixed;
+      dialer = d';
+      notes = h.notes;
+      serves = h.serves;
+      text_is = refl;
+      read_cause = read;
+      write_cause = write;
+    })
+
+    over : ServesClient in_memory config.settings.sharing (caller_of tags) looks i i' o o' (fresh_dialer answers) d' t t' e
+    over = rw (client, fresh, by) at served
 
     whole : ServesInput config tags answers i i' o o' t t' e text
-    whole = subst (λ b. MatchBool b (IsServedThrough config tags answers i i' o o' t t' e text) (IsServed config tags answers i i' o o' t t' e text)) (sym plain) session
+    whole = by_sharing in_memory config.settings.sharing (caller_of tags) looks i i' o o' (fresh_dialer answers) d' t t' e shared apart over
 
 -- the same through SOCKS servers
-pub has_served_through : {tags : List (List ℕ)} {answers : List Answer} {i i' : SourceState} {o o' : SinkState} {t t' : ClockState} {e : SessionEnd} {made : Option (List ℕ)} {looks looks' : Looks} {config : Config} {k : Kept} (k' : Kept) {notes : List ExchangeNote} {caller : Caller}
-    → Serves caller looks looks' i i' (record { client_out = o; dialer = outer_state k; clock = t }) (record { client_out = o'; dialer = outer_state k'; clock = t' }) notes e
-    → caller ≡ caller_of tags → k ≡ begun_socks answers → IsFixed looks config
+pub has_served_through : {tags : List (List ℕ)} {answers : List Answer} {i i' : SourceState} {o o' : SinkState} {t t' : ClockState} {e : SessionEnd} {made : Option (List ℕ)} {looks : Looks} {config : Config} {sharing : Bool} {k : Kept} (k' : Kept) {caller : Caller}
+    → ServesClient through_server sharing caller looks i i' o o' (outer_state k) (outer_state k') t t' e
+    → caller ≡ caller_of tags → k ≡ begun_socks answers → sharing ≡ config.settings.sharing → IsFixed looks config
     → ReadEndCause i i' e → WriteEndCause o o' e
     → ((x : List ℕ) → made ≡ Some x → x ≡ sent_text (finished_links k'.inner.dials))
     → k'.inner.tells ≡ k.inner.tells → (IsTrue k'.inner.tells → Handshakes (outer_state k').dials k'.inner.dials)
     → has_socks config.forwards ≡ true
     → HasServed config tags answers i i' o o' t t' e made
-has_served_through {tags = tags} {answers = answers} {i = i} {i' = i'} {o = o} {o' = o'} {t = t} {t' = t'} {e = e} {looks = looks} {looks' = looks'} {config = config} k' {notes = notes} serves client begun fixed read write made_is tells handshakes socks = record {
+has_served_through {tags = tags} {answers = answers} {i = i} {i' = i'} {o = o} {o' = o'} {t = t} {t' = t'} {e = e} {looks = looks} {config = config} {k = k} k' served client begun by fixed read write made_is tells handshakes socks = record {
   text = sent_text (finished_links k'.inner.dials);
   served = whole;
   made_is = made_is;
@@ -172,22 +195,40 @@ has_served_through {tags = tags} {answers = answers} {i = i} {i' = i'} {o = o} {
     text : List ℕ
     text = sent_text (finished_links k'.inner.dials)
 
-    session : IsServedThrough config tags answers i i' o o' t t' e text
-    session = record {
+    hands : Handshakes (outer_state k').dials k'.inner.dials
+    hands = handshakes (tells ∙ ap (λ (m : Kept). m.inner.tells) begun)
+
+    shared : SharesLinks through_server (caller_of tags) looks i i' o o' (outer_state (begun_socks answers)) (outer_state k') t t' e → ServesShared config tags answers i i' o o' t t' e text
+    shared h = subst (λ b. MatchBool b (IsServedSharedThrough config tags answers i i' o o' t t' e text) (IsServedShared config tags answers i i' o o' t t' e text)) (sym socks) (record {
       looks = looks;
-      looks_after = looks';
       fixed = fixed;
       dialer = k';
-      notes = notes;
-      serves = rw (client, begun) at serves;
-      handshakes = handshakes (tells ∙ ap (λ (m : Kept). m.inner.tells) begun);
+      shares = h;
+      handshakes = hands;
       text_is = refl;
       read_cause = read;
       write_cause = write;
-    }
+    })
+
+    apart : TakesNewLinks (caller_of tags) looks i i' o o' (outer_state (begun_socks answers)) (outer_state k') t t' e → ServesApart config tags answers i i' o o' t t' e text
+    apart h = subst (λ b. MatchBool b (IsServedThrough config tags answers i i' o o' t t' e text) (IsServed config tags answers i i' o o' t t' e text)) (sym socks) (record {
+      looks = looks;
+      looks_after = h.looks_after;
+      fixed = fixed;
+      dialer = k';
+      notes = h.notes;
+      serves = h.serves;
+      handshakes = hands;
+      text_is = refl;
+      read_cause = read;
+      write_cause = write;
+    })
+
+    over : ServesClient through_server config.settings.sharing (caller_of tags) looks i i' o o' (outer_state (begun_socks answers)) (outer_state k') t t' e
+    over = rw (client, begun, by) at served
 
     whole : ServesInput config tags answers i i' o o' t t' e text
-    whole = subst (λ b. MatchBool b (IsServedThrough config tags answers i i' o o' t t' e text) (IsServed config tags answers i i' o o' t t' e text)) (sym socks) session
+    whole = by_sharing through_server config.settings.sharing (caller_of tags) looks i i' o o' (outer_state (begun_socks answers)) (outer_state k') t t' e shared apart over
 
 -- the configuration loads
 pub pass_loaded : (config origin sent : List ℕ) (tags : List (List ℕ)) (old new : Outside) (loaded : Config) (s : Status)

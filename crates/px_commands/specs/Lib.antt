@@ -3,6 +3,7 @@ pub mod Entries
 pub mod Sents
 pub mod Words
 pub mod Statuses
+pub mod Clients
 pub mod Passes
 pub mod Reads
 pub mod Loads

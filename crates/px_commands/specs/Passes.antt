@@ -1,5 +1,5 @@
 -- What `pass` does: with its words, the files, the input, the output, the error output and the clock.
-use Rattle.std.specs.Prelude.{◌≡◌, ℕ, ◌≤◌, false, ◌⊎◌, List, [], ◌++◌, length, Option, None, Some, Result, codes, IsTrue, MatchBool}
+use Rattle.std.specs.Prelude.{◌≡◌, ℕ, ◌≤◌, false, ◌⊎◌, List, [], ◌++◌, length, Option, None, Some, Result, IsTrue, MatchBool}
 use Rattle.px_base.specs.Causes.{Rose}
 use Rattle.px_base.specs.Contents.{FilesState, FilesGoOn, FilesCause, Unchanged, Puts, OthersUnchanged}
 use Rattle.px_base.specs.Sources.{SourceState, SourceGoesOn}
@@ -14,11 +14,12 @@ use Rattle.px_exchange.specs.declared.notes.ExchangeNote.{ExchangeNote}
 use Rattle.px_serve.specs.declared.ends.SessionEnd.{SessionEnd}
 use Rattle.px_serve.specs.Ends.{ReadEndCause, WriteEndCause}
 use Rattle.px_serve.specs.Histories.{IsFixed, Looks}
-use Rattle.px_serve.specs.Sessions.{Caller, Serves}
+use Rattle.px_serve.specs.Sessions.{Serves}
 use Rattle.px_socks.specs.Dialers.{Kept, outer_state}
 use Rattle.px_socks.specs.Handshakes.{Handshakes}
 use Rattle.px_commands.specs.declared.statuses.Status.{Status}
 use Rattle.px_commands.specs.declared.statuses.Status.TheVariants as status
+use Rattle.px_commands.specs.Clients.{SharesLinks, caller_of, in_memory, through_server}
 use Rattle.px_commands.specs.Origins.{IsOrigin}
 use Rattle.px_commands.specs.Sents.{sent_text}
 use Rattle.px_commands.specs.Statuses.{is_wanting, status_after}
@@ -97,10 +98,6 @@ pub record Withholds (old new : FilesState) (s : Status) : Type 0 where
 abbrev pub PutsAfter : FilesState → FilesState → List ℕ → List ℕ → SessionEnd → Status → Type 0
 PutsAfter old new sent text e s = PutsSent old new sent text e s ⊎ Withholds old new s
 
--- the one client of `pass`
-abbrev pub caller_of : List (List ℕ) → Caller
-caller_of tags = record { tags = tags; peer = codes "127.0.0.1" }
-
 -- a session over the input and the answers, with that configuration, and the text of SENT: no forward line has a SOCKS server, and
 -- each dial takes an answer
 pub record IsServed (config : Config) (tags : List (List ℕ)) (answers : List Answer) (i i' : SourceState) (o o' : SinkState) (t t' : ClockState) (e : SessionEnd) (text : List ℕ) : Type 0 where
@@ -139,10 +136,46 @@ pub record IsServedThrough (config : Config) (tags : List (List ℕ)) (answers :
   pub read_cause : ReadEndCause i i' e
   pub write_cause : WriteEndCause o o' e
 
--- a session over the input and the answers: through SOCKS servers where a forward line has one
+-- a session whose requests share links, over the input and the answers, with that configuration, and the text of SENT: no forward
+-- line has a SOCKS server. The pool is made over the dialer that takes the answers and taken apart behind the session, and SENT has
+-- the inner links, of which each has what went over it in all of the pool's dials
+pub record IsServedShared (config : Config) (tags : List (List ℕ)) (answers : List Answer) (i i' : SourceState) (o o' : SinkState) (t t' : ClockState) (e : SessionEnd) (text : List ℕ) : Type 0 where
+  pub looks : Looks
+  pub fixed : IsFixed looks config
+  pub dialer : DialerState
+  pub shares : SharesLinks in_memory (caller_of tags) looks i i' o o' (fresh_dialer answers) dialer t t' e
+  pub text_is : text ≡ sent_text (finished_links dialer.dials)
+  -- the session's own faults
+  pub read_cause : ReadEndCause i i' e
+  pub write_cause : WriteEndCause o o' e
+
+-- the same through SOCKS servers: the pool is one over the outer dials, a link that it keeps is one behind its handshake, and SENT has
+-- the links to the servers
+pub record IsServedSharedThrough (config : Config) (tags : List (List ℕ)) (answers : List Answer) (i i' : SourceState) (o o' : SinkState) (t t' : ClockState) (e : SessionEnd) (text : List ℕ) : Type 0 where
+  pub looks : Looks
+  pub fixed : IsFixed looks config
+  pub dialer : Kept
+  pub shares : SharesLinks through_server (caller_of tags) looks i i' o o' (outer_state (begun_socks answers)) (outer_state dialer) t t' e
+  pub handshakes : Handshakes (outer_state dialer).dials dialer.inner.dials
+  pub text_is : text ≡ sent_text (finished_links dialer.inner.dials)
+  -- the session's own faults
+  pub read_cause : ReadEndCause i i' e
+  pub write_cause : WriteEndCause o o' e
+
+-- a session over the input and the answers whose requests take new links: through SOCKS servers where a forward line has one
+abbrev pub ServesApart : Config → List (List ℕ) → List Answer → SourceState → SourceState → SinkState → SinkState → ClockState → ClockState → SessionEnd → List ℕ → Type 0
+ServesApart config tags answers i i' o o' t t' e text =
+    MatchBool (has_socks config.forwards) (IsServedThrough config tags answers i i' o o' t t' e text) (IsServed config tags answers i i' o o' t t' e text)
+
+-- the same whose requests share links
+abbrev pub ServesShared : Config → List (List ℕ) → List Answer → SourceState → SourceState → SinkState → SinkState → ClockState → ClockState → SessionEnd → List ℕ → Type 0
+ServesShared config tags answers i i' o o' t t' e text =
+    MatchBool (has_socks config.forwards) (IsServedSharedThrough config tags answers i i' o o' t t' e text) (IsServedShared config tags answers i i' o o' t t' e text)
+
+-- a session over the input and the answers: its requests share links where the configuration says so
 abbrev pub ServesInput : Config → List (List ℕ) → List Answer → SourceState → SourceState → SinkState → SinkState → ClockState → ClockState → SessionEnd → List ℕ → Type 0
 ServesInput config tags answers i i' o o' t t' e text =
-    MatchBool (has_socks config.forwards) (IsServedThrough config tags answers i i' o o' t t' e text) (IsServed config tags answers i i' o o' t t' e text)
+    MatchBool config.settings.sharing (ServesShared config tags answers i i' o o' t t' e text) (ServesApart config tags answers i i' o o' t t' e text)
 
 -- the same with the text that was made, if memory was there for it
 pub record HasServed (config : Config) (tags : List (List ℕ)) (answers : List Answer) (i i' : SourceState) (o o' : SinkState) (t t' : ClockState) (e : SessionEnd) (made : Option (List ℕ)) : Type 0 where

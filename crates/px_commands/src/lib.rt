@@ -2,6 +2,7 @@
 #![tactic(auto)]
 
 mod answers;
+mod clients;
 mod commands;
 mod exercises;
 mod loads;

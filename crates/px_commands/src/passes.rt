@@ -1,5 +1,5 @@
 // The command `pass`: one session over the input, with the answers of a file.
-ghost use Rattle.std.specs.Prelude.{◌≡◌, ◌∷◌, [], List, ℕ, IfOk, OnErr, false, map, string_bytes, true};
+ghost use Rattle.std.specs.Prelude.{◌≡◌, List, ℕ, IfOk, OnErr, false, map, string_bytes, true};
 ghost use Rattle.px_base.specs.Contents.{FilesGoOn};
 ghost use Rattle.px_base.specs.Sources.{SourceGoesOn};
 ghost use Rattle.px_base.specs.Sinks.{SinkState, SinkGoesOn};
@@ -9,23 +9,18 @@ ghost use Rattle.px_commands.specs.Passes.{Outside, OutsideGoesOn, RunsLoaded, H
 ghost use Rattle.px_commands.specs.Passing.{RunsPass};
 
 use crate::answers::{OriginRead, read_answers};
+use crate::clients::{Ended, made_client, serve_client};
 use crate::loads::report_load;
 use crate::sents::made_sent;
 use crate::statuses::{Status, is_wanting, status_after};
-use crate::texts::tag_texts;
 use crate::words::PassWords;
-use px_base::{Answer, Clock, Files, List, Mem, MemDialer, Peer, Sink, Source, Text};
+use px_base::{Answer, Clock, Files, List, Mem, MemDialer, Sink, Source, Text};
 use px_config::{Config, load};
-use px_publish::{Configs, FixedConfig};
-use px_serve::{SessionEnd, serve_connection};
+use px_serve::SessionEnd;
 use px_socks::SocksDialer;
 use px_ways::Way;
 use std::alloc::Global;
-use std::sync::Arc;
 use std::thread::Threads;
-
-/// The address of the one client of `pass`.
-const CLIENT: &[u8] = b"127.0.0.1";
 
 /// Runs `pass`: loads CONFIG, reads ORIGIN, serves the input as one client, and puts SENT last.
 pub fn run_pass<R: Threads + Sync, F: Files, S: Source, O: Sink, E: Sink, T: Clock>(
@@ -90,14 +85,6 @@ pub struct Served {
     sent: Option<Text>,
 }
 
-/// The one configuration, at each look.
-fn fixed_config(alloc: Global, loaded: Config) -> Result<FixedConfig<Config>, Mem>
-    ensures view { IfOk result (λ configs. ⟦<FixedConfig<Config> as Configs>⟧.view configs ≡ loaded ∷ []) }
-    ensures coming { IfOk result (λ configs. ⟦<FixedConfig<Config> as Configs>⟧.coming configs ≡ record { number = 0; config = loaded } ∷ []) }
-{
-    Ok(FixedConfig::new(Arc::new(alloc, loaded)?))
-}
-
 /// Serves the input as one client, whose dials have the answers; where a forward line has a SOCKS server, the dials go through
 /// such servers. After `Mem` nothing was read, asked or returned.
 fn serve_input<R: Threads + Sync, S: Source, O: Sink, T: Clock>(
@@ -141,25 +128,11 @@ fn serve_plain<R: Threads + Sync, S: Source, O: Sink, T: Clock>(
     ensures out_goes_on { SinkGoesOn (O.state out.old) (O.state out.new) }
     ensures clock_goes_on { ClockGoesOn (T.state clock.old) (T.state clock.new) }
 {
-    let tags = tag_texts(alloc, tags)?;
-    let peer = Peer {
-        address: Text::from_bytes(alloc, CLIENT)?,
-    };
-    let mut configs = fixed_config(alloc, loaded)?;
-    let mut dialer = MemDialer::new(alloc, answers)?;
-    let session = serve_connection(
-        alloc,
-        way,
-        &mut configs,
-        input,
-        out,
-        &mut dialer,
-        clock,
-        &peer,
-        tags.as_slice(),
-    );
+    let client = made_client(alloc, loaded, tags)?;
+    let dialer = MemDialer::new(alloc, answers)?;
+    let Ended { end, dialer } = serve_client(alloc, way, client, dialer, input, out, clock);
     Ok(Served {
-        end: session.end,
+        end,
         sent: made_sent(alloc, dialer.links()),
     })
 }
@@ -182,26 +155,12 @@ fn serve_through<R: Threads + Sync, S: Source, O: Sink, T: Clock>(
     ensures out_goes_on { SinkGoesOn (O.state out.old) (O.state out.new) }
     ensures clock_goes_on { ClockGoesOn (T.state clock.old) (T.state clock.new) }
 {
-    let tags = tag_texts(alloc, tags)?;
-    let peer = Peer {
-        address: Text::from_bytes(alloc, CLIENT)?,
-    };
-    let mut configs = fixed_config(alloc, loaded)?;
-    let mut dialer = SocksDialer::new(alloc, MemDialer::new(alloc, answers)?);
-    let session = serve_connection(
-        alloc,
-        way,
-        &mut configs,
-        input,
-        out,
-        &mut dialer,
-        clock,
-        &peer,
-        tags.as_slice(),
-    );
+    let client = made_client(alloc, loaded, tags)?;
+    let dialer = SocksDialer::new(alloc, MemDialer::new(alloc, answers)?);
+    let Ended { end, dialer } = serve_client(alloc, way, client, dialer, input, out, clock);
     let inner = dialer.into_inner();
     Ok(Served {
-        end: session.end,
+        end,
         sent: made_sent(alloc, inner.links()),
     })
 }

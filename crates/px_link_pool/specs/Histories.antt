@@ -7,7 +7,7 @@ use Rattle.px_base.specs.Sources.{SourceState}
 use Rattle.px_base.specs.Sinks.{SinkState}
 use Rattle.px_base.specs.Dials.{linked, dialed, finish, traffic}
 use Rattle.px_pool_ends.specs.Answers.{IsAnswer, is_answered, is_lost}
-use Rattle.px_pool_ends.specs.Incomings.{Hearing, inner_source, heard}
+use Rattle.px_pool_ends.specs.Incomings.{Hearing, IsLater, inner_source, heard}
 use Rattle.px_pool_ends.specs.Outgoings.{Sending, inner_sink, IsSent}
 use Rattle.px_link_pool.specs.Shelves.{is_place, without_first}
 use Rattle.px_link_pool.specs.Standing.{KeptState}
@@ -110,9 +110,11 @@ wanted (Again' shape before host port given) = wanted before
 wanted (HungUp' shape before host port link_in link_out closing) = counted (is_lost link_in.value.following) (wanted before)
 
 -- What is so of a link that was handed back, where it tells: an answer is known exactly where one was heard, unless memory was
--- wanting; and what was sent is what is sent for the bytes written, less what is held back.
+-- wanting; the inner source is the one that was lent, later; and what was sent is what is sent for the bytes written, less what is
+-- held back.
 pub record IsJudged (h : Hearing) (s : Sending) : Type 0 where
   pub answered : is_lost h.following ≡ false → (is_answered h.following ≡ true) ↔ IsAnswer 8 (heard h)
+  pub later : IsLater h.begun h.source
   pub sent : IsSent s
 
 -- that is so of each link that was handed back

@@ -1,4 +1,5 @@
 pub mod AnswerLemmas
+pub mod FrontLemmas
 pub mod LinkLemmas
 pub mod SharedDoorLemmas
 pub mod SharingLemmas

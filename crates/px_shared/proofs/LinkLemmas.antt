@@ -1,5 +1,5 @@
 -- A session over links whose sources offer just what was heard.
-use Rattle.std.proofs.Common.{◌≡◌, ◌≢◌, ◌⊎◌, inl, inr, ℕ, zero, suc, Bool, true, false, List, [], ◌∷◌, ◌++◌, if◌then◌else◌, sym, ap, refl, subst, ◌∙◌, append-nil, Some, None}
+use Rattle.std.proofs.Common.{◌≡◌, ◌≢◌, ◌⊎◌, inl, inr, ℕ, zero, suc, Bool, true, false, List, [], ◌∷◌, ◌++◌, if◌then◌else◌, sym, ap, refl, subst, ◌∙◌, length, drop, Some, None}
 use Rattle.std.specs.List.{AllByRecursion}
 use Rattle.px_base.specs.Dials.{DialerState, DialerGoesOn}
 use Rattle.px_base.specs.declared.dials.Dial.{Dial}
@@ -32,7 +32,7 @@ use Rattle.px_serve.specs.declared.ends.SessionEnd.TheVariants as end
 use Rattle.px_serve.specs.Ends.{end_after}
 use Rattle.px_serve.specs.Histories.{Begun}
 use Rattle.px_serve.specs.Sessions.{Caller, State, Step, Reaches, EndsSession, IsSession, is_last, given_of, begin}
-use Rattle.px_shared.specs.Links.{IsOneAnswer, HeardOne, EachAnswered, NoTunnel, offers_heard, offering_heard, with_heard}
+use Rattle.px_shared.specs.Links.{EachAnswered, EachHeardFront, HeardFront, HeardOne, NoTunnel, offers_heard, offering_heard, with_heard}
 use Rattle.px_shared.proofs.AnswerLemmas.{answered_any}
 
 -- ---- lists
@@ -49,20 +49,46 @@ offering-append : (xs ys : List Dial) → offering_heard (xs ++ ys) ≡ offering
 offering-append [] ys = refl
 offering-append (x ∷ xs) ys = ap (λ (zs : List Dial). record { host = x.host; port = x.port; outcome = offers_heard x.outcome } ∷ zs) (offering-append xs ys)
 
+-- ---- what was heard over a link is the front of what was offered, and one whole answer or all of it
+
+record AnswersOne (seen : LinkSeen) : Type 0 where
+  pub behind : List ℕ
+  pub offered : seen.offered ≡ seen.heard ++ behind
+  pub whole : IsAnswer 8 seen.heard ⊎ (seen.offered ≡ seen.heard)
+
+abbrev GivesOne : DialOutcome → Type 0
+GivesOne outcome.NoName = Unit {0}
+GivesOne outcome.NotReached = Unit {0}
+GivesOne (outcome.Open mark offered) = Unit {0}
+GivesOne (outcome.Link seen) = AnswersOne seen
+
+abbrev EachGives : List Dial → Type 0
+EachGives ds = AllByRecursion (λ d. GivesOne d.outcome) ds
+
+gives_one : (o : DialOutcome) → HeardFront o → HeardOne o → GivesOne o
+gives_one outcome.NoName f w = tt
+gives_one outcome.NotReached f w = tt
+gives_one (outcome.Open mark offered) f w = tt
+gives_one (outcome.Link seen) f w = record { behind = drop (length seen.heard) seen.offered; offered = f; whole = w }
+
+each_gives : (ds : List Dial) → EachHeardFront ds → EachAnswered ds → EachGives ds
+each_gives [] f w = tt
+each_gives (d ∷ ds) f w = (gives_one d.outcome f.0 w.0, each_gives ds f.1 w.1)
+
 -- ---- one dial
 
 -- what is due for what was offered is due for what was heard
-heard_due : (ask : Ask) (offered heard behind : List ℕ) (due : Due) → offered ≡ heard ++ behind → IsAnswer 8 heard ⊎ (behind ≡ []) → (failed : Bool)
+heard_due : (ask : Ask) (offered heard behind : List ℕ) (due : Due) → offered ≡ heard ++ behind → IsAnswer 8 heard ⊎ (offered ≡ heard) → (failed : Bool)
     → Answered ask (if failed then heard else offered) failed due → Answered ask (if failed then heard else heard) failed due
 heard_due ask offered heard behind due e w true a = a
 heard_due ask offered heard behind due e (inl w) false a = (answered_any ask heard behind false due w).0 (rw e at a)
-heard_due ask offered heard behind due e (inr none) false a = rw (e ∙ ap (λ (bs : List ℕ). heard ++ bs) none ∙ append-nil heard) at a
+heard_due ask offered heard behind due e (inr all) false a = rw all at a
 
 -- a link as it is heard
 abbrev as_heard : LinkSeen → LinkSeen
 as_heard seen = record { offered = seen.heard; heard = seen.heard; sent = seen.sent; read_failed = seen.read_failed; write_failed = seen.write_failed }
 
-follows_heard : (ask : Ask) (says : Says) (seen : LinkSeen) (mid : List ℕ) (how : Sent) → IsOneAnswer seen → Follows ask says seen mid how → Follows ask says (as_heard seen) mid how
+follows_heard : (ask : Ask) (says : Says) (seen : LinkSeen) (mid : List ℕ) (how : Sent) → AnswersOne seen → Follows ask says seen mid how → Follows ask says (as_heard seen) mid how
 follows_heard ask says seen mid sent.Whole w h = record { due = h.due; is_due = heard_due ask seen.offered seen.heard w.behind h.due w.offered w.whole seen.read_failed h.is_due; is_so = h.is_so }
 follows_heard ask says seen mid sent.LinkFailed w h = h
 follows_heard ask says seen mid sent.Misframed w h = h
@@ -71,7 +97,7 @@ follows_heard ask says seen mid sent.ReadFailed w h = h
 follows_heard ask says seen mid sent.WriteFailed w h = h
 follows_heard ask says seen mid sent.NoMemory w h = h
 
-forwards_heard : (ask : Ask) (route : Route) (m : Message) (c : Client) (says : Says) (taken : List ℕ) (o : DialOutcome) → HeardOne o → Forwards ask route m c says taken o → Forwards ask route m c says taken (offers_heard o)
+forwards_heard : (ask : Ask) (route : Route) (m : Message) (c : Client) (says : Says) (taken : List ℕ) (o : DialOutcome) → GivesOne o → Forwards ask route m c says taken o → Forwards ask route m c says taken (offers_heard o)
 forwards_heard ask route m c says taken outcome.NoName w h = h
 forwards_heard ask route m c says taken outcome.NotReached w h = h
 forwards_heard ask route m c says taken (outcome.Open mark offered) w h = h
@@ -110,10 +136,10 @@ lasts_heard h = record {
 }
 
 -- the dials before, and the one that was added
-before_last : (route : Route) (G : DialOutcome → Type 0) (old new : DialerState) → EachAnswered new.dials → (d : DialsOnce route G old new) → EachAnswered old.dials × HeardOne d.dial.outcome
-before_last route G old new all d = all_but_last (λ (x : Dial). HeardOne x.outcome) old.dials new.dials d.dial d.added all
+before_last : (route : Route) (G : DialOutcome → Type 0) (old new : DialerState) → EachGives new.dials → (d : DialsOnce route G old new) → EachGives old.dials × GivesOne d.dial.outcome
+before_last route G old new all d = all_but_last (λ (x : Dial). GivesOne x.outcome) old.dials new.dials d.dial d.added all
 
-dials_heard : (route : Route) (G H : DialOutcome → Type 0) (old new : DialerState) → ((o : DialOutcome) → HeardOne o → G o → H (offers_heard o)) → EachAnswered new.dials → DialsOnce route G old new
+dials_heard : (route : Route) (G H : DialOutcome → Type 0) (old new : DialerState) → ((o : DialOutcome) → GivesOne o → G o → H (offers_heard o)) → EachGives new.dials → DialsOnce route G old new
     → DialsOnce route H (with_heard old) (with_heard new)
 dials_heard route G H old new f all d = record {
   dial = record { host = d.dial.host; port = d.dial.port; outcome = offers_heard d.dial.outcome };
@@ -131,13 +157,13 @@ dials_heard route G H old new f all d = record {
 
 -- what comes before it was answered, too, and it is the same over what was heard
 record Alone (old : DialerState) (Same : Type 0) : Type 0 where
-  pub before : EachAnswered old.dials
+  pub before : EachGives old.dials
   pub same : Same
 
-undialled : (old new : DialerState) → new ≡ old → EachAnswered new.dials → EachAnswered old.dials
-undialled old new e all = subst (λ (d : DialerState). EachAnswered d.dials) e all
+undialled : (old new : DialerState) → new ≡ old → EachGives new.dials → EachGives old.dials
+undialled old new e all = subst (λ (d : DialerState). EachGives d.dials) e all
 
-does_alone : (config : Config) (j : Judgement) (c : Client) (old new : DialerState) (taken taken' : List ℕ) (x : Conclusion) → EachAnswered new.dials → x.ending ≢ ending.Tunnel
+does_alone : (config : Config) (j : Judgement) (c : Client) (old new : DialerState) (taken taken' : List ℕ) (x : Conclusion) → EachGives new.dials → x.ending ≢ ending.Tunnel
     → Does config j c old new taken taken' x → Alone old (Does config j c (with_heard old) (with_heard new) taken taken' x)
 does_alone config (judgement.Local reply) c old new taken taken' x all n h = record { before = undialled old new h.0 all; same = (ap with_heard h.0, h.1, h.2) }
 does_alone config (judgement.Forward plan) c old new taken taken' x all n h = record {
@@ -151,7 +177,7 @@ does_alone config (judgement.Tunnel t) c old new taken taken' x all n h = record
       (λ o w f. tunnels_heard (tunnel_page_due config t) t c x taken taken' o n f) all h;
 }
 
-answers_alone : (g : Given) (c : Client) (old new : DialerState) (taken taken' : List ℕ) (x : Conclusion) → EachAnswered new.dials → x.ending ≢ ending.Tunnel → x ≢ broken after.NoMemory
+answers_alone : (g : Given) (c : Client) (old new : DialerState) (taken taken' : List ℕ) (x : Conclusion) → EachGives new.dials → x.ending ≢ ending.Tunnel → x ≢ broken after.NoMemory
     → Answers g c old new taken taken' x → Alone old (Answers g c (with_heard old) (with_heard new) taken taken' x)
 answers_alone g c old new taken taken' x all n m (inl h) =
     let d = does_alone g.config h.judgement c old new taken taken' x all n h.does in
@@ -163,7 +189,7 @@ answers_alone g c old new taken taken' x all n m (inr h) = absurd (m h.concluded
 abbrev heard_state : State → State
 heard_state s = record { stream = s.stream; dialer = with_heard s.dialer; taken = s.taken; begun = s.begun }
 
-step_alone : (caller : Caller) (n : ℕ) (s t : State) (b : Begun) → EachAnswered t.dialer.dials → b.concluded.ending ≢ ending.Tunnel → b.concluded ≢ broken after.NoMemory → Step caller n s t b
+step_alone : (caller : Caller) (n : ℕ) (s t : State) (b : Begun) → EachGives t.dialer.dials → b.concluded.ending ≢ ending.Tunnel → b.concluded ≢ broken after.NoMemory → Step caller n s t b
     → Alone s.dialer (Step caller n (heard_state s) (heard_state t) b)
 step_alone caller n s t b all k m h =
     let a = answers_alone (given_of caller n h.seen b) (record { stream = h.rest; behind = t.stream }) s.dialer t.dialer s.taken t.taken b.concluded all k m h.answers in
@@ -179,7 +205,7 @@ ends_with last x e h n m = let o = ap (end_after last) (sym m) ∙ h in n (cc)
 no_tunnel_in : (s t : State) (b : Begun) → t.begun ≡ s.begun ++ b ∷ [] → NoTunnel t.begun → NoTunnel s.begun × (b.concluded.ending ≢ ending.Tunnel)
 no_tunnel_in s t b e n = all_but_last (λ (x : Begun). x.concluded.ending ≢ ending.Tunnel) s.begun t.begun b e n
 
-reaches_alone : (caller : Caller) (s : State) (n : ℕ) (t : State) → EachAnswered t.dialer.dials → NoTunnel t.begun → Reaches caller s n t → Reaches caller (heard_state s) n (heard_state t)
+reaches_alone : (caller : Caller) (s : State) (n : ℕ) (t : State) → EachGives t.dialer.dials → NoTunnel t.begun → Reaches caller s n t → Reaches caller (heard_state s) n (heard_state t)
 reaches_alone caller s zero t all none h = ap heard_state h
 reaches_alone caller s (suc n) t all none (m, h, k) =
     let u = no_tunnel_in m t k.begun k.step.noted none in
@@ -188,11 +214,11 @@ reaches_alone caller s (suc n) t all none (m, h, k) =
 
 -- what ends it, and that the states before were so
 record EndsAlone (caller : Caller) (n : ℕ) (s t : State) (left : List ℕ) (e : SessionEnd) : Type 0 where
-  pub before : EachAnswered s.dialer.dials
+  pub before : EachGives s.dialer.dials
   pub none : NoTunnel s.begun
   pub same : EndsSession caller n (heard_state s) (heard_state t) left e
 
-ends_alone : (caller : Caller) (n : ℕ) (s t : State) (left : List ℕ) (e : SessionEnd) → EachAnswered t.dialer.dials → NoTunnel t.begun → e ≢ end.NoMemory → EndsSession caller n s t left e
+ends_alone : (caller : Caller) (n : ℕ) (s t : State) (left : List ℕ) (e : SessionEnd) → EachGives t.dialer.dials → NoTunnel t.begun → e ≢ end.NoMemory → EndsSession caller n s t left e
     → EndsAlone caller n s t left e
 ends_alone caller n s t left e all none m (inl h) = record {
   before = undialled s.dialer t.dialer h.undialled all;
@@ -205,8 +231,9 @@ ends_alone caller n s t left e all none m (inr h) =
     record { before = a.before; none = u.0; same = inr (record { begun = h.begun; step = a.same; ends = h.ends }) }
 
 pub session_alone : (caller : Caller) (stream left : List ℕ) (old new : DialerState) (taken taken' : List ℕ) (begun : List Begun) (e : SessionEnd) → IsSession caller stream left old new taken taken' begun e
-    → EachAnswered new.dials → NoTunnel begun → e ≢ end.NoMemory → IsSession caller stream left (with_heard old) (with_heard new) taken taken' begun e
-session_alone caller stream left old new taken taken' begun e h all none m =
+    → EachHeardFront new.dials → EachAnswered new.dials → NoTunnel begun → e ≢ end.NoMemory → IsSession caller stream left (with_heard old) (with_heard new) taken taken' begun e
+session_alone caller stream left old new taken taken' begun e h fronts each none m =
+    let all : EachGives new.dials = each_gives new.dials fronts each in
     let last : State = record { stream = h.rest; dialer = new; taken = taken'; begun = begun } in
     let a = ends_alone caller h.kept h.middle last left e all none m h.ended in
     record { kept = h.kept; middle = heard_state h.middle; rest = h.rest; reached = reaches_alone caller (begin stream old taken) h.kept h.middle a.before a.none h.reached; ended = a.same }

@@ -1,5 +1,5 @@
 -- Links over which an origin answered by itself, and the dials whose sources offer just what was heard.
-use Rattle.std.specs.Prelude.{◌≡◌, ◌≢◌, ◌⊎◌, false, List, [], ◌∷◌, ◌++◌, ℕ}
+use Rattle.std.specs.Prelude.{◌≡◌, ◌≢◌, ◌⊎◌, false, List, [], ◌∷◌, ◌++◌, ℕ, length, drop}
 use Rattle.std.specs.List.{AllByRecursion}
 use Rattle.px_base.specs.Dials.{DialerState}
 use Rattle.px_base.specs.declared.dials.Dial.{Dial}
@@ -10,11 +10,24 @@ use Rattle.px_pool_ends.specs.Answers.{IsAnswer}
 use Rattle.px_pumps.specs.declared.notes.Ending.TheVariants as ending
 use Rattle.px_serve.specs.Histories.{Begun}
 
--- what was heard over a link is the front of what its source offered, and one whole answer, or all that was offered
-pub record IsOneAnswer (seen : LinkSeen) : Type 0 where
-  pub behind : List ℕ
-  pub offered : seen.offered ≡ seen.heard ++ behind
-  pub whole : IsAnswer 8 seen.heard ⊎ (behind ≡ [])
+-- what was heard over a link is the front of what its source offered
+abbrev pub IsFront : LinkSeen → Type 0
+IsFront seen = seen.offered ≡ seen.heard ++ drop (length seen.heard) seen.offered
+
+-- so it is of a dial whose link was hung up
+abbrev pub HeardFront : DialOutcome → Type 0
+HeardFront outcome.NoName = Unit {0}
+HeardFront outcome.NotReached = Unit {0}
+HeardFront (outcome.Open mark offered) = Unit {0}
+HeardFront (outcome.Link seen) = IsFront seen
+
+-- so it is of each link of these dials
+abbrev pub EachHeardFront : List Dial → Type 0
+EachHeardFront ds = AllByRecursion (λ d. HeardFront d.outcome) ds
+
+-- what was heard over a link is one whole answer, or all that was offered
+abbrev pub IsOneAnswer : LinkSeen → Type 0
+IsOneAnswer seen = IsAnswer 8 seen.heard ⊎ (seen.offered ≡ seen.heard)
 
 -- so it is of a dial whose link was hung up
 abbrev pub HeardOne : DialOutcome → Type 0

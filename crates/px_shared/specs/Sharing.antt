@@ -40,8 +40,8 @@ pub record IsLeftBy (pool inner : DialerState) : Type 0 where
 abbrev pub lent_over : Lent → DialerState → Objects
 lent_over l pool = record { client_out = l.client_out; dialer = pool; clock = l.clock }
 
--- A session over a pool that was just made, which it leaves in that state. Where the origins answered each request by itself, no tunnel was carried and
--- memory wasn't wanting, it is the session over new links each of which offers just its answer.
+-- A session over a pool that was just made, which it leaves in that state. Where one whole answer was heard over each link, no tunnel
+-- was carried and memory wasn't wanting, it is the session over new links each of which offers just its answer.
 pub record ServesOver (caller : Caller) (old new : Lent) (pool : DialerState) (notes : List ExchangeNote) (e : SessionEnd) : Type 0 where
   pub serves : Serves caller old.looks new.looks old.client_in new.client_in (lent_over old (pooled old.inner)) (lent_over new pool) notes e
   pub alone : Tell old.client_in (lent_over old (pooled old.inner)) → EachAnswered pool.dials → NoTunnel serves.begun → e ≢ end.NoMemory

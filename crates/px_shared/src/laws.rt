@@ -9,7 +9,7 @@ ghost use Rattle.px_serve.specs.declared.ends.SessionEnd.TheVariants as end;
 ghost use Rattle.px_serve.specs.Histories.{Begun};
 ghost use Rattle.px_serve.specs.Sessions.{Caller, IsSession};
 ghost use Rattle.px_shared.specs.Answers.{IsAnswerTo};
-ghost use Rattle.px_shared.specs.Links.{EachAnswered, NoTunnel, with_heard};
+ghost use Rattle.px_shared.specs.Links.{EachAnswered, EachHeardFront, NoTunnel, with_heard};
 
 /// What follows a whole answer changes nothing of what is due to the client for it: neither more bytes nor that their reading
 /// failed. So it is of an answer to a request of that method, and of what a pool of links takes for one, whatever the method.
@@ -22,10 +22,11 @@ pub fn answers_end()
 {}
 
 /// A session over links each of whose origins answered one request by itself is the session over links of which each offers
-/// just what was heard, with the same bytes sent and returned: where no tunnel was carried and memory wasn't wanting.
+/// just what was heard, with the same bytes sent and returned: where no tunnel was carried and memory wasn't wanting. What was
+/// heard over each is the front of what it offered; of the links of a pool that is so.
 #[tactic(auto, using(crate::proofs::LinkLemmas::session_alone))]
 pub fn heard_is_enough()
     ensures { (caller : Caller) (stream left : List ℕ) (old new : DialerState) (taken taken' : List ℕ) (begun : List Begun) (e : SessionEnd)
-        → IsSession caller stream left old new taken taken' begun e → EachAnswered new.dials → NoTunnel begun → e ≢ end.NoMemory
+        → IsSession caller stream left old new taken taken' begun e → EachHeardFront new.dials → EachAnswered new.dials → NoTunnel begun → e ≢ end.NoMemory
         → IsSession caller stream left (with_heard old) (with_heard new) taken taken' begun e }
 {}

@@ -12,6 +12,7 @@ use px_config::{Config, load};
 use px_leaf_rows::Fault;
 use px_publish::StepConfig;
 use px_serve::{Session, serve_connection};
+use px_shared::{Shared, serve_shared};
 use px_socks::SocksDialer;
 use px_ways::Way;
 use std::alloc::Global;
@@ -426,8 +427,7 @@ pub(crate) fn run_session<R: Threads + Sync>(
     let alloc = setup.alloc;
     let run = Run { alloc, setup, plan };
     let mut client = run.client()?;
-    let mut dialer = SocksDialer::new(alloc, run.dialer()?);
-    let session = serve(&run, rt, configs, &mut client, &mut dialer)?;
+    let Served { session, dialer } = serve(&run, rt, configs, &mut client)?;
     let Client {
         input: _,
         out,
@@ -437,17 +437,48 @@ pub(crate) fn run_session<R: Threads + Sync>(
     session_seen(&run, &session, out.into_taken(), &dialer.into_inner())
 }
 
-/// Serves a client by configurations in turn.
+/// A session that was served, and the dialer behind it.
+#[derive(Drop)]
+struct Served {
+    session: Session,
+    dialer: SocksDialer<MemDialer>,
+}
+
+/// Serves a client by configurations in turn: over shared links where the first one says so.
 fn serve<R: Threads + Sync>(
     run: &Run<'_, '_>,
     rt: &R,
     configs: &[Arc<Config>],
     client: &mut Client,
-    dialer: &mut SocksDialer<MemDialer>,
-) -> Result<Session, Fault> {
-    let mut configs = run.configs(configs)?;
+) -> Result<Served, Fault> {
+    let sharing = match configs.first() {
+        Some(first) => first.settings.sharing,
+        None => false,
+    };
+    let configs = run.configs(configs)?;
+    let dialer = SocksDialer::new(run.alloc, run.dialer()?);
+    if sharing {
+        share_links(run, rt, configs, client, dialer)
+    } else {
+        take_new_links(run, rt, configs, client, dialer)
+    }
+}
+
+/// Serves a client over a pool of links of a dialer.
+fn share_links<R: Threads + Sync>(
+    run: &Run<'_, '_>,
+    rt: &R,
+    configs: StepConfig<Config>,
+    client: &mut Client,
+    dialer: SocksDialer<MemDialer>,
+) -> Result<Served, Fault> {
+    let mut configs = configs;
     let mut clock = run.clock()?;
-    Ok(serve_connection(
+    let Shared {
+        session,
+        dialer,
+        wanting: _,
+    } = serve_shared(
         run.alloc,
         &Way::AtOnce(rt),
         &mut configs,
@@ -457,7 +488,32 @@ fn serve<R: Threads + Sync>(
         &mut clock,
         &client.peer,
         client.tags.as_slice(),
-    ))
+    );
+    Ok(Served { session, dialer })
+}
+
+/// Serves a client over a dialer, each dial a new link.
+fn take_new_links<R: Threads + Sync>(
+    run: &Run<'_, '_>,
+    rt: &R,
+    configs: StepConfig<Config>,
+    client: &mut Client,
+    dialer: SocksDialer<MemDialer>,
+) -> Result<Served, Fault> {
+    let (mut configs, mut dialer) = (configs, dialer);
+    let mut clock = run.clock()?;
+    let session = serve_connection(
+        run.alloc,
+        &Way::AtOnce(rt),
+        &mut configs,
+        &mut client.input,
+        &mut client.out,
+        &mut dialer,
+        &mut clock,
+        &client.peer,
+        client.tags.as_slice(),
+    );
+    Ok(Served { session, dialer })
 }
 
 /// What is seen behind a session.
