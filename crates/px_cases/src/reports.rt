@@ -10,8 +10,7 @@ pub(crate) fn print_report(
     ran: Result<(), Misread>,
 ) -> io::Result<bool> {
     for difference in &report.differences {
-        let Difference { line, want, got } = difference;
-        println!(rt; "{name}:{line}: want {want} got {got}")?;
+        print_difference(rt, name, difference)?;
     }
     match ran {
         Ok(()) if report.rows == 0 => println!(rt; "{name}:0: the file has no row")?,
@@ -20,15 +19,25 @@ pub(crate) fn print_report(
             println!(rt; "{name} {rows}")?;
             return Ok(report.differences.is_empty());
         }
-        Err(Misread { line, fault }) => match fault {
-            Fault::Mem => println!(rt; "{name}:{line}: memory was wanting")?,
-            Fault::Form(what) => println!(rt; "{name}:{line}: {what}")?,
-            Fault::Refused {
-                number,
-                name: what,
-                ..
-            } => { println!(rt; "{name}:{line}: {number} {what}")? }
-        },
+        Err(misread) => print_misread(rt, name, misread)?,
     }
     Ok(false)
+}
+
+fn print_difference(rt: &impl Print, name: &str, difference: &Difference) -> io::Result<()> {
+    let Difference { line, want, got } = difference;
+    println!(rt; "{name}:{line}: want {want} got {got}")
+}
+
+fn print_misread(rt: &impl Print, name: &str, misread: Misread) -> io::Result<()> {
+    let line = misread.line;
+    match misread.fault {
+        Fault::Mem => println!(rt; "{name}:{line}: memory was wanting"),
+        Fault::Form(what) => println!(rt; "{name}:{line}: {what}"),
+        Fault::Refused {
+            number,
+            name: what,
+            ..
+        } => println!(rt; "{name}:{line}: {number} {what}"),
+    }
 }

@@ -5,6 +5,8 @@ mod command_rows;
 #[cfg(test)]
 mod common;
 #[cfg(test)]
+mod conns;
+#[cfg(test)]
 mod doors;
 #[cfg(test)]
 mod exercise;
