@@ -51,7 +51,7 @@ returns-in-Err-Failed-clause-sends g c t p =
     let i = c.pieces.invariant in
     let m : c.in-Ok.state ≡ state.More = search rules in
     sent_read c.args.rule _ _ _ _ c.send_piece.new.reader
-    (still_so_far c.args.rule _ _ _ _ _ c.send_piece.new.reader (c.in-Err-Failed.ensures.bytes (λ e. cc) (i.in_goes_on.tells_same ∙ t))
+    (still_so_far c.args.rule _ _ _ _ _ c.send_piece.new.reader (c.in-Err-Failed.ensures.bytes (i.in_goes_on.tells_same ∙ t))
     (sent_on c.args.rule _ c.pieces.ahead c.send_piece.new.ahead (g.S.Source.state c.pieces.client_in).left _ _ _ c.in-Ok.state c.pieces.reader c.send_piece.new.reader (i.so_far t p)
     (c.in-Ok.ensures.passes (i.link_goes_on.tells_same ∙ p) c.args.rule) m (c.in-Ok.ensures.used_up m)))
     c.in-Ok.ensures.settled (sym c.in-Ok.ensures.state ∙ m)
