@@ -75,7 +75,7 @@ fn answer_line(
 /// Then come crunch-incoming-cookies, session-cookies-only or else limit-cookie-lifetime, content-type-overwrite,
 /// overwrite-last-modified, hide-content-disposition, crunch-server-header and server-header-filter, each of all fields. A
 /// changed status line counts where it is a status line of the same status.
-#[tactic(auto, unfolding(crate::specs::ServerRows::server_out))]
+#[tactic(auto, unfolding(crate::specs::ServerRows::server_out, crate::specs::Rewrites::answer_line, px_head::specs::Prints::status_line))]
 pub fn server_headers(
     alloc: Global,
     head: &mut ResponseHead,
