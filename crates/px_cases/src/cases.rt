@@ -10,7 +10,7 @@ use crate::cases::setups::{Device, Failing, Origin, Setup};
 use crate::cases::wants::{Difference, Wants};
 use px_config::Config;
 use px_leaf_rows::{Fault, Misread, Report};
-use std::alloc::{AllocError, Global};
+use std::alloc::Global;
 use std::sync::Arc;
 use std::thread::Threads;
 
@@ -20,34 +20,10 @@ const CALL_LIMIT: u64 = 1_000;
 /// The most bytes of a text that are told.
 const TOLD_LIMIT: usize = 200;
 
-/// What a run showed in which one more call was to fail.
-#[derive(Clone, Copy)]
-enum Failed {
-    /// It is as without: so many calls there aren't.
-    Nothing,
-    AsWanted,
-    Otherwise,
-}
-
-/// How it is told which call fails.
-fn told_failing(alloc: Global, failing: Failing) -> Result<String, AllocError> {
-    let Failing { device, call, dial } = failing;
-    format!(in alloc; ", {device:?} {call} of {dial} failing")
-}
-
 /// What is told of a text: of a long one the part from a place on.
 fn shortened(text: &[u8], from: usize) -> &[u8] {
     let behind = text.get(from..).unwrap_or(&[]);
     behind.get(..TOLD_LIMIT).unwrap_or(behind)
-}
-
-/// How it is told of which run a difference is, and from which byte on its texts are told.
-fn told_run(alloc: Global, from: usize, run: &str) -> Result<String, AllocError> {
-    if from == 0 {
-        String::from_str(alloc, run)
-    } else {
-        format!(in alloc; " from byte {from} on{run}")
-    }
 }
 
 /// A case, what it wants of its runs, and of what they are: of the session by itself where configurations stand, else of the command.
@@ -94,7 +70,12 @@ impl<R: Threads + Sync> Trial<'_, '_, R> {
         } else {
             same.saturating_sub(TOLD_LIMIT / 4)
         };
-        let run = told_run(self.alloc, from, run)?;
+        let place = if from == 0 {
+            String::new(self.alloc)
+        } else {
+            format!(in self.alloc; " from byte {from} on")?
+        };
+        let run = format!(in self.alloc; "{place}{run}")?;
         let (want, got) = (shortened(want, from), shortened(got, from));
         report.differ(line, want, got, run.as_str())?;
         Ok(false)
@@ -106,24 +87,15 @@ impl<R: Threads + Sync> Trial<'_, '_, R> {
         self.tell(report, self.wants.difference(&seen), run)
     }
 
-    /// The length of the longest stream.
-    fn longest(&self) -> usize {
+    /// Whether the case is met however the streams are cut.
+    fn hold_cuts(&self, report: &mut Report) -> Result<bool, Fault> {
         let mut longest = self.setup.input.len().max(self.wants.out().len());
         for origin in &self.setup.origins {
             if let Origin::Link(bytes) = origin {
                 longest = longest.max(bytes.len());
             }
         }
-        longest
-    }
-
-    /// Whether the case is met however the streams are cut.
-    fn hold_cuts(&self, report: &mut Report) -> Result<bool, Fault> {
-        let places = if self.at_each_place {
-            self.longest()
-        } else {
-            0
-        };
+        let places = if self.at_each_place { longest } else { 0 };
         for place in 1..places {
             let run = format!(in self.alloc; ", the streams cut at {place}")?;
             if !self.hold(report, Cut::At(place), run.as_str())? {
@@ -142,31 +114,22 @@ impl<R: Threads + Sync> Trial<'_, '_, R> {
         dial: usize,
     ) -> Result<Option<u64>, Fault> {
         for call in 0..CALL_LIMIT {
-            match self.fail_call(report, Failing { device, call, dial })? {
-                Failed::Nothing => return Ok(Some(call)),
-                Failed::Otherwise => return Ok(None),
-                Failed::AsWanted if device.is_dial() => return Ok(Some(1)),
-                Failed::AsWanted => {}
+            let seen = self.run(&Plan {
+                cut: Cut::Given,
+                failing: Some(Failing { device, call, dial }),
+            })?;
+            if self.wants.difference(&seen).is_none() {
+                return Ok(Some(call));
+            }
+            let run = format!(in self.alloc; ", {device:?} {call} of {dial} failing")?;
+            if !self.tell(report, self.wants.failed_difference(&seen), run.as_str())? {
+                return Ok(None);
+            }
+            if device.is_dial() {
+                return Ok(Some(1));
             }
         }
         Err(Fault::Form("the calls that fail in turn come to no end"))
-    }
-
-    /// Lets a call fail.
-    fn fail_call(&self, report: &mut Report, failing: Failing) -> Result<Failed, Fault> {
-        let seen = self.run(&Plan {
-            cut: Cut::Given,
-            failing: Some(failing),
-        })?;
-        if self.wants.difference(&seen).is_none() {
-            return Ok(Failed::Nothing);
-        }
-        let run = told_failing(self.alloc, failing)?;
-        if self.tell(report, self.wants.failed_difference(&seen), run.as_str())? {
-            Ok(Failed::AsWanted)
-        } else {
-            Ok(Failed::Otherwise)
-        }
     }
 
     /// Lets each call of a device fail in turn, of a link those of each dial's. Whether each run is as wanted.
@@ -183,11 +146,6 @@ impl<R: Threads + Sync> Trial<'_, '_, R> {
                 None => return Ok(false),
             }
         }
-        self.hold_times(report, times)
-    }
-
-    /// Whether as many runs had a failing call as the case wants, where it says so.
-    fn hold_times(&self, report: &mut Report, times: u64) -> Result<bool, Fault> {
         match self.wants.times {
             Some((line, wanted)) if wanted != times => {
                 let want = format!(in self.alloc; "{wanted}")?;
@@ -242,25 +200,15 @@ fn run_case<R: Threads + Sync>(
     let setup = Setup::of_case(alloc, case)?;
     let wants = Wants::of_case(alloc, case, &setup)?;
     report.count();
-    try_case(rt, case, &setup, &wants, report).map_err(|fault| case.misread(fault))
-}
-
-fn try_case<R: Threads + Sync>(
-    rt: &R,
-    case: &Case<'_>,
-    setup: &Setup<'_>,
-    wants: &Wants<'_>,
-    report: &mut Report,
-) -> Result<(), Fault> {
     let mut trial = Trial {
         rt,
-        alloc: setup.alloc,
-        setup,
-        wants,
+        alloc,
+        setup: &setup,
+        wants: &wants,
         configs: None,
         at_each_place: !case.has(Key::End),
     };
-    run_trial(&mut trial, case, report)
+    run_trial(&mut trial, case, report).map_err(|fault| case.misread(fault))
 }
 
 /// Runs the cases of a file's text.

@@ -10,7 +10,8 @@ pub(crate) fn print_report(
     ran: Result<(), Misread>,
 ) -> io::Result<bool> {
     for difference in &report.differences {
-        print_difference(rt, name, difference)?;
+        let Difference { line, want, got } = difference;
+        println!(rt; "{name}:{line}: want {want} got {got}")?;
     }
     match ran {
         Ok(()) if report.rows == 0 => println!(rt; "{name}:0: the file has no row")?,
@@ -19,25 +20,15 @@ pub(crate) fn print_report(
             println!(rt; "{name} {rows}")?;
             return Ok(report.differences.is_empty());
         }
-        Err(misread) => print_misread(rt, name, misread)?,
+        Err(Misread { line, fault }) => match fault {
+            Fault::Mem => println!(rt; "{name}:{line}: memory was wanting")?,
+            Fault::Form(what) => println!(rt; "{name}:{line}: {what}")?,
+            Fault::Refused {
+                number,
+                name: what,
+                ..
+            } => { println!(rt; "{name}:{line}: {number} {what}")? }
+        },
     }
     Ok(false)
-}
-
-fn print_difference(rt: &impl Print, name: &str, difference: &Difference) -> io::Result<()> {
-    let Difference { line, want, got } = difference;
-    println!(rt; "{name}:{line}: want {want} got {got}")
-}
-
-fn print_misread(rt: &impl Print, name: &str, misread: Misread) -> io::Result<()> {
-    let line = misread.line;
-    match misread.fault {
-        Fault::Mem => println!(rt; "{name}:{line}: memory was wanting"),
-        Fault::Form(what) => println!(rt; "{name}:{line}: {what}"),
-        Fault::Refused {
-            number,
-            name: what,
-            ..
-        } => println!(rt; "{name}:{line}: {number} {what}"),
-    }
 }

@@ -3,8 +3,10 @@ ghost use Rattle.px_doors.specs.Conns.{IsFreshConn};
 ghost use Rattle.px_doors.specs.MemConns.{mem_conn};
 
 use crate::common::same;
-use crate::conns::conn_of;
-use px_base::{Clock, Dialer, Failed, List, Mem, Sink, Source, Text, write_all};
+use px_base::{
+    Clock, Dialer, Failed, FixedClock, List, Mem, MemDialer, Peer, Sink, Source, TapeIn, TapeOut,
+    Text, write_all,
+};
 use px_doors::*;
 use px_serve::{Session, SessionEnd};
 use px_sockets::{SocketDialer, SocketSource};
@@ -16,7 +18,15 @@ use std::time::Duration;
 fn client(alloc: Global, bytes: &[u8]) -> Result<MemConn, Mem>
     ensures { IfOk result (λ conn. IsFreshConn (mem_conn conn)) }
 {
-    conn_of(alloc, bytes, List::new(alloc))
+    Ok(Conn {
+        client_in: TapeIn::new(alloc, bytes, &[], &[])?,
+        client_out: TapeOut::new(alloc, &[], &[])?,
+        dialer: MemDialer::new(alloc, List::new(alloc))?,
+        clock: FixedClock::new(List::new(alloc)),
+        peer: Peer {
+            address: Text::from_bytes(alloc, b"127.0.0.1")?,
+        },
+    })
 }
 
 /// Doors with three connections, of which those calls fail.

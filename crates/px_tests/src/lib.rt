@@ -5,8 +5,6 @@ mod command_rows;
 #[cfg(test)]
 mod common;
 #[cfg(test)]
-mod conns;
-#[cfg(test)]
 mod doors;
 #[cfg(test)]
 mod exercise;

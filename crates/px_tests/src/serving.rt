@@ -5,9 +5,8 @@ ghost use Rattle.px_desk.specs.Facts.{Begun};
 ghost use Rattle.px_doors.specs.MemConns.{AreFresh, mem_conn};
 
 use crate::common::{same, same_at};
-use crate::conns::conn_of;
-use px_base::{Answer, List, Mem, MemFiles, TapeOut, Text};
-use px_doors::{Doors, MemConn, MemDoors};
+use px_base::{Answer, FixedClock, List, Mem, MemDialer, MemFiles, Peer, TapeIn, TapeOut, Text};
+use px_doors::{Conn, Doors, MemConn, MemDoors};
 use px_serve_command::{Parts, Proxied, run_proxy};
 use std::alloc::Global;
 use std::sync::Wait;
@@ -31,7 +30,15 @@ fn conn(alloc: Global) -> Result<MemConn, Mem>
         read_fails: List::new(alloc),
         write_fails: List::new(alloc),
     })?;
-    conn_of(alloc, GET, answers)
+    Ok(Conn {
+        client_in: TapeIn::new(alloc, GET, &[], &[])?,
+        client_out: TapeOut::new(alloc, &[], &[])?,
+        dialer: MemDialer::new(alloc, answers)?,
+        clock: FixedClock::new(List::new(alloc)),
+        peer: Peer {
+            address: Text::from_bytes(alloc, b"127.0.0.1")?,
+        },
+    })
 }
 
 /// A connection with two requests. Each of its two dials would give an answer to both, one at a time.
@@ -43,7 +50,15 @@ fn conn_of_two(alloc: Global) -> Result<MemConn, Mem>
     answers.add(two_answers(alloc)?)?;
     let mut asked = Text::from_bytes(alloc, GET)?;
     asked.push_all(GET)?;
-    conn_of(alloc, asked.as_bytes(), answers)
+    Ok(Conn {
+        client_in: TapeIn::new(alloc, asked.as_bytes(), &[], &[])?,
+        client_out: TapeOut::new(alloc, &[], &[])?,
+        dialer: MemDialer::new(alloc, answers)?,
+        clock: FixedClock::new(List::new(alloc)),
+        peer: Peer {
+            address: Text::from_bytes(alloc, b"127.0.0.1")?,
+        },
+    })
 }
 
 /// A link with two answers, of which a read brings one.

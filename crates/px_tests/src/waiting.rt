@@ -1,5 +1,4 @@
 //! A tunnel whose sides wait for each other: only both directions at once carry it.
-use crate::common::{same, same_text};
 use crate::sides::{LOOKS, Told, Waiting};
 use px_base::{Mem, TapeIn, TapeOut, Text};
 use px_ways::{Carried, Way, carry};
@@ -67,9 +66,9 @@ fn sides_that_wait_for_each_other_are_carried_at_once(rt: HostRuntime) -> Result
         client_write: false,
         no_memory: false,
     };
-    same(&rt, carried, calm);
-    same_text(&rt, &by_client, "x");
-    same_text(&rt, &by_link, "ab");
+    assert_eq!(rt; carried, calm);
+    assert_eq!(rt; by_client.as_bytes(), b"x" as &[u8]);
+    assert_eq!(rt; by_link.as_bytes(), b"ab" as &[u8]);
     Ok(())
 }
 
@@ -77,9 +76,8 @@ fn sides_that_wait_for_each_other_are_carried_at_once(rt: HostRuntime) -> Result
 fn in_turn_a_client_that_waits_for_the_link_fails(rt: HostRuntime) -> Result<(), Fail> {
     let way: Way<'_, HostRuntime> = Way::InTurn;
     let (carried, by_client, by_link) = carried_waiting(rt.alloc(), &way, 100)?;
-    let faults = (carried.client_read, carried.client_write);
-    same(&rt, faults, (true, false));
-    same_text(&rt, &by_client, "x");
-    same_text(&rt, &by_link, "a");
+    assert!(rt; carried.client_read && !carried.client_write);
+    assert_eq!(rt; by_client.as_bytes(), b"x" as &[u8]);
+    assert_eq!(rt; by_link.as_bytes(), b"a" as &[u8]);
     Ok(())
 }

@@ -1,15 +1,14 @@
 //! Two workers over doors and an origin that wait: while the origin of connection 0 waits, connection 1 is answered and the files
 //! change.
-ghost use Rattle.std.specs.Prelude.{◌≡◌, false, [], None, IfOk};
+ghost use Rattle.std.specs.Prelude.{◌≡◌, true, false, [], None, IfOk};
 ghost use Rattle.px_base.specs.Dials.{IsFresh};
 ghost use Rattle.px_doors.specs.Conns.{HasMark, IsFreshConn, conn_as, parted_as};
 ghost use Rattle.px_doors.specs.Doors.{DoorsGoesOn, Parts as TakesPart, untold_doors};
 
 use crate::common::same;
-use crate::sides::{LOOKS, Told, Waiting, has_risen};
 use px_base::{
-    Clock, DialFault, Dialer, Failed, FixedClock, List, Mem, MemFiles, Peer, Sink, Source, TapeIn,
-    TapeOut, Text,
+    Clock, DialFault, Dialer, Failed, FixedClock, List, Mem, MemFiles, Peer, Sink, SinkFault,
+    Source, TapeIn, TapeOut, Text,
 };
 use px_doors::{AcceptFault, Conn, Doors, ListenAddress, Parted};
 use px_serve_command::{Parts, Proxied, ReloadCounts, run_proxy};
@@ -17,7 +16,10 @@ use std::alloc::Global;
 use std::sync::Wait;
 use std::sync::atomic::{AtomicU64, Ordering};
 use std::test::Fail;
-use std::thread::Threads;
+use std::thread::{self, Threads};
+
+/// How often a side that waits looks, yielding its thread between two looks.
+const LOOKS: u64 = 1_000_000;
 
 const TWO_REQUESTS: &[u8] = b"GET http://a.test/x HTTP/1.1\r\nHost: a.test\r\n\r\n\
 GET http://a.test/y HTTP/1.1\r\nHost: a.test\r\n\r\n";
@@ -33,6 +35,67 @@ struct Seen {
     dialled: AtomicU64,
     /// How many bytes the clients were answered, by their connection.
     answered: [AtomicU64; 3],
+}
+
+/// Waits until a count isn't 0, and tells whether it is so.
+fn has_risen(count: &AtomicU64) -> bool {
+    'looks: for _ in 0..LOOKS {
+        if count.load(Ordering::SeqCst) > 0 {
+            return true;
+        }
+        thread::yield_now();
+    }
+    false
+}
+
+/// A sink that adds what it takes to a count that others see.
+#[derive(Drop)]
+struct Told<'c> {
+    tape: TapeOut,
+    taken: &'c AtomicU64,
+}
+
+impl<'c> Sink for Told<'c> {
+    ghost state = { λ told. ⟦<TapeOut as Sink>⟧.state told.tape };
+
+    fn write(&mut self, bytes: &[u8]) -> Result<usize, SinkFault> {
+        let count = self.tape.write(bytes)?;
+        self.taken.fetch_add(count as u64, Ordering::SeqCst);
+        Ok(count)
+    }
+
+    fn finish(&mut self) {
+        self.tape.finish();
+    }
+}
+
+/// A source that gives its bytes once a count isn't 0. One that waits in vain fails.
+#[derive(Drop)]
+struct Waiting<'c> {
+    tape: TapeIn,
+    until: &'c AtomicU64,
+    faults: u64,
+}
+
+impl<'c> Source for Waiting<'c> {
+    ghost state = { λ w. record {
+      tells = true;
+      offered = (⟦<TapeIn as Source>⟧.state w.tape).offered;
+      left = (⟦<TapeIn as Source>⟧.state w.tape).left;
+      faults = w.faults;
+      steady = false;
+      mark = (⟦<TapeIn as Source>⟧.state w.tape).mark;
+    } };
+
+    fn read(&mut self, buf: &mut [u8]) -> Result<usize, Failed> {
+        if has_risen(self.until) {
+            if let Ok(count) = self.tape.read(buf) {
+                return Ok(count);
+            }
+        }
+        self.faults = self.faults.saturating_add(1);
+        Err(Failed)
+    }
 }
 
 /// Counts its dials where others see them. The answer of each link waits for a count.
@@ -56,7 +119,6 @@ fn link<'c>(alloc: Global, until: &'c AtomicU64) -> Result<(Waiting<'c>, TapeOut
         Waiting {
             tape,
             until,
-            looks: LOOKS,
             faults: 0,
         },
         sent,
@@ -180,7 +242,7 @@ impl<'c> Doors for WaitingDoors<'c> {
     }
 
     fn accept(&mut self) -> Result<Option<RowConn<'c>>, AcceptFault> {
-        if self.accepted == 1 && !has_risen(&self.seen.dialled, LOOKS) {
+        if self.accepted == 1 && !has_risen(&self.seen.dialled) {
             self.faults = self.faults.saturating_add(1);
             return Err(AcceptFault::Failed);
         }

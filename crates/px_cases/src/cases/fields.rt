@@ -117,30 +117,23 @@ fn take_line<'a>(
         "" => add_text(cases, text.unwrap_or("")),
         "case" => begin_case(alloc, cases, line, words),
         "again" => begin_again(alloc, cases, line),
-        _ => add_field(cases, read_field(alloc, line, name, words, text)?),
+        _ => {
+            let mut texts = Vec::new(alloc);
+            if let Some(text) = text {
+                texts.push(text)?;
+            }
+            add_field(
+                cases,
+                Field {
+                    line,
+                    key: Key::by_name(name)?,
+                    words,
+                    texts,
+                    inherited: false,
+                },
+            )
+        }
     }
-}
-
-/// The field of a line.
-fn read_field<'a>(
-    alloc: Global,
-    line: usize,
-    name: &'a str,
-    words: &'a str,
-    text: Option<&'a str>,
-) -> Result<Field<'a>, Fault> {
-    let key = Key::by_name(name)?;
-    let mut texts = Vec::new(alloc);
-    if let Some(text) = text {
-        texts.push(text)?;
-    }
-    Ok(Field {
-        line,
-        key,
-        words,
-        texts,
-        inherited: false,
-    })
 }
 
 /// Adds a line to the text above it.

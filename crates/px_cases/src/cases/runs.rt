@@ -4,8 +4,8 @@ ghost use Rattle.std.specs.Prelude.{◌≡◌, [], IfOk};
 use crate::cases::fields::Key;
 use crate::cases::setups::{Device, Failing, NamedFile, Origin, Setup};
 use px_base::{
-    Answer, Content, Dialer, Files, FixedClock, LinkNote, List, MemDialer, MemFiles, Peer, TapeIn,
-    TapeOut, Text,
+    Answer, Content, Dialer, Files, FixedClock, List, MemDialer, MemFiles, Peer, TapeIn, TapeOut,
+    Text,
 };
 use px_commands::run_tool;
 use px_config::{Config, load};
@@ -54,21 +54,18 @@ pub(crate) const UNTOUCHED: &[u8] = b"untouched";
 /// What a run shows, by key.
 #[derive(Drop)]
 pub struct Seen {
-    alloc: Global,
     shown: Vec<(Key<'static>, Text)>,
 }
 
 impl Seen {
     fn new(alloc: Global) -> Seen {
         Seen {
-            alloc,
             shown: Vec::new(alloc),
         }
     }
 
-    /// Shows a text of those bytes under a key.
-    fn show(&mut self, key: Key<'static>, bytes: &[u8]) -> Result<(), Fault> {
-        let text = Text::from_bytes(self.alloc, bytes)?;
+    /// Shows a text under a key.
+    fn show(&mut self, key: Key<'static>, text: Text) -> Result<(), Fault> {
         Ok(self.shown.push((key, text))?)
     }
 
@@ -138,7 +135,6 @@ impl Run<'_, '_> {
         Ok(calls)
     }
 
-    /// What the client says.
     fn input(&self) -> Result<TapeIn, Fault> {
         let sizes = self.sizes(Device::ClientRead)?;
         let fails = self.fails(Device::ClientRead, 0)?;
@@ -158,50 +154,24 @@ impl Run<'_, '_> {
         Ok(FixedClock::new(List::from_vec(moments)))
     }
 
-    /// Whether the dial with that number fails so.
-    fn fails_at(&self, device: Device, dial: usize) -> Result<bool, Fault> {
-        Ok(!self.fails(device, dial)?.is_empty())
-    }
-
     /// What the dial with that number gives.
     fn answer(&self, dial: usize, origin: &Origin) -> Result<Answer, Fault> {
-        if self.fails_at(Device::NoName, dial)? {
+        if !self.fails(Device::NoName, dial)?.is_empty() {
             return Ok(Answer::NoName);
         }
-        if self.fails_at(Device::NotReached, dial)? {
+        if !self.fails(Device::NotReached, dial)?.is_empty() {
             return Ok(Answer::NotReached);
         }
         match origin {
-            Origin::Link(bytes) => self.link(dial, bytes.as_slice()),
+            Origin::Link(bytes) => Ok(Answer::Link {
+                bytes: self.text(bytes.as_slice())?,
+                cuts: List::from_vec(self.sizes(Device::LinkRead)?),
+                read_fails: List::from_vec(self.fails(Device::LinkRead, dial)?),
+                write_fails: List::from_vec(self.fails(Device::LinkWrite, dial)?),
+            }),
             Origin::NoName => Ok(Answer::NoName),
             Origin::NotReached => Ok(Answer::NotReached),
         }
-    }
-
-    /// A link that gives those bytes.
-    fn link(&self, dial: usize, bytes: &[u8]) -> Result<Answer, Fault> {
-        let (bytes, cuts) = self.link_bytes(bytes)?;
-        let (read_fails, write_fails) = self.link_fails(dial)?;
-        Ok(Answer::Link {
-            bytes,
-            cuts,
-            read_fails,
-            write_fails,
-        })
-    }
-
-    /// The bytes that a link gives, and the sizes of its first reads.
-    fn link_bytes(&self, bytes: &[u8]) -> Result<(Text, List<usize>), Fault> {
-        let bytes = self.text(bytes)?;
-        let cuts = self.sizes(Device::LinkRead)?;
-        Ok((bytes, List::from_vec(cuts)))
-    }
-
-    /// The reads and the writes that fail of the link of a dial.
-    fn link_fails(&self, dial: usize) -> Result<(List<u64>, List<u64>), Fault> {
-        let reads = self.fails(Device::LinkRead, dial)?;
-        let writes = self.fails(Device::LinkWrite, dial)?;
-        Ok((List::from_vec(reads), List::from_vec(writes)))
     }
 
     fn dialer(&self) -> Result<MemDialer, Fault>
@@ -218,7 +188,15 @@ impl Run<'_, '_> {
     fn origin_file(&self) -> Result<Text, Fault> {
         let mut text = Text::new(self.alloc);
         for origin in &self.setup.origins {
-            push_origin(self.alloc, &mut text, origin)?;
+            match origin {
+                Origin::Link(bytes) => {
+                    let length = bytes.len();
+                    text.push_all(format!(in self.alloc; "{length}\n")?.as_bytes())?;
+                    text.push_all(bytes.as_slice())?;
+                }
+                Origin::NoName => text.push_all(b"no-name\n")?,
+                Origin::NotReached => text.push_all(b"not-reached\n")?,
+            }
         }
         Ok(text)
     }
@@ -253,63 +231,34 @@ impl Run<'_, '_> {
         Ok(files.add((name, bytes))?)
     }
 
-    /// The client's streams.
-    fn client(&self) -> Result<Client, Fault> {
+    /// The streams and the clock of a command.
+    fn streams(&self) -> Result<Streams, Fault> {
         let input = self.input()?;
         let out = self.output(Device::ClientWrite)?;
-        Ok(Client { input, out })
-    }
-
-    /// The error output and the clock of a command.
-    fn aside(&self) -> Result<Aside, Fault> {
         let err = self.output(Device::ErrorWrite)?;
         let clock = self.clock()?;
-        Ok(Aside { err, clock })
-    }
-
-    /// The files of a command.
-    fn command_files(&self) -> Result<MemFiles, Fault> {
-        let Some(named) = self.setup.states.first() else {
-            return Err(Fault::Form("a command has files"));
-        };
-        let fails = self.fails(Device::Files, 0)?;
-        self.files(named.as_slice(), fails.as_slice())
-    }
-
-    /// What a command is run over.
-    fn outside(&self) -> Result<Outside, Fault> {
-        let files = self.command_files()?;
-        let client = self.client()?;
-        let aside = self.aside()?;
-        Ok(Outside {
-            files,
-            client,
-            aside,
+        Ok(Streams {
+            input,
+            out,
+            err,
+            clock,
         })
     }
 
-    /// What is known of the client of a session.
-    fn known(&self) -> Result<Known, Fault> {
+    /// The client of a session.
+    fn client(&self) -> Result<Client, Fault> {
+        let input = self.input()?;
+        let out = self.output(Device::ClientWrite)?;
         let tags = self.tags()?;
-        let address = self.text(b"127.0.0.1")?;
-        let peer = Peer { address };
-        Ok(Known { tags, peer })
-    }
-
-    /// The ends of a session.
-    fn ends(&self) -> Result<Ends, Fault> {
-        let client = self.client()?;
-        let known = self.known()?;
-        Ok(Ends { client, known })
-    }
-
-    /// The configuration of files.
-    fn config(&self, named: &[NamedFile<'_>]) -> Result<Arc<Config>, Fault> {
-        let mut files = self.files(named, &[])?;
-        match load(self.alloc, &mut files, "c") {
-            Ok(config) => Ok(Arc::new(self.alloc, config)?),
-            Err(_) => Err(Fault::Form("the files of a session make a configuration")),
-        }
+        let peer = Peer {
+            address: self.text(b"127.0.0.1")?,
+        };
+        Ok(Client {
+            input,
+            out,
+            tags,
+            peer,
+        })
     }
 
     /// The words of the command.
@@ -359,26 +308,13 @@ fn sent_file(setup: &Setup<'_>, files: &mut MemFiles) -> Option<Text> {
     }
 }
 
-/// The client's streams.
+/// The streams and the clock of a command.
 #[derive(Drop)]
-struct Client {
+struct Streams {
     input: TapeIn,
     out: TapeOut,
-}
-
-/// The error output and the clock of a command.
-#[derive(Drop)]
-struct Aside {
     err: TapeOut,
     clock: FixedClock,
-}
-
-/// What a command is run over.
-#[derive(Drop)]
-struct Outside {
-    files: MemFiles,
-    client: Client,
-    aside: Aside,
 }
 
 /// Runs the command, the directions of a tunnel in turn.
@@ -389,48 +325,60 @@ pub(crate) fn run_command<R: Threads + Sync>(
 ) -> Result<Seen, Fault> {
     let alloc = setup.alloc;
     let run = Run { alloc, setup, plan };
-    let mut outside = run.outside()?;
-    let status = run_over::<R>(&run, &mut outside)?;
-    command_seen(&run, status, &mut outside)
+    let Some(named) = setup.states.first() else {
+        return Err(Fault::Form("a command has files"));
+    };
+    let fails = run.fails(Device::Files, 0)?;
+    let mut files = run.files(named.as_slice(), fails.as_slice())?;
+    let mut streams = run.streams()?;
+    let status = run_over::<R>(&run, &mut files, &mut streams)?;
+    let sent = match sent_file(setup, &mut files) {
+        Some(sent) => sent,
+        None => run.text(UNTOUCHED)?,
+    };
+    command_seen(&run, status, streams, sent)
 }
 
 /// Runs the command over files and streams.
-fn run_over<R: Threads + Sync>(run: &Run<'_, '_>, outside: &mut Outside) -> Result<u8, Fault> {
+fn run_over<R: Threads + Sync>(
+    run: &Run<'_, '_>,
+    files: &mut MemFiles,
+    streams: &mut Streams,
+) -> Result<u8, Fault> {
     let words = run.words()?;
     let way: Way<'_, R> = Way::InTurn;
     Ok(run_tool(
         run.alloc,
         &way,
         &words,
-        &mut outside.files,
-        &mut outside.client.input,
-        &mut outside.client.out,
-        &mut outside.aside.err,
-        &mut outside.aside.clock,
+        files,
+        &mut streams.input,
+        &mut streams.out,
+        &mut streams.err,
+        &mut streams.clock,
     ))
 }
 
 /// What is seen behind a command.
-fn command_seen(run: &Run<'_, '_>, status: u8, outside: &mut Outside) -> Result<Seen, Fault> {
+fn command_seen(
+    run: &Run<'_, '_>,
+    status: u8,
+    streams: Streams,
+    sent: Text,
+) -> Result<Seen, Fault> {
+    let Streams {
+        input: _,
+        out,
+        err,
+        clock: _,
+    } = streams;
     let mut seen = Seen::new(run.alloc);
-    seen.show(Key::Out, outside.client.out.taken())?;
-    seen.show(Key::Err, outside.aside.err.taken())?;
-    show_sent(run.setup, &mut outside.files, &mut seen)?;
-    show_status(run.alloc, status, &mut seen)?;
+    seen.show(Key::Out, out.into_taken())?;
+    seen.show(Key::Err, err.into_taken())?;
+    seen.show(Key::Sent, sent)?;
+    let status = format!(in run.alloc; "{status}")?;
+    seen.show(Key::Status, run.text(status.as_bytes())?)?;
     Ok(seen)
-}
-
-/// Shows SENT, or that it isn't put.
-fn show_sent(setup: &Setup<'_>, files: &mut MemFiles, seen: &mut Seen) -> Result<(), Fault> {
-    match sent_file(setup, files) {
-        Some(sent) => seen.show(Key::Sent, sent.as_bytes()),
-        None => seen.show(Key::Sent, UNTOUCHED),
-    }
-}
-
-fn show_status(alloc: Global, status: u8, seen: &mut Seen) -> Result<(), Fault> {
-    let status = format!(in alloc; "{status}")?;
-    seen.show(Key::Status, status.as_bytes())
 }
 
 /// The configurations of the files of a case.
@@ -439,53 +387,34 @@ pub(crate) fn configs(setup: &Setup<'_>) -> Result<Vec<Arc<Config>>, Fault> {
     let run = Run { alloc, setup, plan };
     let mut configs = Vec::new(alloc);
     for named in &setup.states {
-        configs.push(run.config(named.as_slice())?)?;
+        let mut files = run.files(named.as_slice(), &[])?;
+        match load(alloc, &mut files, "c") {
+            Ok(config) => configs.push(Arc::new(alloc, config)?)?,
+            Err(_) => return Err(Fault::Form("the files of a session make a configuration")),
+        }
     }
     Ok(configs)
-}
-
-/// What a dial of an origin comes to, as ORIGIN has it.
-fn push_origin(alloc: Global, text: &mut Text, origin: &Origin) -> Result<(), Fault> {
-    match origin {
-        Origin::Link(bytes) => {
-            let length = bytes.len();
-            text.push_all(format!(in alloc; "{length}\n")?.as_bytes())?;
-            Ok(text.push_all(bytes.as_slice())?)
-        }
-        Origin::NoName => Ok(text.push_all(b"no-name\n")?),
-        Origin::NotReached => Ok(text.push_all(b"not-reached\n")?),
-    }
 }
 
 /// The text of SENT for what was sent.
 fn sent_over(alloc: Global, dialer: &MemDialer) -> Result<Text, Fault> {
     let mut sent = Text::new(alloc);
     for link in dialer.links() {
-        push_link(alloc, &mut sent, link)?;
+        let (port, length) = (link.port, link.sent.len());
+        sent.push_all(link.host.as_bytes())?;
+        sent.push_all(format!(in alloc; ":{port} {length}\n")?.as_bytes())?;
+        sent.push_all(link.sent.as_bytes())?;
     }
     Ok(sent)
 }
 
-/// Adds what was sent over a link.
-fn push_link(alloc: Global, sent: &mut Text, link: &LinkNote) -> Result<(), Fault> {
-    let (port, length) = (link.port, link.sent.len());
-    sent.push_all(link.host.as_bytes())?;
-    sent.push_all(format!(in alloc; ":{port} {length}\n")?.as_bytes())?;
-    Ok(sent.push_all(link.sent.as_bytes())?)
-}
-
-/// What is known of the client of a session: its tags and its address.
+/// The client of a session by itself.
 #[derive(Drop)]
-struct Known {
+struct Client {
+    input: TapeIn,
+    out: TapeOut,
     tags: Vec<Text>,
     peer: Peer,
-}
-
-/// The ends of a session.
-#[derive(Drop)]
-struct Ends {
-    client: Client,
-    known: Known,
 }
 
 /// Runs the session by itself, both directions of a tunnel at once.
@@ -497,14 +426,15 @@ pub(crate) fn run_session<R: Threads + Sync>(
 ) -> Result<Seen, Fault> {
     let alloc = setup.alloc;
     let run = Run { alloc, setup, plan };
-    let mut ends = run.ends()?;
-    let Served { session, dialer } = serve(&run, rt, configs, &mut ends)?;
-    session_seen(
-        &run,
-        &session,
-        ends.client.out.taken(),
-        &dialer.into_inner(),
-    )
+    let mut client = run.client()?;
+    let Served { session, dialer } = serve(&run, rt, configs, &mut client)?;
+    let Client {
+        input: _,
+        out,
+        tags: _,
+        peer: _,
+    } = client;
+    session_seen(&run, &session, out.into_taken(), &dialer.into_inner())
 }
 
 /// A session that was served, and the dialer behind it.
@@ -519,7 +449,7 @@ fn serve<R: Threads + Sync>(
     run: &Run<'_, '_>,
     rt: &R,
     configs: &[Arc<Config>],
-    ends: &mut Ends,
+    client: &mut Client,
 ) -> Result<Served, Fault> {
     let sharing = match configs.first() {
         Some(first) => first.settings.sharing,
@@ -528,9 +458,9 @@ fn serve<R: Threads + Sync>(
     let configs = run.configs(configs)?;
     let dialer = SocksDialer::new(run.alloc, run.dialer()?);
     if sharing {
-        share_links(run, rt, configs, ends, dialer)
+        share_links(run, rt, configs, client, dialer)
     } else {
-        take_new_links(run, rt, configs, ends, dialer)
+        take_new_links(run, rt, configs, client, dialer)
     }
 }
 
@@ -539,7 +469,7 @@ fn share_links<R: Threads + Sync>(
     run: &Run<'_, '_>,
     rt: &R,
     configs: StepConfig<Config>,
-    ends: &mut Ends,
+    client: &mut Client,
     dialer: SocksDialer<MemDialer>,
 ) -> Result<Served, Fault> {
     let mut configs = configs;
@@ -552,12 +482,12 @@ fn share_links<R: Threads + Sync>(
         run.alloc,
         &Way::AtOnce(rt),
         &mut configs,
-        &mut ends.client.input,
-        &mut ends.client.out,
+        &mut client.input,
+        &mut client.out,
         dialer,
         &mut clock,
-        &ends.known.peer,
-        ends.known.tags.as_slice(),
+        &client.peer,
+        client.tags.as_slice(),
     );
     Ok(Served { session, dialer })
 }
@@ -567,7 +497,7 @@ fn take_new_links<R: Threads + Sync>(
     run: &Run<'_, '_>,
     rt: &R,
     configs: StepConfig<Config>,
-    ends: &mut Ends,
+    client: &mut Client,
     dialer: SocksDialer<MemDialer>,
 ) -> Result<Served, Fault> {
     let (mut configs, mut dialer) = (configs, dialer);
@@ -576,12 +506,12 @@ fn take_new_links<R: Threads + Sync>(
         run.alloc,
         &Way::AtOnce(rt),
         &mut configs,
-        &mut ends.client.input,
-        &mut ends.client.out,
+        &mut client.input,
+        &mut client.out,
         &mut dialer,
         &mut clock,
-        &ends.known.peer,
-        ends.known.tags.as_slice(),
+        &client.peer,
+        client.tags.as_slice(),
     );
     Ok(Served { session, dialer })
 }
@@ -590,15 +520,16 @@ fn take_new_links<R: Threads + Sync>(
 fn session_seen(
     run: &Run<'_, '_>,
     session: &Session,
-    out: &[u8],
+    out: Text,
     dialer: &MemDialer,
 ) -> Result<Seen, Fault> {
     let mut seen = Seen::new(run.alloc);
     seen.show(Key::Out, out)?;
-    seen.show(Key::Sent, sent_over(run.alloc, dialer)?.as_bytes())?;
-    seen.show(Key::End, told_end(run.alloc, session)?.as_bytes())?;
+    seen.show(Key::Sent, sent_over(run.alloc, dialer)?)?;
+    let end = told_end(run.alloc, session)?;
+    seen.show(Key::End, run.text(end.as_bytes())?)?;
     let notes = told_notes(run.alloc, session)?;
-    seen.show(Key::Notes, notes.as_str().trim().as_bytes())?;
+    seen.show(Key::Notes, run.text(notes.as_str().trim().as_bytes())?)?;
     Ok(seen)
 }
 

@@ -185,7 +185,12 @@ impl<'a> Setup<'a> {
                 Ok(())
             }
             Key::Origin => self.add_origins(field.words, text_bytes(alloc, texts, "\r\n")?),
-            Key::Clock => self.add_moments(field.words),
+            Key::Clock => {
+                for word in field.words.split_whitespace() {
+                    self.moments.push(number_of(word)?)?;
+                }
+                Ok(())
+            }
             Key::Cuts => self.add_cuts(field.words),
             Key::Fails => self.add_failing(field.words),
             Key::Failed | Key::Out | Key::Err | Key::Status => Ok(()),
@@ -200,13 +205,6 @@ impl<'a> Setup<'a> {
         }
     }
 
-    fn add_moments(&mut self, words: &str) -> Result<(), Fault> {
-        for word in words.split_whitespace() {
-            self.moments.push(number_of(word)?)?;
-        }
-        Ok(())
-    }
-
     /// A text, for one dial or so many; or `no-name` or `not-reached`; or `missing` where the file ORIGIN isn't there.
     fn add_origins(&mut self, words: &str, bytes: Vec<u8>) -> Result<(), Fault> {
         match words {
@@ -217,17 +215,14 @@ impl<'a> Setup<'a> {
                 self.has_origins = false;
                 Ok(())
             }
-            times => self.add_links(number_of(times)?, bytes.as_slice()),
+            times => {
+                for _ in 0..number_of::<u64>(times)? {
+                    let bytes = Vec::from_slice(self.alloc, bytes.as_slice())?;
+                    self.origins.push(Origin::Link(bytes))?;
+                }
+                Ok(())
+            }
         }
-    }
-
-    /// A text, for so many dials.
-    fn add_links(&mut self, times: u64, bytes: &[u8]) -> Result<(), Fault> {
-        for _ in 0..times {
-            let bytes = Vec::from_slice(self.alloc, bytes)?;
-            self.origins.push(Origin::Link(bytes))?;
-        }
-        Ok(())
     }
 
     /// `each`, or a device and the sizes of its calls.
@@ -237,17 +232,14 @@ impl<'a> Setup<'a> {
             self.each_cut = true;
             return Ok(());
         }
-        let device = Device::by_name(device)?;
-        let sizes = self.sizes(sizes)?;
-        Ok(self.cuts.push(Cuts { device, sizes })?)
-    }
-
-    fn sizes(&self, words: &str) -> Result<Vec<usize>, Fault> {
-        let mut sizes = Vec::new(self.alloc);
-        for word in words.split_whitespace() {
-            sizes.push(number_of(word)?)?;
+        let mut cuts = Cuts {
+            device: Device::by_name(device)?,
+            sizes: Vec::new(self.alloc),
+        };
+        for word in sizes.split_whitespace() {
+            cuts.sizes.push(number_of(word)?)?;
         }
-        Ok(sizes)
+        Ok(self.cuts.push(cuts)?)
     }
 
     /// `each` and a device; or a device and the number of a call, and for a link `of` and the number of its dial.

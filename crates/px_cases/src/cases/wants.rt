@@ -47,22 +47,11 @@ fn sent_text(alloc: Global, words: &str, bytes: &[u8]) -> Result<Vec<u8>, Fault>
     };
     let length = bytes.len();
     let mut text = Vec::new(alloc);
-    let entry = format!(in alloc; "{host} {length}\n")?;
     for _ in 0..times {
-        text.extend_from_slice(entry.as_bytes())?;
+        text.extend_from_slice(format!(in alloc; "{host} {length}\n")?.as_bytes())?;
         text.extend_from_slice(bytes)?;
     }
     Ok(text)
-}
-
-/// The text of SENT that a field stands for.
-fn sent_of(alloc: Global, field: &Field<'_>) -> Result<Vec<u8>, Fault> {
-    let bytes = text_bytes(alloc, field.texts.as_slice(), "\r\n")?;
-    match field.words {
-        "nothing" => Ok(Vec::new(alloc)),
-        "untouched" => Ok(Vec::from_slice(alloc, UNTOUCHED)?),
-        words => sent_text(alloc, words, bytes.as_slice()),
-    }
 }
 
 impl<'a> Wants<'a> {
@@ -108,7 +97,12 @@ impl<'a> Wants<'a> {
 
     /// Adds to the text of SENT; `nothing` where it is empty, and `untouched` where it isn't put.
     fn add_sent(&mut self, field: &Field<'a>) -> Result<(), Fault> {
-        let text = sent_of(self.alloc, field)?;
+        let bytes = text_bytes(self.alloc, field.texts.as_slice(), "\r\n")?;
+        let text = match field.words {
+            "nothing" => Vec::new(self.alloc),
+            "untouched" => Vec::from_slice(self.alloc, UNTOUCHED)?,
+            words => sent_text(self.alloc, words, bytes.as_slice())?,
+        };
         match self.whole.last_mut() {
             Some(before) if before.key == Key::Sent => {
                 Ok(before.bytes.extend_from_slice(text.as_slice())?)
