@@ -3,6 +3,7 @@ ghost use Rattle.std.specs.Prelude.{◌≡◌, ◌≢◌, ◌++◌, IsTrue, IfOk
 ghost use Rattle.px_base.specs.Dials.{DialerGoesOn};
 ghost use Rattle.px_base.specs.Sinks.{SinkGoesOn};
 ghost use Rattle.px_base.specs.Sources.{SourceGoesOn};
+ghost use Rattle.px_streams.specs.Feeds.{bytes_behind};
 ghost use Rattle.px_judging.specs.Judging.{Judged};
 ghost use Rattle.px_pumps.specs.Returning.{WriteCause as SinkCause};
 ghost use Rattle.px_exchange.specs.Causes.{EndingCause, ReadCause, StaysOpen, WriteCause};
