@@ -3,46 +3,32 @@ use crate::faults::Fault;
 use crate::kinds::bodies::Cut;
 use crate::kinds::made::{filters_of, head_of, push_fields, said, set_of, vars_of, yes_or_no};
 use crate::leaves::Row;
-use px_actions::ActionSet;
 use px_answers::{BodyPlan, Framed, HeaderLines, Outcome, Passage, Terms};
 use px_base::{List, Text};
-use px_filter_files::{Filters, WarmFilters};
+use px_filter_files::Filters;
 use px_framing::response_body;
 use px_head::{Field, ResponseHead, is_held_back_of_response};
 use px_headers::{ServerOut, is_text, server_headers};
 use std::alloc::Global;
 
 /// The status line and the fields of an answer with that head, behind the actions of the row's words at its moment.
-fn changed(row: &Row<'_>, filters: &Filters, head: &mut ResponseHead) -> Result<ServerOut, Fault> {
+fn changed(row: &Row<'_>, filters: &Filters, mut head: ResponseHead) -> Result<ServerOut, Fault> {
     let moment = row.number("moment")?;
     let set = set_of(row)?;
-    changed_by(row.alloc, filters, head, &set, moment)
-}
-
-fn changed_by(
-    alloc: Global,
-    filters: &Filters,
-    head: &mut ResponseHead,
-    set: &ActionSet,
-    moment: u64,
-) -> Result<ServerOut, Fault> {
-    let vars = vars_of(alloc, b"")?;
-    let mut warm = filters.warm(alloc)?;
-    let out = server_headers(alloc, head, set, filters, &mut warm, &vars, moment)?;
+    let vars = vars_of(row.alloc, b"")?;
+    let mut warm = filters.warm(row.alloc)?;
+    let out = server_headers(
+        row.alloc, &mut head, &set, filters, &mut warm, &vars, moment,
+    )?;
     Ok(out)
 }
 
 /// The status line and the fields of an answer, behind the actions of words at a moment.
 pub(crate) fn responses(row: &Row<'_>) -> Result<Text, Fault> {
-    let mut head = ResponseHead::read(row.alloc, head_of(row)?.as_bytes())?;
-    let changed = changed(row, &filters_of(row)?, &mut head)?;
-    told_answer(row.alloc, changed)
-}
-
-fn told_answer(alloc: Global, changed: ServerOut) -> Result<Text, Fault> {
-    let ServerOut { first_line, fields } = changed;
+    let head = ResponseHead::read(row.alloc, head_of(row)?.as_bytes())?;
+    let ServerOut { first_line, fields } = changed(row, &filters_of(row)?, head)?;
     let mut out = first_line;
-    push_fields(alloc, &mut out, fields.as_slice())?;
+    push_fields(row.alloc, &mut out, fields.as_slice())?;
     Ok(out)
 }
 
@@ -101,35 +87,15 @@ fn pass(
     pieces: &[&[u8]],
     out: &mut Text,
 ) -> Result<Option<Outcome>, Fault> {
-    let mut warm = files.warm(row.alloc)?;
-    let mut passage = begun(row, files, &mut warm, out)?;
-    feed_all(&mut passage, &mut warm, pieces, out)?;
-    passage.end(&mut warm, row.is("fails")?, out)?;
-    Ok(passage.ended())
-}
-
-/// An answer before the first piece of its body.
-fn begun(
-    row: &Row<'_>,
-    files: &Filters,
-    warm: &mut WarmFilters<'_>,
-    out: &mut Text,
-) -> Result<Passage, Fault> {
     let framed = framed(row, files)?;
     let vars = vars_of(row.alloc, b"")?;
-    Ok(Passage::new(row.alloc, warm, vars, framed, out)?)
-}
-
-fn feed_all(
-    passage: &mut Passage,
-    warm: &mut WarmFilters<'_>,
-    pieces: &[&[u8]],
-    out: &mut Text,
-) -> Result<(), Fault> {
+    let mut warm = files.warm(row.alloc)?;
+    let mut passage = Passage::new(row.alloc, &mut warm, vars, framed, out)?;
     for piece in pieces {
-        passage.feed(warm, piece, out)?;
+        passage.feed(&mut warm, piece, out)?;
     }
-    Ok(())
+    passage.end(&mut warm, row.is("fails")?, out)?;
+    Ok(passage.ended())
 }
 
 /// What is returned of an answer whose body comes in pieces, and behind it how, and whether the connection is kept.
@@ -147,21 +113,13 @@ fn returned(row: &Row<'_>, files: &Filters, pieces: &[&[u8]]) -> Result<Text, Fa
 pub(crate) fn answers(row: &Row<'_>) -> Result<Text, Fault> {
     let files = filters_of(row)?;
     let body = row.bytes("body")?;
-    returned_alike(row, &files, body.as_slice())
-}
-
-fn returned_alike(row: &Row<'_>, files: &Filters, body: &[u8]) -> Result<Text, Fault> {
-    let whole = returned(row, files, &[body])?;
+    let whole = returned(row, &files, &[body.as_slice()])?;
     for cut in Cut::all(row.alloc, body.len())?.iter() {
-        let got = returned_cut(row, files, *cut, body)?;
+        let pieces = cut.pieces(row.alloc, body.as_slice())?;
+        let got = returned(row, &files, pieces.as_slice())?;
         if got.as_bytes() != whole.as_bytes() {
             return cut.said(row.alloc, &got);
         }
     }
     Ok(whole)
-}
-
-fn returned_cut(row: &Row<'_>, files: &Filters, cut: Cut, body: &[u8]) -> Result<Text, Fault> {
-    let pieces = cut.pieces(row.alloc, body)?;
-    returned(row, files, pieces.as_slice())
 }

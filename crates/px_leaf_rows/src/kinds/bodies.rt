@@ -3,7 +3,7 @@ use crate::faults::Fault;
 use crate::kinds::made::{head_of, rule_of, said};
 use crate::leaves::Row;
 use px_base::Text;
-use px_framing::{BodyReader, BodyRule, State, request_body, response_body};
+use px_framing::{BodyReader, BodyRule, request_body, response_body};
 use px_head::{RequestHead, ResponseHead};
 use std::alloc::Global;
 
@@ -81,36 +81,18 @@ impl Cut {
 fn read(alloc: Global, rule: BodyRule, pieces: &[&[u8]], ends: bool) -> Result<Text, Fault> {
     let mut reader = BodyReader::new(alloc, rule);
     let (mut raw, mut plain) = (Text::new(alloc), Text::new(alloc));
-    let used = feed_all(&mut reader, pieces, &mut raw, &mut plain)?;
-    let state = if ends { reader.end() } else { reader.state() };
-    told_body(alloc, state, used, raw.len(), plain.as_bytes())
-}
-
-/// Feeds the pieces in turn, and gives how many of their bytes are the body's own.
-fn feed_all(
-    reader: &mut BodyReader,
-    pieces: &[&[u8]],
-    raw: &mut Text,
-    plain: &mut Text,
-) -> Result<usize, Fault> {
     let mut used = 0usize;
     for piece in pieces {
-        let fed = reader.feed(piece, raw, plain)?;
+        let fed = reader.feed(piece, &mut raw, &mut plain)?;
         used = used.saturating_add(fed.used);
     }
-    Ok(used)
-}
-
-fn told_body(
-    alloc: Global,
-    state: State,
-    used: usize,
-    raw: usize,
-    plain: &[u8],
-) -> Result<Text, Fault> {
-    let told = format!(in alloc; "{state:?}, used {used}, raw {raw}: ")?;
-    let mut out = said(alloc, told.as_str())?;
-    out.push_all(plain)?;
+    let state = if ends { reader.end() } else { reader.state() };
+    let len = raw.len();
+    let mut out = said(
+        alloc,
+        format!(in alloc; "{state:?}, used {used}, raw {len}: ")?.as_str(),
+    )?;
+    out.push_all(plain.as_bytes())?;
     Ok(out)
 }
 
@@ -119,15 +101,11 @@ pub(crate) fn bodies(row: &Row<'_>) -> Result<Text, Fault> {
     let rule = rule_of(row)?;
     let bytes = row.bytes("bytes")?;
     let ends = row.is("ends")?;
-    read_alike(row.alloc, rule, bytes.as_slice(), ends)
-}
-
-fn read_alike(alloc: Global, rule: BodyRule, bytes: &[u8], ends: bool) -> Result<Text, Fault> {
-    let whole = read(alloc, rule, &[bytes], ends)?;
-    for cut in Cut::all(alloc, bytes.len())?.iter() {
-        let got = read_cut(alloc, rule, *cut, bytes, ends)?;
+    let whole = read(row.alloc, rule, &[bytes.as_slice()], ends)?;
+    for cut in Cut::all(row.alloc, bytes.len())?.iter() {
+        let got = read_cut(row.alloc, rule, *cut, bytes.as_slice(), ends)?;
         if got.as_bytes() != whole.as_bytes() {
-            return cut.said(alloc, &got);
+            return cut.said(row.alloc, &got);
         }
     }
     Ok(whole)

@@ -3,7 +3,7 @@ use crate::faults::Fault;
 use crate::kinds::actions::push_update;
 use crate::kinds::made::{as_str, filter_file_of, lines_of, push_item, said, vars_of};
 use crate::leaves::Row;
-use px_action_files::{ActionFile, Pattern, Section, refusal_name};
+use px_action_files::{ActionFile, Pattern, refusal_name};
 use px_base::{List, Text};
 use px_subst::{Filter, Job, Outcome, Vars};
 use std::alloc::Global;
@@ -34,30 +34,21 @@ pub(crate) fn actions(row: &Row<'_>) -> Result<Text, Fault> {
     let mut out = Text::new(row.alloc);
     let mut patterns = 0usize;
     for section in file.sections.as_slice() {
-        push_section(row.alloc, &mut out, section)?;
+        push_item(
+            &mut out,
+            format!(in row.alloc; "{}", section.line)?.as_bytes(),
+        )?;
+        for update in section.updates.as_slice() {
+            push_update(row.alloc, &mut out, update)?;
+        }
         for pattern in section.patterns.as_slice() {
             let line = ActionFile::line_of_pattern(lines.as_slice(), patterns).unwrap_or(0);
-            push_pattern(row.alloc, &mut out, line, pattern)?;
+            let kind = kind_of(pattern);
+            out.push_all(format!(in row.alloc; ", {line} {kind}")?.as_bytes())?;
             patterns = patterns.saturating_add(1);
         }
     }
     Ok(out)
-}
-
-/// Adds the line of a section and the updates of its words.
-fn push_section(alloc: Global, out: &mut Text, section: &Section) -> Result<(), Fault> {
-    let line = format!(in alloc; "{}", section.line)?;
-    push_item(out, line.as_bytes())?;
-    for update in section.updates.as_slice() {
-        push_update(alloc, out, update)?;
-    }
-    Ok(())
-}
-
-fn push_pattern(alloc: Global, out: &mut Text, line: u32, pattern: &Pattern) -> Result<(), Fault> {
-    let kind = kind_of(pattern);
-    let told = format!(in alloc; ", {line} {kind}")?;
-    Ok(out.push_all(told.as_bytes())?)
 }
 
 fn kind_of(pattern: &Pattern) -> &'static str {

@@ -160,15 +160,10 @@ pub(crate) fn rule_of(row: &Row<'_>) -> Result<BodyRule, Fault> {
 
 /// The values of `$host`, `$origin`, `$path` and `$url`.
 pub(crate) fn vars_of(alloc: Global, host: &[u8]) -> Result<Vars, Fault> {
-    let mut vars = Vars {
-        host: Text::new(alloc),
-        origin: Text::new(alloc),
-        path: Text::new(alloc),
-        url: Text::new(alloc),
-    };
-    vars.host.push_all(host)?;
-    vars.origin.push_all(b"127.0.0.1")?;
-    vars.path.push_all(b"/p")?;
-    vars.url.push_all(b"http://a.test/p")?;
-    Ok(vars)
+    Ok(Vars {
+        host: Text::from_bytes(alloc, host)?,
+        origin: Text::from_bytes(alloc, b"127.0.0.1")?,
+        path: Text::from_bytes(alloc, b"/p")?,
+        url: Text::from_bytes(alloc, b"http://a.test/p")?,
+    })
 }

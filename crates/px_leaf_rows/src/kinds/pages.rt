@@ -8,22 +8,15 @@ use std::alloc::Global;
 
 /// The values of a page of `http://h:81/p`.
 fn symbols(alloc: Global, host: &[u8], reason: &[u8], error: &[u8]) -> Result<Symbols, Fault> {
-    let mut symbols = Symbols {
-        hostname: Text::new(alloc),
-        port: Text::new(alloc),
-        path: Text::new(alloc),
-        url: Text::new(alloc),
-        block_reason: Text::new(alloc),
-        error: Text::new(alloc),
+    Ok(Symbols {
+        hostname: Text::from_bytes(alloc, host)?,
+        port: Text::from_bytes(alloc, b"81")?,
+        path: Text::from_bytes(alloc, b"/p")?,
+        url: Text::from_bytes(alloc, b"http://h:81/p")?,
+        block_reason: Text::from_bytes(alloc, reason)?,
+        error: Text::from_bytes(alloc, error)?,
         parent: Text::new(alloc),
-    };
-    symbols.hostname.push_all(host)?;
-    symbols.port.push_all(b"81")?;
-    symbols.path.push_all(b"/p")?;
-    symbols.url.push_all(b"http://h:81/p")?;
-    symbols.block_reason.push_all(reason)?;
-    symbols.error.push_all(error)?;
-    Ok(symbols)
+    })
 }
 
 /// The page of a template, beside which the template `head` stands.
