@@ -117,7 +117,7 @@ runs_more config (s ∷ ss) [] session run h ran = absurd h
 runs_more config (s ∷ ss) (r ∷ rs) session run h ran = (h.0, runs_more config ss rs session run h.1 ran)
 
 -- so it was behind the first sessions
-pub has_run_more : {config : Config} {number count : ℕ} {coming coming' : ℕ → Entry Config} {draws draws' : ℕ} {total : Total} (total' : Total) (session : JobSession) (run : Run)
+pub has_run_more : {config : Config} {number count : ℕ} {coming coming' : List (Entry Config)} {draws draws' : ℕ} {total : Total} (total' : Total) (session : JobSession) (run : Run)
     → HasRun config number count coming draws total → session ≡ session_at count number
     → first_sessions (count + 1) number ≡ first_sessions count number ++ session_at count number ∷ []
     → IsRun config session run → GivesOnly config coming' → draws' ≡ draws_before (count + 1) number
@@ -131,7 +131,7 @@ has_run_more {config = config} {number = number} {count = count} total' session 
 }
 
 -- the ten sessions were run
-pub are_runs_of : {config : Config} {number count : ℕ} {coming : ℕ → Entry Config} {draws : ℕ} {total : Total} → HasRun config number count coming draws total → count ≡ 10
+pub are_runs_of : {config : Config} {number count : ℕ} {coming : List (Entry Config)} {draws : ℕ} {total : Total} → HasRun config number count coming draws total → count ≡ 10
     → first_sessions 10 number ≡ job_sessions number → AreRunsOf config number total
 are_runs_of {config = config} {number = number} h ten all = record {
   runs = h.runs;
