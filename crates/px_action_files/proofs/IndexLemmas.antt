@@ -13,8 +13,8 @@ use Rattle.std.proofs.Math.Seq.{get_or-append_seam}
 use Rattle.std.proofs.lemmas.Bool.{cases_Bool, cond-true, cond-false}
 use Rattle.std.proofs.lemmas.Map.Text.{is_eq-slice_cmp}
 use Rattle.px_action_files.specs.Aliases.{alias_named, alias_cut, alias_of, is_alias_name, name_and_words, named_alias}
-use Rattle.px_action_files.specs.AliasTables.{has_key, IsPlace, IsIndex}
-use Rattle.px_action_files.specs.Faults.{Refused, refused, result_map}
+use Rattle.px_action_files.specs.AliasTables.{alias_has_key, IsPlace, IsIndex}
+use Rattle.px_action_files.specs.Faults.{Refused, refused}
 use Rattle.px_action_files.specs.Meanings.{AliasSeen, seen_alias}
 use Rattle.px_actions.specs.Braces.{balances}
 use Rattle.px_actions.specs.declared.changes.Change.{Change}
@@ -22,6 +22,7 @@ use Rattle.px_actions.specs.declared.kinds.Kind.{Kind}
 use Rattle.px_text.specs.declared.lines.Line.{Line}
 use Rattle.std.specs.Prelude.{Result, Ok, Err, not, if◌then◌else◌}
 use Rattle.px_action_files.specs.declared.aliases.Alias.{Alias}
+use Rattle.px_base.specs.Results.{result_map}
 
 -- ---- a map whose keys are bytes, after a change at the bytes bs
 
@@ -55,19 +56,19 @@ find-push p (y ∷ xs) x = first_or y (find p (xs ++ x ∷ [])) (find p xs) (con
 
 -- an alias more, whose key none has yet
 place_pushed : (list : List Alias) (a : Alias) (key : List ℕ) (o : Option ℕ) (own : Bool) → bytes_eq (str_to_ascii_lowercase a.name) key ≡ own
-    → (own ≡ true → find (has_key key) list ≡ None) → IsPlace list key o → IsPlace (list ++ a ∷ []) key (cond own (Some (length list)) o)
+    → (own ≡ true → find (alias_has_key key) list ≡ None) → IsPlace list key o → IsPlace (list ++ a ∷ []) key (cond own (Some (length list)) o)
 place_pushed list a key o true e fresh h = (
   omega (arith, length-append list (a ∷ [])),
-  λ d. find-push (has_key key) list a ∙ (rw (fresh refl, e) (sym (ap Some (get_or-append_seam list a [] d)))),
+  λ d. find-push (alias_has_key key) list a ∙ (rw (fresh refl, e) (sym (ap Some (get_or-append_seam list a [] d)))),
 )
-place_pushed list a key None false e fresh h = find-push (has_key key) list a ∙ rw (h, e) refl
+place_pushed list a key None false e fresh h = find-push (alias_has_key key) list a ∙ rw (h, e) refl
 place_pushed list a key (Some at) false e fresh h = (
   omega (arith, h.0, length-append list (a ∷ [])),
-  λ d. find-push (has_key key) list a ∙ rw (h.1 d) (sym (ap Some (get_or-append list (a ∷ []) d at h.0))),
+  λ d. find-push (alias_has_key key) list a ∙ rw (h.1 d) (sym (ap Some (get_or-append list (a ∷ []) d at h.0))),
 )
 
 -- the alias of a name is that of the name in small letters
-named-map : (list : List Alias) (name : List ℕ) → alias_named (map seen_alias list) name ≡ option_map seen_alias (find (has_key (str_to_ascii_lowercase name)) list)
+named-map : (list : List Alias) (name : List ℕ) → alias_named (map seen_alias list) name ≡ option_map seen_alias (find (alias_has_key (str_to_ascii_lowercase name)) list)
 named-map [] name = refl
 named-map (a ∷ list) name = grind (arith, named-map list name)
 
@@ -75,7 +76,7 @@ none-mapped : {X Y : Type 0} (f : X → Y) (o : Option X) → is_some (option_ma
 none-mapped f None e = refl
 none-mapped f (Some x) e = absurd (cc)
 
-no_alias : (list : List Alias) (name : List ℕ) → is_some (alias_named (map seen_alias list) name) ≡ false → find (has_key (str_to_ascii_lowercase name)) list ≡ None
+no_alias : (list : List Alias) (name : List ℕ) → is_some (alias_named (map seen_alias list) name) ≡ false → find (alias_has_key (str_to_ascii_lowercase name)) list ≡ None
 no_alias list name e = none-mapped seen_alias _ (ap is_some (sym (named-map list name)) ∙ e)
 
 -- no alias is nowhere
@@ -88,9 +89,9 @@ pub index_pushed : (self list new : List Alias) (a : Alias) (name key : List ℕ
     → UpdatesBy (λ x y. slice_cmp nat_cmp x.items y.items) (λ k. slice_cmp nat_cmp key k.items) m n (Some count) → IsIndex n new
 index_pushed self list new a name key count m n h same is_name is_key is_count unknown is_new updates q =
     let own = bytes_eq (str_to_ascii_lowercase a.name) q in
-    let absent : find (has_key (str_to_ascii_lowercase a.name)) list ≡ None = no_alias list a.name (subst (λ l. is_some (alias_named (map seen_alias l) a.name) ≡ false) same unknown) in
-    let none : own ≡ true → find (has_key q) list ≡ None =
-    λ y. subst (λ l. find (has_key l) list ≡ None) ((bytes_decides (str_to_ascii_lowercase a.name) q).0 y) absent in
+    let absent : find (alias_has_key (str_to_ascii_lowercase a.name)) list ≡ None = no_alias list a.name (subst (λ l. is_some (alias_named (map seen_alias l) a.name) ≡ false) same unknown) in
+    let none : own ≡ true → find (alias_has_key q) list ≡ None =
+    λ y. subst (λ l. find (alias_has_key l) list ≡ None) ((bytes_decides (str_to_ascii_lowercase a.name) q).0 y) absent in
     let place : get_by (λ k. slice_cmp nat_cmp q k.items) n ≡ cond own (Some (length list)) (get_by (λ k. slice_cmp nat_cmp q k.items) m) =
     place_after key m n (Some count) updates q
     ∙ (ap (λ l. cond (bytes_eq l q) (Some count) (get_by (λ k. slice_cmp nat_cmp q k.items) m)) (is_key ∙ ap str_to_ascii_lowercase is_name)
@@ -105,13 +106,13 @@ at_place places list key o h e = subst (λ p. IsPlace list key p) (sym e) (h key
 pub alias_at : (self list : List Alias) (name key : List ℕ) (at : ℕ) (a : Alias) → self ≡ list → key ≡ str_to_ascii_lowercase name → IsPlace list key (Some at)
     → a ≡ get_or list at a → Some (seen_alias a) ≡ alias_named (map seen_alias self) name
 alias_at self list name key at a same is_key h is =
-    let found : find (has_key (str_to_ascii_lowercase name)) list ≡ Some (get_or list at a) = subst (λ k. find (has_key k) list ≡ Some (get_or list at a)) is_key (h.1 a) in
+    let found : find (alias_has_key (str_to_ascii_lowercase name)) list ≡ Some (get_or list at a) = subst (λ k. find (alias_has_key k) list ≡ Some (get_or list at a)) is_key (h.1 a) in
     sym (ap (λ l. alias_named (map seen_alias l) name) same ∙ (named-map list name ∙ ap (option_map seen_alias) (found ∙ ap Some (sym is))))
 
 pub alias_nowhere : (self list : List Alias) (name key : List ℕ) → self ≡ list → key ≡ str_to_ascii_lowercase name → IsPlace list key None
     → None ≡ alias_named (map seen_alias self) name
 alias_nowhere self list name key same is_key h =
-    let found : find (has_key (str_to_ascii_lowercase name)) list ≡ None = subst (λ k. find (has_key k) list ≡ None) is_key h in
+    let found : find (alias_has_key (str_to_ascii_lowercase name)) list ≡ None = subst (λ k. find (alias_has_key k) list ≡ None) is_key h in
     sym (ap (λ l. alias_named (map seen_alias l) name) same ∙ (named-map list name ∙ ap (option_map seen_alias) found))
 
 -- ---- an alias that was read

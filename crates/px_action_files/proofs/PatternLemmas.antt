@@ -9,8 +9,9 @@ use Rattle.std.proofs.lemmas.Str.Pattern.{starts_text}
 use Rattle.px_patterns.specs.Faults.{IsPatternRefusal, pattern_fault_number}
 use Rattle.px_patterns.specs.declared.faults.PatternFault.{PatternFault}
 use Rattle.px_patterns.specs.declared.faults.PatternFault.TheVariants as fault
-use Rattle.px_action_files.specs.Faults.{result_map, at_line, IsReported, reported_pattern}
+use Rattle.px_action_files.specs.Faults.{at_line, IsReported, reported_pattern}
 use Rattle.px_action_files.specs.declared.patterns.Pattern.{Pattern}
+use Rattle.px_base.specs.Results.{result_map}
 
 -- what `strip_prefix` at a text says
 pub strips_text : (n s : List ℕ) (r : Option (Bor (List ℕ)))

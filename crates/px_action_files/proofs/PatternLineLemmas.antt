@@ -4,7 +4,7 @@ use Rattle.std.specs.Prelude.{slice_get}
 use Rattle.std.specs.List.{flat_map}
 use Rattle.std.proofs.lemmas.Option.{slice_get-get_or}
 use Rattle.px_text.specs.declared.lines.Line.{Line}
-use Rattle.px_action_files.specs.Files.{cut, heading_of, lines_of}
+use Rattle.px_action_files.specs.Files.{cut, heading_of, lines_under}
 use Rattle.px_action_files.specs.PatternLines.{patterns_under, block_patterns, pattern_lines}
 use Rattle.px_action_files.proofs.CutLemmas.{first_block}
 

@@ -3,9 +3,10 @@ use Rattle.std.proofs.Common.{◌≡◌, ℕ, ap, subst, Ok, Err}
 use Rattle.std.specs.Prelude.{Result, ◌≢◌}
 use Rattle.px_actions.specs.declared.faults.ActionFault.{ActionFault}
 use Rattle.px_actions.specs.declared.faults.ActionFault.TheVariants as action
-use Rattle.px_action_files.specs.Faults.{result_map, Refused, word_number, at_line, and_then, IsReported, reported_word}
+use Rattle.px_action_files.specs.Faults.{Refused, word_number, at_line, and_then, IsReported, reported_word}
 use Rattle.px_action_files.specs.declared.faults.FileFault.{FileFault}
 use Rattle.px_action_files.specs.declared.faults.FileFault.TheVariants as fault
+use Rattle.px_base.specs.Results.{result_map}
 
 -- a refusal of the first part is one of the whole
 pub reported_then : {X Y : Type 0} (m : Result X Refused) (rest : X → Result Y Refused) (f : FileFault) → IsReported m f → IsReported (and_then m rest) f

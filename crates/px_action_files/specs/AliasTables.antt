@@ -9,13 +9,13 @@ use Rattle.std.specs.Str.{bytes_eq, str_to_ascii_lowercase}
 use Rattle.px_action_files.specs.declared.aliases.Alias.{Alias}
 
 -- the alias's name in small letters is the key
-abbrev pub has_key : List ℕ → Alias → Bool
-has_key key a = bytes_eq (str_to_ascii_lowercase a.name) key
+abbrev pub alias_has_key : List ℕ → Alias → Bool
+alias_has_key key a = bytes_eq (str_to_ascii_lowercase a.name) key
 
 -- a place is that of the first alias with the key, and no place means that there is none
 abbrev pub IsPlace : List Alias → List ℕ → Option ℕ → Type 0
-IsPlace list key None = find (has_key key) list ≡ None
-IsPlace list key (Some at) = (at < length list) × ((d : Alias) → find (has_key key) list ≡ Some (slice_index_or list at d))
+IsPlace list key None = find (alias_has_key key) list ≡ None
+IsPlace list key (Some at) = (at < length list) × ((d : Alias) → find (alias_has_key key) list ≡ Some (slice_index_or list at d))
 
 -- the map has the place of each alias, by its name in small letters
 abbrev pub IsIndex : BTreeMap (Vec ℕ) ℕ → List Alias → Type 0

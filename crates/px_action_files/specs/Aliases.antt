@@ -9,8 +9,9 @@ use Rattle.px_actions.specs.Updates.{word_update}
 use Rattle.px_actions.specs.declared.faults.ActionFault.{ActionFault}
 use Rattle.px_actions.specs.declared.kinds.Kind.{Kind}
 use Rattle.px_actions.specs.declared.changes.Change.{Change}
-use Rattle.px_action_files.specs.Faults.{result_map, Refused, refused, word_number, at_line, and_then}
+use Rattle.px_action_files.specs.Faults.{Refused, refused, word_number, at_line, and_then}
 use Rattle.px_action_files.specs.Meanings.{AliasSeen}
+use Rattle.px_base.specs.Results.{result_map}
 
 -- ---- words
 
@@ -18,14 +19,14 @@ use Rattle.px_action_files.specs.Meanings.{AliasSeen}
 abbrev pub alias_named : List AliasSeen → List ℕ → Option AliasSeen
 alias_named known name = find (λ (a : AliasSeen). str_eq_ignore_ascii_case a.name name) known
 
-abbrev pub single : Result (Kind × Change) ActionFault → Result (List (Kind × Change)) ActionFault
-single (Ok u) = Ok (u ∷ [])
-single (Err f) = Err f
+abbrev pub single_update : Result (Kind × Change) ActionFault → Result (List (Kind × Change)) ActionFault
+single_update (Ok u) = Ok (u ∷ [])
+single_update (Err f) = Err f
 
 -- the updates of a word that is the name of an alias, or its own update
 abbrev pub updates_or : Option AliasSeen → List ℕ → Result (List (Kind × Change)) ActionFault
 updates_or (Some a) word = Ok a.updates
-updates_or None word = single (word_update word)
+updates_or None word = single_update (word_update word)
 
 abbrev pub word_updates : List AliasSeen → List ℕ → Result (List (Kind × Change)) ActionFault
 word_updates known word = updates_or (alias_named known word) word

@@ -24,11 +24,6 @@ abbrev pub at_line : {X F : Type 0} → ℕ → (F → ℕ) → Result X F → R
 at_line line number (Ok x) = Ok x
 at_line line number (Err f) = refused line (number f)
 
--- what is made of a value, or the refusal
-abbrev pub result_map : {X Y F : Type 0} → (X → Y) → Result X F → Result Y F
-result_map made (Ok x) = Ok (made x)
-result_map made (Err f) = Err f
-
 -- what goes on from a value, or the refusal
 abbrev pub and_then : {X Y F : Type 0} → Result X F → (X → Result Y F) → Result Y F
 and_then (Ok x) rest = rest x
@@ -72,10 +67,10 @@ refusal_name number =
     else if number == 44 then codes "BadBlock"
     else []
 
-abbrev pub fault_number : FileFault → ℕ
-fault_number (fault.At line number) = number
-fault_number fault.Mem = 0
+abbrev pub file_fault_number : FileFault → ℕ
+file_fault_number (fault.At line number) = number
+file_fault_number fault.Mem = 0
 
-abbrev pub fault_name : FileFault → List ℕ
-fault_name (fault.At line number) = refusal_name number
-fault_name fault.Mem = codes "Mem"
+abbrev pub file_fault_name : FileFault → List ℕ
+file_fault_name (fault.At line number) = refusal_name number
+file_fault_name fault.Mem = codes "Mem"

@@ -9,32 +9,33 @@ use Rattle.px_patterns.specs.declared.faults.PatternFault.{PatternFault}
 use Rattle.px_patterns.specs.declared.faults.PatternFault.TheVariants as fault
 use Rattle.px_patterns.specs.declared.patterns.TagPattern.{TagPattern}
 use Rattle.px_patterns.specs.declared.patterns.UrlPattern.{UrlPattern}
-use Rattle.px_action_files.specs.Faults.{result_map, Refused, at_line, and_then}
+use Rattle.px_action_files.specs.Faults.{Refused, at_line, and_then}
 use Rattle.px_action_files.specs.declared.patterns.Pattern.{Pattern}
 use Rattle.px_action_files.specs.declared.patterns.Pattern.TheVariants as pattern
-use Rattle.px_action_files.specs.declared.patterns.Tags.{Tags}
-use Rattle.px_action_files.specs.declared.patterns.Tags.TheVariants as tags
+use Rattle.px_action_files.specs.declared.patterns.SpokenTags.{SpokenTags}
+use Rattle.px_action_files.specs.declared.patterns.SpokenTags.TheVariants as tags
+use Rattle.px_base.specs.Results.{result_map}
 
 -- the word with which the patterns of some tags begin
-abbrev pub word_of : Tags → List ℕ
-word_of tags.Any = codes "TAG:"
-word_of tags.NoneOfRequest = codes "NO-REQUEST-TAG:"
-word_of tags.NoneOfResponse = codes "NO-RESPONSE-TAG:"
-word_of tags.OfClient = codes "CLIENT-TAG:"
+abbrev pub tags_word : SpokenTags → List ℕ
+tags_word tags.Any = codes "TAG:"
+tags_word tags.NoneOfRequest = codes "NO-REQUEST-TAG:"
+tags_word tags.NoneOfResponse = codes "NO-RESPONSE-TAG:"
+tags_word tags.OfClient = codes "CLIENT-TAG:"
 
-abbrev pub begins : List ℕ → Tags → Bool
-begins text which = starts_with nat_eq text (word_of which)
+abbrev pub begins : List ℕ → SpokenTags → Bool
+begins text which = starts_with nat_eq text (tags_word which)
 
 -- the tags of which a text speaks, if it begins with one of the words
-unfoldable pub tags_of : List ℕ → Option Tags
-tags_of text =
+unfoldable pub spoken_tags : List ℕ → Option SpokenTags
+spoken_tags text =
     if begins text tags.Any then Some tags.Any
     else if begins text tags.NoneOfRequest then Some tags.NoneOfRequest
     else if begins text tags.NoneOfResponse then Some tags.NoneOfResponse
     else if begins text tags.OfClient then Some tags.OfClient
     else None
 
-abbrev pub pattern_on : Tags → TagPattern → Pattern
+abbrev pub pattern_on : SpokenTags → TagPattern → Pattern
 pattern_on tags.Any p = pattern.Tag p
 pattern_on tags.NoneOfRequest p = pattern.NoRequestTag p
 pattern_on tags.NoneOfResponse p = pattern.NoResponseTag p
@@ -53,13 +54,13 @@ abbrev pub url_pattern_of : List ℕ → Result UrlPattern PatternFault
 url_pattern_of text = url_pattern_by (starts_with nat_eq text expression_word) text
 
 -- a tag pattern behind its word, or a URL pattern
-abbrev pub pattern_by : Option Tags → List ℕ → Result Pattern PatternFault
+abbrev pub pattern_by : Option SpokenTags → List ℕ → Result Pattern PatternFault
 pattern_by None text = result_map pattern.Url (url_pattern_of text)
-pattern_by (Some which) text = result_map (pattern_on which) (tag_pattern (drop (length (word_of which)) text))
+pattern_by (Some which) text = result_map (pattern_on which) (tag_pattern (drop (length (tags_word which)) text))
 
 -- the pattern of a line; bytes that aren't UTF-8 are no expression
 unfoldable pub line_pattern : List ℕ → Result Pattern PatternFault
-line_pattern text = if is_utf8 text then pattern_by (tags_of text) text else Err fault.BadRegex
+line_pattern text = if is_utf8 text then pattern_by (spoken_tags text) text else Err fault.BadRegex
 
 -- the patterns of lines behind those before them, or the first refusal
 unfoldable pub patterns_of : List Line → List Pattern → Result (List Pattern) Refused

@@ -1,6 +1,6 @@
 // The refusals of actions files.
 ghost use Rattle.std.specs.Prelude.{◌≡◌};
-ghost use Rattle.px_action_files.specs.Faults.{fault_name, fault_number, refusal_name, reported_word, reported_pattern};
+ghost use Rattle.px_action_files.specs.Faults.{file_fault_name, file_fault_number, refusal_name, reported_word, reported_pattern};
 
 use px_actions::ActionFault;
 use px_base::Mem;
@@ -62,7 +62,7 @@ pub fn refusal_name(number: u8) -> &'static str
 impl FileFault {
     /// The number of a refusal. Want of memory is no refusal, and has 0.
     pub fn number(self) -> u8
-        ensures { result ≡ fault_number self }
+        ensures { result ≡ file_fault_number self }
     {
         match self {
             FileFault::At { number, .. } => number,
@@ -72,7 +72,7 @@ impl FileFault {
 
     /// The name of a refusal, as it is printed.
     pub fn name(self) -> &'static str
-        ensures { result.now ≡ fault_name self }
+        ensures { result.now ≡ file_fault_name self }
     {
         match self {
             FileFault::At { number, .. } => refusal_name(number),
@@ -113,9 +113,9 @@ impl FileFault {
 
 impl fmt::Display for FileFault {
     ghost use Rattle.std.specs.Prelude.{Some};
-    ghost use Rattle.px_action_files.specs.Faults.{fault_name};
+    ghost use Rattle.px_action_files.specs.Faults.{file_fault_name};
 
-    ghost output = { λ fault. Some (fault_name fault) };
+    ghost output = { λ fault. Some (file_fault_name fault) };
 
     fn fmt<W: fmt::Write>(&self, f: &mut fmt::Formatter<W>) -> fmt::Result {
         let name = self.name();

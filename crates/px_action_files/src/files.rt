@@ -9,7 +9,7 @@ ghost use Rattle.px_action_files.specs.Meanings.{seen_section};
 
 use crate::faults::{FileFault, PATTERN_BEFORE_SECTION};
 use crate::headings::{is_heading, read_heading};
-use crate::readings::Reading;
+use crate::readings::FileReading;
 use crate::sections::Section;
 use px_base::List;
 use px_text::Line;
@@ -31,7 +31,7 @@ impl ActionFile {
         ensures sections { IfOk result (λ file. file_sections lines.now ≡ Ok (map seen_section file.sections)) }
         ensures refused { IfErr result (IsReported (file_sections lines.now)) }
     {
-        let mut reading = Reading::begin(alloc);
+        let mut reading = FileReading::begin(alloc);
         let mut rest = without_front(lines)?;
         'headings: while let Some((heading, others)) = rest.split_first() {
             let (body, later) = split_body(others);

@@ -1,8 +1,9 @@
 // The headings of blocks.
 ghost use Rattle.std.specs.Prelude.{◌≡◌, Ok, Err, drop};
-ghost use Rattle.px_action_files.specs.Faults.{result_map};
-ghost use Rattle.px_action_files.specs.Files.{begins_open, without_last, between_ends, is_heading, block_named, heading_within, heading_of};
+ghost use Rattle.px_action_files.specs.Files.{begins_open, between_ends, is_heading, block_named, heading_within, heading_of};
 ghost use Rattle.px_action_files.specs.Readings.{seen_heading};
+ghost use Rattle.px_base.specs.Results.{result_map};
+ghost use Rattle.px_base.specs.Lists.{without_last};
 
 use crate::faults::{BAD_BLOCK, OPEN_BRACE};
 use px_actions::is_closed;
@@ -11,7 +12,7 @@ use px_text::Line;
 
 /// What a heading begins.
 #[derive(Clone, Copy)]
-pub(crate) enum Heading<'a> {
+pub(crate) enum BlockHeading<'a> {
     Aliases,
     /// A block that has no effect.
     Ignored,
@@ -19,7 +20,7 @@ pub(crate) enum Heading<'a> {
     Section(&'a [u8]),
 }
 
-impl Heading<'_> {
+impl BlockHeading<'_> {
     ghost use Rattle.std.specs.Prelude.{◌≡◌, List, [], Ok, if◌then◌else◌};
     ghost use Rattle.px_text.specs.declared.lines.Line.{Line};
     ghost use Rattle.px_action_files.specs.PatternLines.{patterns_under};
@@ -30,9 +31,9 @@ impl Heading<'_> {
         ensures { (body : List Line) → patterns_under (Ok (seen_heading self.now)) body ≡ (if result then body else []) }
     {
         match self {
-            Heading::Aliases => false,
-            Heading::Ignored => false,
-            Heading::Section(_) => true,
+            BlockHeading::Aliases => false,
+            BlockHeading::Ignored => false,
+            BlockHeading::Section(_) => true,
         }
     }
 }
@@ -54,24 +55,24 @@ pub(crate) fn is_heading(line: &Line) -> bool
 }
 
 /// The block of a name in braces of its own, without case.
-fn block_named(name: &[u8]) -> Result<Heading<'static>, u8>
+fn block_named(name: &[u8]) -> Result<BlockHeading<'static>, u8>
     ensures { result_map seen_heading result ≡ block_named name.now }
 {
     if same_without_case(name, b"alias") {
-        Ok(Heading::Aliases)
+        Ok(BlockHeading::Aliases)
     } else if same_without_case(name, b"settings") || same_without_case(name, b"description") {
-        Ok(Heading::Ignored)
+        Ok(BlockHeading::Ignored)
     } else {
         Err(BAD_BLOCK)
     }
 }
 
 /// What stands between the braces of a heading: a name in braces of its own, or words.
-fn heading_within(inner: &[u8]) -> Result<Heading<'_>, u8>
+fn heading_within(inner: &[u8]) -> Result<BlockHeading<'_>, u8>
     ensures { result_map seen_heading result ≡ heading_within inner.now }
 {
     if !begins_open(inner) {
-        return Ok(Heading::Section(inner));
+        return Ok(BlockHeading::Section(inner));
     }
     block_named(trim(without_last(behind_first(inner))))
 }
@@ -98,7 +99,7 @@ fn behind_first(text: &[u8]) -> &[u8]
 
 /// The heading of a text that begins with an open brace.
 #[tactic(auto, unfolding(crate::specs::Files::heading_of))]
-pub(crate) fn read_heading(text: &[u8]) -> Result<Heading<'_>, u8>
+pub(crate) fn read_heading(text: &[u8]) -> Result<BlockHeading<'_>, u8>
     ensures { result_map seen_heading result ≡ heading_of text.now }
 {
     let rest = behind_first(text);

@@ -3,8 +3,9 @@ ghost use Rattle.std.specs.Prelude.{◌≡◌, [], Ok, Some, None, IfErr, IfOk, 
 ghost use Rattle.std.specs.List.{starts_with};
 ghost use Rattle.px_patterns.specs.Faults.{IsPatternRefusal, pattern_fault_number};
 ghost use Rattle.px_patterns.specs.Patterns.{tag_pattern};
-ghost use Rattle.px_action_files.specs.Faults.{result_map, IsReported, at_line};
-ghost use Rattle.px_action_files.specs.Patterns.{word_of, tags_of, pattern_on, pattern_by, line_pattern, patterns_of, url_pattern_of};
+ghost use Rattle.px_action_files.specs.Faults.{IsReported, at_line};
+ghost use Rattle.px_action_files.specs.Patterns.{tags_word, spoken_tags, pattern_on, pattern_by, line_pattern, patterns_of, url_pattern_of};
+ghost use Rattle.px_base.specs.Results.{result_map};
 
 use crate::faults::FileFault;
 use px_base::{List, as_text};
@@ -39,22 +40,22 @@ pub enum Pattern {
 
 /// The tags of which a tag pattern speaks.
 #[derive(Clone, Copy, Debug, PartialEq, Eq)]
-pub enum Tags {
+pub enum SpokenTags {
     Any,
     NoneOfRequest,
     NoneOfResponse,
     OfClient,
 }
 
-impl Tags {
+impl SpokenTags {
     fn pattern(self, pattern: TagPattern) -> Pattern
         ensures { result ≡ pattern_on self pattern }
     {
         match self {
-            Tags::Any => Pattern::Tag(pattern),
-            Tags::NoneOfRequest => Pattern::NoRequestTag(pattern),
-            Tags::NoneOfResponse => Pattern::NoResponseTag(pattern),
-            Tags::OfClient => Pattern::ClientTag(pattern),
+            SpokenTags::Any => Pattern::Tag(pattern),
+            SpokenTags::NoneOfRequest => Pattern::NoRequestTag(pattern),
+            SpokenTags::NoneOfResponse => Pattern::NoResponseTag(pattern),
+            SpokenTags::OfClient => Pattern::ClientTag(pattern),
         }
     }
 }
@@ -67,27 +68,27 @@ fn behind<'a>(text: &'a str, front: &str) -> Option<&'a str>
 }
 
 /// The tags of which a text speaks and what stands behind their word, if it begins with one of the words.
-#[tactic(auto, unfolding(crate::specs::Patterns::tags_of))]
-fn split_tags(text: &str) -> Option<(Tags, &str)>
-    ensures { MatchOption result (tags_of text.now ≡ None) (λ t. (tags_of text.now ≡ Some t.0) × (t.1.now ≡ drop (length (word_of t.0)) text.now)) }
+#[tactic(auto, unfolding(crate::specs::Patterns::spoken_tags))]
+fn split_tags(text: &str) -> Option<(SpokenTags, &str)>
+    ensures { MatchOption result (spoken_tags text.now ≡ None) (λ t. (spoken_tags text.now ≡ Some t.0) × (t.1.now ≡ drop (length (tags_word t.0)) text.now)) }
 {
     if let Some(tag) = behind(text, TAG) {
-        return Some((Tags::Any, tag));
+        return Some((SpokenTags::Any, tag));
     }
     if let Some(tag) = behind(text, NO_REQUEST_TAG) {
-        return Some((Tags::NoneOfRequest, tag));
+        return Some((SpokenTags::NoneOfRequest, tag));
     }
     if let Some(tag) = behind(text, NO_RESPONSE_TAG) {
-        return Some((Tags::NoneOfResponse, tag));
+        return Some((SpokenTags::NoneOfResponse, tag));
     }
     match behind(text, CLIENT_TAG) {
-        Some(tag) => Some((Tags::OfClient, tag)),
+        Some(tag) => Some((SpokenTags::OfClient, tag)),
         None => None,
     }
 }
 
 #[tactic(auto, using(crate::proofs::PatternLemmas::refusal_map))]
-fn tag_pattern(alloc: Global, which: Tags, tag: &str) -> Result<Pattern, PatternFault>
+fn tag_pattern(alloc: Global, which: SpokenTags, tag: &str) -> Result<Pattern, PatternFault>
     ensures pattern { IfOk result (λ p. result_map (pattern_on which) (tag_pattern tag.now) ≡ Ok p) }
     ensures refused { IfErr result (IsPatternRefusal (result_map (pattern_on which) (tag_pattern tag.now))) }
 {
@@ -124,8 +125,8 @@ fn read_url(alloc: Global, text: &str) -> Result<UrlPattern, PatternFault>
 /// `NO-RESPONSE-TAG:` and `CLIENT-TAG:` begin tag patterns, all else is a URL pattern.
 #[tactic(auto, using(crate::proofs::PatternLemmas::refusal_same))]
 fn text_pattern(alloc: Global, text: &str) -> Result<Pattern, PatternFault>
-    ensures pattern { IfOk result (λ p. pattern_by (tags_of text.now) text.now ≡ Ok p) }
-    ensures refused { IfErr result (IsPatternRefusal (pattern_by (tags_of text.now) text.now)) }
+    ensures pattern { IfOk result (λ p. pattern_by (spoken_tags text.now) text.now ≡ Ok p) }
+    ensures refused { IfErr result (IsPatternRefusal (pattern_by (spoken_tags text.now) text.now)) }
 {
     match split_tags(text) {
         Some((which, tag)) => tag_pattern(alloc, which, tag),

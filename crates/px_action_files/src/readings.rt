@@ -2,7 +2,7 @@
 use crate::alias_tables::AliasTable;
 use crate::aliases::read_aliases;
 use crate::faults::{FileFault, LATE_ALIAS_BLOCK, SECOND_ALIAS_BLOCK};
-use crate::headings::{Heading, read_heading};
+use crate::headings::{BlockHeading, read_heading};
 use crate::section_readings::read_section;
 use crate::sections::Section;
 use px_base::List;
@@ -17,7 +17,7 @@ const MOST_UPDATES: usize = 262_144;
 
 /// What the blocks of a file gave so far.
 #[derive(Drop)]
-pub struct Reading {
+pub struct FileReading {
     /// Whether the alias block came.
     pub aliases_came: bool,
     pub known: AliasTable,
@@ -26,20 +26,20 @@ pub struct Reading {
     pub room: usize,
 }
 
-impl Reading {
+impl FileReading {
     ghost use Rattle.std.specs.Prelude.{◌≡◌, ◌==◌, [], Ok, false, IfErr, IfOk, OnOk, not, length, map};
     ghost use Rattle.px_action_files.specs.Faults.{IsReported};
-    ghost use Rattle.px_action_files.specs.Files.{lines_of, after_block, after_heading, alias_block_of, section_of};
+    ghost use Rattle.px_action_files.specs.Files.{lines_under, after_block, after_heading, alias_block_of, section_of};
     ghost use Rattle.px_action_files.specs.Meanings.{seen_alias, seen_section};
     ghost use Rattle.px_action_files.specs.Readings.{seen_heading, seen_reading};
 
     /// No block came.
-    pub(crate) fn begin(alloc: Global) -> Reading
+    pub(crate) fn begin(alloc: Global) -> FileReading
         ensures came { result.aliases_came ≡ false }
         ensures known { result.known ≡ [] }
         ensures sections { result.sections ≡ [] }
     {
-        Reading {
+        FileReading {
             aliases_came: false,
             known: AliasTable::new(alloc),
             sections: List::new(alloc),
@@ -55,8 +55,8 @@ impl Reading {
         heading: &Line,
         body: &[Line],
     ) -> Result<(), FileFault>
-        ensures added { OnOk result (after_block (seen_reading self.old) (lines_of heading.now body.now) ≡ Ok (seen_reading self.new)) }
-        ensures refused { IfErr result (IsReported (after_block (seen_reading self.old) (lines_of heading.now body.now))) }
+        ensures added { OnOk result (after_block (seen_reading self.old) (lines_under heading.now body.now) ≡ Ok (seen_reading self.new)) }
+        ensures refused { IfErr result (IsReported (after_block (seen_reading self.old) (lines_under heading.now body.now))) }
     {
         match read_heading(heading.text.as_bytes()) {
             Ok(headed) => self.add_headed(alloc, heading.number, body, headed),
@@ -73,21 +73,21 @@ impl Reading {
         alloc: Global,
         line: u32,
         body: &[Line],
-        headed: Heading<'_>,
+        headed: BlockHeading<'_>,
     ) -> Result<(), FileFault>
         ensures added { OnOk result (after_heading (seen_reading self.old) line body.now (seen_heading headed.entry) ≡ Ok (seen_reading self.new)) }
         ensures refused { IfErr result (IsReported (after_heading (seen_reading self.old) line body.now (seen_heading headed.entry))) }
     {
         match headed {
-            Heading::Aliases => {
+            BlockHeading::Aliases => {
                 let aliases = self.alias_block(alloc, line, body)?;
                 self.room = self.room.saturating_sub(aliases.update_count());
                 self.known = aliases;
                 self.aliases_came = true;
                 Ok(())
             }
-            Heading::Ignored => Ok(()),
-            Heading::Section(words) => {
+            BlockHeading::Ignored => Ok(()),
+            BlockHeading::Section(words) => {
                 let section = read_section(alloc, &self.known, words, line, body, self.room)?;
                 self.room = self.room.saturating_sub(section.updates.len());
                 self.sections.add(section)?;

@@ -1,9 +1,9 @@
 // The words of sections and aliases.
 ghost use Rattle.std.specs.Prelude.{◌≡◌, ◌≢◌, ◌++◌, ◌∷◌, [], map, option_map, Option, Ok, Err, IfErr, IfOk};
 ghost use Rattle.px_actions.specs.Braces.{words};
-ghost use Rattle.px_action_files.specs.Faults.{result_map};
 ghost use Rattle.px_action_files.specs.Aliases.{updates_or, word_updates, words_updates};
 ghost use Rattle.px_action_files.specs.Meanings.{seen_update, seen_alias};
+ghost use Rattle.px_base.specs.Results.{result_map};
 
 use crate::alias_tables::AliasTable;
 use crate::aliases::Alias;

@@ -3,9 +3,9 @@ use Rattle.std.proofs.Common.{◌≡◌, ℕ, zero, suc, ◌+◌, ◌<◌, Bool,
 use Rattle.std.specs.List.{onto_first}
 use Rattle.std.specs.Prelude.{not, ◌==◌, ◌&&◌, if◌then◌else◌}
 use Rattle.px_base.specs.Blanks.{is_blank, trim_front}
-use Rattle.px_actions.specs.Braces.{counted, counted_byte, is_behind, open_after, depths, pieces, piece_length, words}
+use Rattle.px_actions.specs.Braces.{counted_text, counted_byte, is_behind, open_after, depths, pieces, piece_length, words}
 
-pub counted_length : (behind : Bool) (text : List ℕ) → length (counted behind text) ≡ length text
+pub counted_length : (behind : Bool) (text : List ℕ) → length (counted_text behind text) ≡ length text
 counted_length behind [] = refl
 counted_length behind (b ∷ rest) = grind (arith, counted_length (is_behind behind b) rest)
 
@@ -55,7 +55,7 @@ words-trim_front (b ∷ rest) = front-step (is_blank b) b rest refl (words-trim_
 
 -- where a piece ends, the words go on as behind the white space
 gap-words : (b opened : ℕ) (behind : Bool) (rest : List ℕ) → (is_blank b && opened == 0) ≡ true
-    → filter is_some_piece (pieces rest (depths (open_after opened (counted_byte behind b)) (counted (is_behind behind b) rest))) ≡ words (b ∷ rest)
+    → filter is_some_piece (pieces rest (depths (open_after opened (counted_byte behind b)) (counted_text (is_behind behind b) rest))) ≡ words (b ∷ rest)
 unfolding words
 gap-words b opened behind rest h =
     let blank : is_blank b ≡ true = grind arith in
@@ -72,11 +72,11 @@ gap-step false b n rest opened here e = rw add-one e
 
 -- what stands behind the first piece has the words of the later pieces
 later-words : (opened : ℕ) (behind : Bool) (text : List ℕ)
-    → filter is_some_piece (later text (depths opened (counted behind text))) ≡ words (drop (piece_length text (depths opened (counted behind text))) text)
+    → filter is_some_piece (later text (depths opened (counted_text behind text))) ≡ words (drop (piece_length text (depths opened (counted_text behind text))) text)
 unfolding words
 later-words opened behind [] = refl
 later-words opened behind (b ∷ rest) =
-    gap-step (is_blank b && opened == 0) b (piece_length rest (depths (open_after opened (counted_byte behind b)) (counted (is_behind behind b) rest))) rest (depths (open_after opened (counted_byte behind b)) (counted (is_behind behind b) rest))
+    gap-step (is_blank b && opened == 0) b (piece_length rest (depths (open_after opened (counted_byte behind b)) (counted_text (is_behind behind b) rest))) rest (depths (open_after opened (counted_byte behind b)) (counted_text (is_behind behind b) rest))
     (gap-words b opened behind rest)
     (later-words (open_after opened (counted_byte behind b)) (is_behind behind b) rest)
 
@@ -94,7 +94,7 @@ filter_some : (piece : List ℕ) (others : List (List ℕ)) → 0 < length piece
 filter_some [] others h = absurd (omega arith)
 filter_some (b ∷ rest) others h = grind arith
 
-words-cut : (text word rest : List ℕ) (behind : List (List ℕ)) → pieces text (depths 0 (counted false text)) ≡ word ∷ behind → 0 < length word
+words-cut : (text word rest : List ℕ) (behind : List (List ℕ)) → pieces text (depths 0 (counted_text false text)) ≡ word ∷ behind → 0 < length word
     → filter is_some_piece behind ≡ words rest → words text ≡ word ∷ words rest
 unfolding words
 words-cut text word rest behind cut some e = rw (cut, filter_some word behind some, e) refl
@@ -103,20 +103,20 @@ take_some : (n b : ℕ) (rest : List ℕ) → 0 < n → 0 < length (take n (b �
 take_some zero b rest h = absurd (omega arith)
 take_some (suc n) b rest h = omega arith
 
-words-first : (b : ℕ) (rest : List ℕ) (n : ℕ) → n ≡ piece_length (b ∷ rest) (depths 0 (counted false (b ∷ rest))) → 0 < n
+words-first : (b : ℕ) (rest : List ℕ) (n : ℕ) → n ≡ piece_length (b ∷ rest) (depths 0 (counted_text false (b ∷ rest))) → 0 < n
     → words (b ∷ rest) ≡ take n (b ∷ rest) ∷ words (drop n (b ∷ rest))
 words-first b rest n m some =
-    let opened = depths 0 (counted false (b ∷ rest)) in
+    let opened = depths 0 (counted_text false (b ∷ rest)) in
     let first = pieces-first (b ∷ rest) opened in
     let cut : pieces (b ∷ rest) opened ≡ take n (b ∷ rest) ∷ later (b ∷ rest) opened = rw m first in
     let behind : filter is_some_piece (later (b ∷ rest) opened) ≡ words (drop n (b ∷ rest)) = rw m (later-words 0 false (b ∷ rest)) in
     words-cut (b ∷ rest) (take n (b ∷ rest)) (drop n (b ∷ rest)) (later (b ∷ rest) opened) cut (take_some n b rest some) behind
 
-piece_some : (b : ℕ) (rest : List ℕ) → is_blank b ≡ false → 0 < piece_length (b ∷ rest) (depths 0 (counted false (b ∷ rest)))
+piece_some : (b : ℕ) (rest : List ℕ) → is_blank b ≡ false → 0 < piece_length (b ∷ rest) (depths 0 (counted_text false (b ∷ rest)))
 piece_some b rest h = rw h (omega arith)
 
 -- the first word of a text, and the words behind it
-pub words-split : (text front : List ℕ) (n : ℕ) → front ≡ trim_front text → 0 < length front → n ≡ piece_length front (depths 0 (counted false front))
+pub words-split : (text front : List ℕ) (n : ℕ) → front ≡ trim_front text → 0 < length front → n ≡ piece_length front (depths 0 (counted_text false front))
     → (words text ≡ take n front ∷ words (drop n front)) × (0 < n)
 words-split text [] n e some m = absurd (omega arith)
 words-split text (b ∷ rest) n e some m =

@@ -7,9 +7,9 @@ use Rattle.std.proofs.lemmas.List.{take_more, get_or_default, get_or-map, get_or
 use Rattle.std.proofs.lemmas.Bool.{cases_eq}
 use Rattle.std.proofs.lemmas.Bool.Decides.{nat_tests}
 use Rattle.px_actions.specs.Kinds.{entry_of}
-use Rattle.px_actions.specs.Rules.{keeps}
+use Rattle.px_actions.specs.Rules.{keeps_rule}
 use Rattle.px_actions.specs.Shapes.{fits_by, fits}
-use Rattle.px_actions.specs.Sets.{updated, updated_all, is_among, changed, setting_of, empty_setting, empty_set, is_distinct, fits_setting, IsSound}
+use Rattle.px_actions.specs.Sets.{updated, updated_all, is_among, changed_setting, setting_of, empty_setting, empty_set, is_distinct, fits_setting, IsSoundSet}
 use Rattle.px_actions.proofs.Table.{kinds_place, place_within, same_place}
 use Rattle.px_actions.specs.declared.kinds.TheConstants.{KINDS}
 use Rattle.px_actions.specs.declared.kinds.Kind.{Kind}
@@ -38,7 +38,7 @@ pub length-empty_set : length empty_set ≡ 41
 unfolding empty_set
 length-empty_set = refl
 
-pub empty_set-sound : IsSound empty_set
+pub empty_set-sound : IsSoundSet empty_set
 empty_set-sound = record {
   len = length-empty_set;
   each = λ k. rw (setting_of-empty k) (empty-fits (entry_of k).shape (entry_of k).rule);
@@ -82,7 +82,7 @@ with_value-fits test p values false e h k t = grind (arith, list_all-append test
 
 -- what is set of a kind still fits it after a change that fits it
 pub changed-fits : (shape : Shape) (rule : Rule) (old : Setting) (change : Change) → fits_setting shape rule old ≡ true → fits_by shape rule change ≡ true
-    → fits_setting shape rule (changed old change) ≡ true
+    → fits_setting shape rule (changed_setting old change) ≡ true
 changed-fits shape rule (setting.Flag on) change.On h k = h
 changed-fits shape rule (setting.Flag on) change.Off h k = h
 changed-fits shape rule (setting.Flag on) (change.Set p) h k = h
@@ -100,17 +100,17 @@ changed-fits shape rule (setting.Multi values) change.On h k = h
 changed-fits shape rule (setting.Multi values) change.Off h k = h
 changed-fits shape rule (setting.Multi values) (change.Set p) h k = h
 changed-fits shape rule (setting.Multi values) (change.Add p) h k =
-    let kept : list_all (keeps rule) values ≡ true = grind arith in
+    let kept : list_all (keeps_rule rule) values ≡ true = grind arith in
     let distinct : is_distinct values ≡ true = grind arith in
-    let rule_kept : keeps rule p ≡ true = grind arith in
-    grind (arith, with_value-fits (keeps rule) p values (is_among p values) refl kept distinct rule_kept)
+    let rule_kept : keeps_rule rule p ≡ true = grind arith in
+    grind (arith, with_value-fits (keeps_rule rule) p values (is_among p values) refl kept distinct rule_kept)
 changed-fits shape rule (setting.Multi values) (change.Remove p) h k =
-    let kept : list_all (keeps rule) values ≡ true = grind arith in
+    let kept : list_all (keeps_rule rule) values ≡ true = grind arith in
     let distinct : is_distinct values ≡ true = grind arith in
-    grind (arith, list_all-filter (keeps rule) (λ v. not (bytes_eq v p)) values kept, is_distinct-filter (λ v. not (bytes_eq v p)) values distinct)
+    grind (arith, list_all-filter (keeps_rule rule) (λ v. not (bytes_eq v p)) values kept, is_distinct-filter (λ v. not (bytes_eq v p)) values distinct)
 changed-fits shape rule (setting.Multi values) change.Clear h k = grind arith
 
-set-fits : (set : List Setting) (k j : Kind) (new : Setting) → IsSound set → fits_setting (entry_of k).shape (entry_of k).rule new ≡ true
+set-fits : (set : List Setting) (k j : Kind) (new : Setting) → IsSoundSet set → fits_setting (entry_of k).shape (entry_of k).rule new ≡ true
     → ((entry_of j).place ≡ (entry_of k).place) ⊎ ((entry_of j).place ≢ (entry_of k).place)
     → fits_setting (entry_of j).shape (entry_of j).rule (setting_of (slice_set set (entry_of k).place new) j) ≡ true
 set-fits set k j new h fit (inl e) =
@@ -120,25 +120,25 @@ set-fits set k j new h fit (inl e) =
 set-fits set k j new h fit (inr ne) = rw (get_or-set_other set (entry_of k).place (entry_of j).place new (setting.Flag false) ne) (h.each j)
 
 -- a set stays sound where what is set of one kind is replaced by what fits it
-pub sound-set : (set : List Setting) (k : Kind) (new : Setting) → IsSound set → fits_setting (entry_of k).shape (entry_of k).rule new ≡ true
-    → IsSound (slice_set set (entry_of k).place new)
+pub sound-set : (set : List Setting) (k : Kind) (new : Setting) → IsSoundSet set → fits_setting (entry_of k).shape (entry_of k).rule new ≡ true
+    → IsSoundSet (slice_set set (entry_of k).place new)
 sound-set set k new h fit = record {
   len = length-set set (entry_of k).place new ∙ h.len;
   each = λ j. set-fits set k j new h fit (cases_eq (entry_of j).place (entry_of k).place);
 }
 
 -- a set stays sound behind an update that fits its kind
-sound_updated : (set : List Setting) (k : Kind) (change : Change) → IsSound set → fits k change ≡ true → IsSound (updated set k change)
+sound_updated : (set : List Setting) (k : Kind) (change : Change) → IsSoundSet set → fits k change ≡ true → IsSoundSet (updated set k change)
 unfolding fits updated
-sound_updated set k change h fit = sound-set set k (changed (setting_of set k) change) h (changed-fits (entry_of k).shape (entry_of k).rule (setting_of set k) change (h.each k) fit)
+sound_updated set k change h fit = sound-set set k (changed_setting (setting_of set k) change) h (changed-fits (entry_of k).shape (entry_of k).rule (setting_of set k) change (h.each k) fit)
 
-pub sound_by : {T E : Type 0} (old new : List Setting) (k : Kind) (change : Change) (r : Result T E) → IsSound old → fits k change ≡ true
-    → OnOk r (new ≡ updated old k change) → OnErr r (new ≡ old) → IsSound new
-sound_by old new k change (Ok t) h fit ok err = subst IsSound (sym ok) (sound_updated old k change h fit)
-sound_by old new k change (Err e) h fit ok err = subst IsSound (sym err) h
+pub sound_by : {T E : Type 0} (old new : List Setting) (k : Kind) (change : Change) (r : Result T E) → IsSoundSet old → fits k change ≡ true
+    → OnOk r (new ≡ updated old k change) → OnErr r (new ≡ old) → IsSoundSet new
+sound_by old new k change (Ok t) h fit ok err = subst IsSoundSet (sym ok) (sound_updated old k change h fit)
+sound_by old new k change (Err e) h fit ok err = subst IsSoundSet (sym err) h
 
 -- what is read of a sound set at a kind's place
-pub read_at : (set : List Setting) (k : Kind) (at : ℕ) (d : Setting) → IsSound set → at ≡ (entry_of k).place → slice_index_or set at d ≡ setting_of set k
+pub read_at : (set : List Setting) (k : Kind) (at : ℕ) (d : Setting) → IsSoundSet set → at ≡ (entry_of k).place → slice_index_or set at d ≡ setting_of set k
 read_at set k at d h e = rw e (get_or_default set (entry_of k).place d (setting.Flag false) (rw h.len (place_within k)))
 
 -- one update more

@@ -3,7 +3,7 @@ use Rattle.std.proofs.Common.{◌≡◌, ◌≢◌, ℕ, ◌<◌, ◌≤◌, Boo
 use Rattle.std.specs.Prelude.{slice_set}
 use Rattle.px_actions.specs.Kinds.{entry_of}
 use Rattle.px_actions.specs.Shapes.{TakesMemory}
-use Rattle.px_actions.specs.Sets.{IsSound, changed, empty_setting, fits_setting, multi_values, setting_lines, setting_of, single_value, updated}
+use Rattle.px_actions.specs.Sets.{IsSoundSet, changed_setting, empty_setting, fits_setting, multi_values, setting_lines, setting_of, single_value, updated}
 use Rattle.px_actions.specs.Tables.{laid, laid_over}
 use Rattle.px_actions.proofs.Table.{place_within}
 use Rattle.px_actions.specs.declared.kinds.Kind.{Kind}
@@ -44,7 +44,7 @@ laid-set_flag (on ∷ flags) (s ∷ settings) (suc i) new d = ap (λ rest. laid 
 
 -- ---- what is set of a kind
 
-setting_of-laid : (flags : List Bool) (settings : List Setting) (k : Kind) → IsSound (laid_over flags settings)
+setting_of-laid : (flags : List Bool) (settings : List Setting) (k : Kind) → IsSoundSet (laid_over flags settings)
     → setting_of (laid_over flags settings) k ≡ laid (get_or flags (entry_of k).place false) (setting_of settings k)
 setting_of-laid flags settings k h = get_or-laid flags settings (entry_of k).place (setting.Flag false) (rw h.len (place_within k))
 
@@ -65,14 +65,14 @@ value_laid shape.Flag rule on (setting.Flag b) h ne = absurd (ne refl)
 value_laid shape.Single rule on (setting.Flag b) h ne = absurd (grind arith)
 value_laid shape.Multi rule on (setting.Flag b) h ne = absurd (grind arith)
 
-setting_of_flag : (flags : List Bool) (settings : List Setting) (k : Kind) → IsSound (laid_over flags settings) → (entry_of k).shape ≡ shape.Flag
+setting_of_flag : (flags : List Bool) (settings : List Setting) (k : Kind) → IsSoundSet (laid_over flags settings) → (entry_of k).shape ≡ shape.Flag
     → setting_of (laid_over flags settings) k ≡ setting.Flag (get_or flags (entry_of k).place false)
 setting_of_flag flags settings k h e =
     let is = setting_of-laid flags settings k h in
     is ∙ flag_laid (entry_of k).shape (entry_of k).rule (get_or flags (entry_of k).place false) (setting_of settings k)
     (subst (λ (s : Setting). fits_setting (entry_of k).shape (entry_of k).rule s ≡ true) is (h.each k)) e
 
-setting_of_value : (flags : List Bool) (settings : List Setting) (k : Kind) → IsSound (laid_over flags settings) → (entry_of k).shape ≢ shape.Flag
+setting_of_value : (flags : List Bool) (settings : List Setting) (k : Kind) → IsSoundSet (laid_over flags settings) → (entry_of k).shape ≢ shape.Flag
     → setting_of (laid_over flags settings) k ≡ setting_of settings k
 setting_of_value flags settings k h ne =
     let is = setting_of-laid flags settings k h in
@@ -89,11 +89,11 @@ multi-laid on (setting.Flag b) = refl
 multi-laid on (setting.Single value) = refl
 multi-laid on (setting.Multi values) = refl
 
-single_of : (flags : List Bool) (settings : List Setting) (k : Kind) → IsSound (laid_over flags settings)
+single_of : (flags : List Bool) (settings : List Setting) (k : Kind) → IsSoundSet (laid_over flags settings)
     → single_value (setting_of (laid_over flags settings) k) ≡ single_value (setting_of settings k)
 single_of flags settings k h = ap single_value (setting_of-laid flags settings k h) ∙ single-laid (get_or flags (entry_of k).place false) (setting_of settings k)
 
-multi_of : (flags : List Bool) (settings : List Setting) (k : Kind) → IsSound (laid_over flags settings)
+multi_of : (flags : List Bool) (settings : List Setting) (k : Kind) → IsSoundSet (laid_over flags settings)
     → multi_values (setting_of (laid_over flags settings) k) ≡ multi_values (setting_of settings k)
 multi_of flags settings k h = ap multi_values (setting_of-laid flags settings k h) ∙ multi-laid (get_or flags (entry_of k).place false) (setting_of settings k)
 
@@ -115,7 +115,7 @@ lines-empty shape.Multi name = refl
 -- ---- changes
 
 laid-changed : (sort : Shape) (rule : Rule) (on : Bool) (s : Setting) (change : Change) → fits_setting sort rule (laid on s) ≡ true → sort ≢ shape.Flag
-    → laid on (changed s change) ≡ changed (laid on s) change
+    → laid on (changed_setting s change) ≡ changed_setting (laid on s) change
 laid-changed sort rule on (setting.Single value) change.On h ne = refl
 laid-changed sort rule on (setting.Single value) change.Off h ne = refl
 laid-changed sort rule on (setting.Single value) (change.Set p) h ne = refl
@@ -132,7 +132,7 @@ laid-changed shape.Flag rule on (setting.Flag b) change h ne = absurd (ne refl)
 laid-changed shape.Single rule on (setting.Flag b) change h ne = absurd (grind arith)
 laid-changed shape.Multi rule on (setting.Flag b) change h ne = absurd (grind arith)
 
-pub unchanged_empty : (sort : Shape) (change : Change) → sort ≢ shape.Flag → (TakesMemory change → ⊥) → changed (empty_setting sort) change ≡ empty_setting sort
+pub unchanged_empty : (sort : Shape) (change : Change) → sort ≢ shape.Flag → (TakesMemory change → ⊥) → changed_setting (empty_setting sort) change ≡ empty_setting sort
 unchanged_empty shape.Flag change ne free = absurd (ne refl)
 unchanged_empty shape.Single change.On ne free = refl
 unchanged_empty shape.Single change.Off ne free = refl
@@ -148,17 +148,17 @@ unchanged_empty shape.Multi (change.Remove p) ne free = refl
 unchanged_empty shape.Multi change.Clear ne free = refl
 
 -- an update of a kind that isn't a flag
-value_updated : (flags : List Bool) (settings : List Setting) (k : Kind) (change : Change) → IsSound (laid_over flags settings) → (entry_of k).shape ≢ shape.Flag
+value_updated : (flags : List Bool) (settings : List Setting) (k : Kind) (change : Change) → IsSoundSet (laid_over flags settings) → (entry_of k).shape ≢ shape.Flag
     → laid_over flags (updated settings k change) ≡ updated (laid_over flags settings) k change
 unfolding updated
 value_updated flags settings k change h ne =
     let is = setting_of-laid flags settings k h in
     let on = get_or flags (entry_of k).place false in
-    let new = changed (setting_of settings k) change in
-    let same : laid on new ≡ changed (setting_of (laid_over flags settings) k) change =
+    let new = changed_setting (setting_of settings k) change in
+    let same : laid on new ≡ changed_setting (setting_of (laid_over flags settings) k) change =
     laid-changed (entry_of k).shape (entry_of k).rule on (setting_of settings k) change
     (subst (λ (s : Setting). fits_setting (entry_of k).shape (entry_of k).rule s ≡ true) is (h.each k)) ne
-    ∙ ap (λ (s : Setting). changed s change) (sym is) in
+    ∙ ap (λ (s : Setting). changed_setting s change) (sym is) in
     laid-set flags settings (entry_of k).place new ∙ ap (λ (s : Setting). slice_set (laid_over flags settings) (entry_of k).place s) same
 
 -- another flag lies over what a flag lay over
@@ -168,8 +168,8 @@ relaid new (setting.Single value) on e = absurd (grind arith)
 relaid new (setting.Multi values) on e = absurd (grind arith)
 
 -- an update of a flag
-flag_updated : (flags : List Bool) (settings : List Setting) (k : Kind) (change : Change) (new : Bool) → IsSound (laid_over flags settings) → (entry_of k).shape ≡ shape.Flag
-    → setting.Flag new ≡ changed (setting.Flag (get_or flags (entry_of k).place false)) change
+flag_updated : (flags : List Bool) (settings : List Setting) (k : Kind) (change : Change) (new : Bool) → IsSoundSet (laid_over flags settings) → (entry_of k).shape ≡ shape.Flag
+    → setting.Flag new ≡ changed_setting (setting.Flag (get_or flags (entry_of k).place false)) change
     → laid_over (slice_set flags (entry_of k).place new) settings ≡ updated (laid_over flags settings) k change
 unfolding updated
 flag_updated flags settings k change new h e made =
@@ -179,37 +179,37 @@ flag_updated flags settings k change new h e made =
     let under : laid new (setting_of settings k) ≡ setting.Flag new =
     relaid new (setting_of settings k) on (sym (setting_of-laid flags settings k h) ∙ flagged) in
     laid-set_flag flags settings at new (setting.Flag false)
-    ∙ ap (λ (s : Setting). slice_set (laid_over flags settings) at s) (under ∙ made ∙ ap (λ (s : Setting). changed s change) (sym flagged))
+    ∙ ap (λ (s : Setting). slice_set (laid_over flags settings) at s) (under ∙ made ∙ ap (λ (s : Setting). changed_setting s change) (sym flagged))
 
 -- ---- what a table tells
 
-pub table_flag : (self : List Setting) (flags : List Bool) (values : List Setting) (k : Kind) → laid_over flags values ≡ self → IsSound self
+pub table_flag : (self : List Setting) (flags : List Bool) (values : List Setting) (k : Kind) → laid_over flags values ≡ self → IsSoundSet self
     → (entry_of k).shape ≡ shape.Flag → setting_of self k ≡ setting.Flag (get_or flags (entry_of k).place false)
 table_flag self flags values k view h e =
-    ap (λ s. setting_of s k) (sym view) ∙ setting_of_flag flags values k (subst IsSound (sym view) h) e
+    ap (λ s. setting_of s k) (sym view) ∙ setting_of_flag flags values k (subst IsSoundSet (sym view) h) e
 
-pub table_value : (self : List Setting) (flags : List Bool) (values : List Setting) (k : Kind) → laid_over flags values ≡ self → IsSound self
+pub table_value : (self : List Setting) (flags : List Bool) (values : List Setting) (k : Kind) → laid_over flags values ≡ self → IsSoundSet self
     → (entry_of k).shape ≢ shape.Flag → setting_of self k ≡ setting_of values k
 table_value self flags values k view h ne =
-    ap (λ s. setting_of s k) (sym view) ∙ setting_of_value flags values k (subst IsSound (sym view) h) ne
+    ap (λ s. setting_of s k) (sym view) ∙ setting_of_value flags values k (subst IsSoundSet (sym view) h) ne
 
-pub table_single : (self : List Setting) (flags : List Bool) (values : List Setting) (k : Kind) → laid_over flags values ≡ self → IsSound self
+pub table_single : (self : List Setting) (flags : List Bool) (values : List Setting) (k : Kind) → laid_over flags values ≡ self → IsSoundSet self
     → single_value (setting_of self k) ≡ single_value (setting_of values k)
 table_single self flags values k view h =
-    ap (λ s. single_value (setting_of s k)) (sym view) ∙ single_of flags values k (subst IsSound (sym view) h)
+    ap (λ s. single_value (setting_of s k)) (sym view) ∙ single_of flags values k (subst IsSoundSet (sym view) h)
 
-pub table_multi : (self : List Setting) (flags : List Bool) (values : List Setting) (k : Kind) → laid_over flags values ≡ self → IsSound self
+pub table_multi : (self : List Setting) (flags : List Bool) (values : List Setting) (k : Kind) → laid_over flags values ≡ self → IsSoundSet self
     → multi_values (setting_of self k) ≡ multi_values (setting_of values k)
 table_multi self flags values k view h =
-    ap (λ s. multi_values (setting_of s k)) (sym view) ∙ multi_of flags values k (subst IsSound (sym view) h)
+    ap (λ s. multi_values (setting_of s k)) (sym view) ∙ multi_of flags values k (subst IsSoundSet (sym view) h)
 
 pub table_changed : (self : List Setting) (flags : List Bool) (values : List Setting) (k : Kind) (change : Change) (new : List Setting)
-    → laid_over flags values ≡ self → IsSound self → (entry_of k).shape ≢ shape.Flag → new ≡ updated values k change → laid_over flags new ≡ updated self k change
+    → laid_over flags values ≡ self → IsSoundSet self → (entry_of k).shape ≢ shape.Flag → new ≡ updated values k change → laid_over flags new ≡ updated self k change
 table_changed self flags values k change new view h ne is =
-    ap (laid_over flags) is ∙ value_updated flags values k change (subst IsSound (sym view) h) ne ∙ ap (λ s. updated s k change) view
+    ap (laid_over flags) is ∙ value_updated flags values k change (subst IsSoundSet (sym view) h) ne ∙ ap (λ s. updated s k change) view
 
 pub table_flagged : (self : List Setting) (flags : List Bool) (values : List Setting) (k : Kind) (change : Change) (new : Bool)
-    → laid_over flags values ≡ self → IsSound self → (entry_of k).shape ≡ shape.Flag → setting.Flag new ≡ changed (setting.Flag (get_or flags (entry_of k).place false)) change
+    → laid_over flags values ≡ self → IsSoundSet self → (entry_of k).shape ≡ shape.Flag → setting.Flag new ≡ changed_setting (setting.Flag (get_or flags (entry_of k).place false)) change
     → laid_over (slice_set flags (entry_of k).place new) values ≡ updated self k change
 table_flagged self flags values k change new view h e made =
-    flag_updated flags values k change new (subst IsSound (sym view) h) e made ∙ ap (λ s. updated s k change) view
+    flag_updated flags values k change new (subst IsSoundSet (sym view) h) e made ∙ ap (λ s. updated s k change) view

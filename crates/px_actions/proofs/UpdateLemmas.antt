@@ -1,6 +1,6 @@
 -- What a word asks is of its kind.
 use Rattle.std.proofs.Common.{◌≡◌, ℕ, Bool, true, false, List, Option, Some, None, Ok, refl, arith}
-use Rattle.px_actions.specs.Rules.{keeps}
+use Rattle.px_actions.specs.Rules.{keeps_rule}
 use Rattle.px_actions.specs.Shapes.{fits_by}
 use Rattle.px_actions.specs.Updates.{has_parameter, parameter_of, change_by, shape_change}
 use Rattle.px_actions.specs.declared.kinds.Rule.{Rule}
@@ -11,12 +11,12 @@ use Rattle.px_actions.specs.declared.changes.Change.TheVariants as change
 use Rattle.px_actions.specs.declared.updates.Sign.{Sign}
 use Rattle.px_actions.specs.declared.updates.Sign.TheVariants.{Plus, Minus}
 
-has_parameter-kept : (rule : Rule) (behind : List ℕ) → has_parameter rule behind ≡ true → keeps rule (parameter_of behind) ≡ true
+has_parameter-kept : (rule : Rule) (behind : List ℕ) → has_parameter rule behind ≡ true → keeps_rule rule (parameter_of behind) ≡ true
 unfolding has_parameter
 has_parameter-kept rule behind h = grind arith
 
 by_parameter : (rule : Rule) (behind : List ℕ) (held : Bool) (made : List ℕ → Change) (shape : Shape) (c : Change) → has_parameter rule behind ≡ held
-    → ((p : List ℕ) → keeps rule p ≡ true → fits_by shape rule (made p) ≡ true) → change_by rule made behind ≡ Ok c → fits_by shape rule c ≡ true
+    → ((p : List ℕ) → keeps_rule rule p ≡ true → fits_by shape rule (made p) ≡ true) → change_by rule made behind ≡ Ok c → fits_by shape rule c ≡ true
 by_parameter rule behind true made shape c h fit e =
     let asked = rw h at e in
     let same : made (parameter_of behind) ≡ c = (cc) in

@@ -13,9 +13,9 @@ abbrev pub is_behind : Bool → ℕ → Bool
 is_behind behind b = not behind && b == byte "\\"
 
 -- the bytes of a text as they count
-abbrev pub counted : Bool → List ℕ → List ℕ
-counted behind [] = []
-counted behind (b ∷ rest) = counted_byte behind b ∷ counted (is_behind behind b) rest
+abbrev pub counted_text : Bool → List ℕ → List ℕ
+counted_text behind [] = []
+counted_text behind (b ∷ rest) = counted_byte behind b ∷ counted_text (is_behind behind b) rest
 
 -- how many braces are open after a byte, where so many are open before it
 abbrev pub open_after : ℕ → ℕ → ℕ
@@ -33,11 +33,11 @@ closes_at_end opened (b ∷ rest) = if open_after opened b == 0 then length rest
 
 -- the braces of a text balance
 unfoldable pub balances : List ℕ → Bool
-balances text = closes_all 0 (counted false text)
+balances text = closes_all 0 (counted_text false text)
 
 -- what stands behind a brace ends with the brace that balances it
 unfoldable pub is_closed : List ℕ → Bool
-is_closed text = closes_at_end 1 (counted false text)
+is_closed text = closes_at_end 1 (counted_text false text)
 
 -- for each byte of a text, how many braces are open before it
 abbrev pub depths : ℕ → List ℕ → List ℕ
@@ -52,7 +52,7 @@ pieces (b ∷ rest) (o ∷ opened) = if is_blank b && o == 0 then [] ∷ pieces 
 
 -- the words of a text: its pieces that aren't empty
 unfoldable pub words : List ℕ → List (List ℕ)
-words text = filter (λ piece. not (length piece == 0)) (pieces text (depths 0 (counted false text)))
+words text = filter (λ piece. not (length piece == 0)) (pieces text (depths 0 (counted_text false text)))
 
 -- how many bytes the first piece has
 abbrev pub piece_length : List ℕ → List ℕ → ℕ

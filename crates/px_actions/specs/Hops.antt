@@ -17,39 +17,39 @@ unfoldable pub is_host_byte : ℕ → Bool
 is_host_byte b = is_ascii_alphanumeric b || (b == byte "." || (b == byte "-" || b == byte "_"))
 
 -- a byte of an address in brackets: a hexadecimal digit, a colon or a dot
-unfoldable pub is_address_byte : ℕ → Bool
-is_address_byte b = is_ascii_hexdigit b || (b == byte ":" || b == byte ".")
+unfoldable pub is_hop_address_byte : ℕ → Bool
+is_hop_address_byte b = is_ascii_hexdigit b || (b == byte ":" || b == byte ".")
 
 -- one or more such bytes
 abbrev pub is_made_of : (ℕ → Bool) → List ℕ → Bool
 is_made_of is_byte text = not (length text == 0) && list_all is_byte text
 
 -- the port of what stands behind a host: a colon and a port, or nothing
-abbrev pub port_behind : List ℕ → Option ℕ
-port_behind [] = Some 8000
-port_behind (b ∷ rest) = if b == byte ":" then port rest else None
+abbrev pub hop_port : List ℕ → Option ℕ
+hop_port [] = Some 8000
+hop_port (b ∷ rest) = if b == byte ":" then port rest else None
 
 -- a host of such bytes, and what stands behind it
-abbrev pub parent_of : (ℕ → Bool) → List ℕ → List ℕ → Option NextHop
-parent_of is_byte host behind = if is_made_of is_byte host then option_map (λ p. parent host p) (port_behind behind) else None
+abbrev pub parent_hop : (ℕ → Bool) → List ℕ → List ℕ → Option NextHop
+parent_hop is_byte host behind = if is_made_of is_byte host then option_map (λ p. parent host p) (hop_port behind) else None
 
-abbrev pub is_bracket : ℕ → Bool
-is_bracket b = b == byte "]"
+abbrev pub is_closing_bracket : ℕ → Bool
+is_closing_bracket b = b == byte "]"
 
 abbrev pub is_colon : ℕ → Bool
 is_colon b = b == byte ":"
 
 -- what stands behind an opening bracket: an address, the closing bracket, and the port
-abbrev pub bracketed : List ℕ → Option NextHop
-bracketed text = if nat_lt (position_or_len is_bracket text) (length text)
-    then parent_of is_address_byte (before_first is_bracket text) (after_first is_bracket text) else None
+abbrev pub bracketed_hop : List ℕ → Option NextHop
+bracketed_hop text = if nat_lt (position_or_len is_closing_bracket text) (length text)
+    then parent_hop is_hop_address_byte (before_first is_closing_bracket text) (after_first is_closing_bracket text) else None
 
-abbrev pub by_name : List ℕ → Option NextHop
-by_name text = parent_of is_host_byte (before_first is_colon text) (drop (position_or_len is_colon text) text)
+abbrev pub hop_by_name : List ℕ → Option NextHop
+hop_by_name text = parent_hop is_host_byte (before_first is_colon text) (drop (position_or_len is_colon text) text)
 
 abbrev pub host_and_port : List ℕ → Option NextHop
 host_and_port [] = None
-host_and_port (b ∷ rest) = if b == byte "[" then bracketed rest else by_name (b ∷ rest)
+host_and_port (b ∷ rest) = if b == byte "[" then bracketed_hop rest else hop_by_name (b ∷ rest)
 
 -- a dot stands for the origin itself
 unfoldable pub next_hop : List ℕ → Option NextHop

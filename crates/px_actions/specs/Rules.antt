@@ -17,8 +17,8 @@ abbrev pub is_control : ℕ → Bool
 is_control b = (nat_lt b 32 && not (b == 9)) || b == 127
 
 -- UTF-8 without control bytes other than the tab
-unfoldable pub is_plain : List ℕ → Bool
-is_plain text = is_utf8 text && list_all (λ b. not (is_control b)) text
+unfoldable pub is_plain_text : List ℕ → Bool
+is_plain_text text = is_utf8 text && list_all (λ b. not (is_control b)) text
 
 -- white space and a next hop
 abbrev pub hop_behind : List ℕ → Option NextHop
@@ -48,5 +48,5 @@ meets rule.Minutes p = nat_le (length p) 9 && is_some (decimal 100000000 p)
 meets rule.AddedField p = may_add (read_field p)
 
 -- a parameter without white space at its ends keeps the rule
-unfoldable pub keeps : Rule → List ℕ → Bool
-keeps rule p = is_plain p && meets rule p
+unfoldable pub keeps_rule : Rule → List ℕ → Bool
+keeps_rule rule p = is_plain_text p && meets rule p

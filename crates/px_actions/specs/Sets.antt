@@ -3,8 +3,8 @@ use Rattle.std.specs.Prelude.{ℕ, ◌≡◌, ◌≤◌, ◌&&◌, Bool, true, f
 use Rattle.std.specs.List.{list_any, list_all, flat_map}
 use Rattle.std.specs.Str.{byte, bytes_eq}
 use Rattle.px_actions.specs.Kinds.{entry_of}
-use Rattle.px_actions.specs.Rules.{keeps}
-use Rattle.px_actions.specs.Shapes.{is_flag, is_single, is_multi}
+use Rattle.px_actions.specs.Rules.{keeps_rule}
+use Rattle.px_actions.specs.Shapes.{is_flag_shape, is_single, is_multi}
 use Rattle.px_actions.specs.declared.kinds.TheConstants.{KINDS}
 use Rattle.px_actions.specs.declared.kinds.Kind.{Kind}
 use Rattle.px_actions.specs.declared.kinds.Rule.{Rule}
@@ -20,33 +20,33 @@ abbrev pub is_among : List ℕ → List (List ℕ) → Bool
 is_among value values = list_any (λ v. bytes_eq v value) values
 
 -- the list with the value, which goes last unless it is there
-abbrev pub with_value : List ℕ → List (List ℕ) → List (List ℕ)
-with_value value values = if is_among value values then values else values ++ value ∷ []
+abbrev pub with_listed_value : List ℕ → List (List ℕ) → List (List ℕ)
+with_listed_value value values = if is_among value values then values else values ++ value ∷ []
 
 -- the list without the value
 abbrev pub without_value : List ℕ → List (List ℕ) → List (List ℕ)
 without_value value values = filter (λ v. not (bytes_eq v value)) values
 
 -- what is set of a kind after a change of its shape; other changes leave it
-abbrev pub changed : Setting → Change → Setting
-changed (setting.Flag on) change.On = setting.Flag true
-changed (setting.Flag on) change.Off = setting.Flag false
-changed (setting.Flag on) (change.Set p) = setting.Flag on
-changed (setting.Flag on) (change.Add p) = setting.Flag on
-changed (setting.Flag on) (change.Remove p) = setting.Flag on
-changed (setting.Flag on) change.Clear = setting.Flag on
-changed (setting.Single value) change.On = setting.Single value
-changed (setting.Single value) change.Off = setting.Single None
-changed (setting.Single value) (change.Set p) = setting.Single (Some p)
-changed (setting.Single value) (change.Add p) = setting.Single value
-changed (setting.Single value) (change.Remove p) = setting.Single value
-changed (setting.Single value) change.Clear = setting.Single value
-changed (setting.Multi values) change.On = setting.Multi values
-changed (setting.Multi values) change.Off = setting.Multi values
-changed (setting.Multi values) (change.Set p) = setting.Multi values
-changed (setting.Multi values) (change.Add p) = setting.Multi (with_value p values)
-changed (setting.Multi values) (change.Remove p) = setting.Multi (without_value p values)
-changed (setting.Multi values) change.Clear = setting.Multi []
+abbrev pub changed_setting : Setting → Change → Setting
+changed_setting (setting.Flag on) change.On = setting.Flag true
+changed_setting (setting.Flag on) change.Off = setting.Flag false
+changed_setting (setting.Flag on) (change.Set p) = setting.Flag on
+changed_setting (setting.Flag on) (change.Add p) = setting.Flag on
+changed_setting (setting.Flag on) (change.Remove p) = setting.Flag on
+changed_setting (setting.Flag on) change.Clear = setting.Flag on
+changed_setting (setting.Single value) change.On = setting.Single value
+changed_setting (setting.Single value) change.Off = setting.Single None
+changed_setting (setting.Single value) (change.Set p) = setting.Single (Some p)
+changed_setting (setting.Single value) (change.Add p) = setting.Single value
+changed_setting (setting.Single value) (change.Remove p) = setting.Single value
+changed_setting (setting.Single value) change.Clear = setting.Single value
+changed_setting (setting.Multi values) change.On = setting.Multi values
+changed_setting (setting.Multi values) change.Off = setting.Multi values
+changed_setting (setting.Multi values) (change.Set p) = setting.Multi values
+changed_setting (setting.Multi values) (change.Add p) = setting.Multi (with_listed_value p values)
+changed_setting (setting.Multi values) (change.Remove p) = setting.Multi (without_value p values)
+changed_setting (setting.Multi values) change.Clear = setting.Multi []
 
 -- what a set has of a kind
 abbrev pub setting_of : List Setting → Kind → Setting
@@ -54,7 +54,7 @@ setting_of set kind = slice_index_or set (entry_of kind).place (setting.Flag fal
 
 -- the set after an update
 unfoldable pub updated : List Setting → Kind → Change → List Setting
-updated set kind change = slice_set set (entry_of kind).place (changed (setting_of set kind) change)
+updated set kind change = slice_set set (entry_of kind).place (changed_setting (setting_of set kind) change)
 
 -- the set after updates in their order
 abbrev pub updated_all : List Setting → List Update → List Setting
@@ -100,8 +100,8 @@ multi_values (setting.Single value) = []
 multi_values (setting.Multi values) = values
 
 -- the values of a list, in its order
-unfoldable pub values : List Setting → Kind → List (List ℕ)
-values set kind = multi_values (setting_of set kind)
+unfoldable pub set_values : List Setting → Kind → List (List ℕ)
+set_values set kind = multi_values (setting_of set kind)
 
 -- no value stands twice
 abbrev pub is_distinct : List (List ℕ) → Bool
@@ -110,13 +110,13 @@ is_distinct (v ∷ values) = not (is_among v values) && is_distinct values
 
 -- what is set is of the shape, its values keep the rule, and a list has no repeats
 abbrev pub fits_setting : Shape → Rule → Setting → Bool
-fits_setting shape rule (setting.Flag on) = is_flag shape
+fits_setting shape rule (setting.Flag on) = is_flag_shape shape
 fits_setting shape rule (setting.Single None) = is_single shape
-fits_setting shape rule (setting.Single (Some p)) = is_single shape && keeps rule p
-fits_setting shape rule (setting.Multi values) = is_multi shape && (list_all (keeps rule) values && is_distinct values)
+fits_setting shape rule (setting.Single (Some p)) = is_single shape && keeps_rule rule p
+fits_setting shape rule (setting.Multi values) = is_multi shape && (list_all (keeps_rule rule) values && is_distinct values)
 
 -- what is set of each kind fits that kind
-pub record IsSound (set : List Setting) : Type 0 where
+pub record IsSoundSet (set : List Setting) : Type 0 where
   pub len : length set ≡ 41
   pub each : (kind : Kind) → fits_setting (entry_of kind).shape (entry_of kind).rule (setting_of set kind) ≡ true
 

@@ -2,9 +2,9 @@
 use Rattle.std.specs.Prelude.{◌==◌, Bool, IsTrue, List, [], ◌∷◌, Option, None, Some, false, slice_index_or, slice_set}
 use Rattle.std.specs.List.{list_all}
 use Rattle.px_actions.specs.Kinds.{entry_of}
-use Rattle.px_actions.specs.Sets.{changed, empty_set, empty_setting}
+use Rattle.px_actions.specs.Sets.{changed_setting, empty_set, empty_setting}
 use Rattle.px_actions.specs.declared.changes.Change.{Change}
-use Rattle.px_actions.specs.declared.entries.Entry.{Entry}
+use Rattle.px_actions.specs.declared.entries.SetEntry.{SetEntry}
 use Rattle.px_actions.specs.declared.kinds.Kind.{Kind}
 use Rattle.px_actions.specs.declared.settings.Setting.{Setting}
 use Rattle.px_actions.specs.declared.settings.Setting.TheVariants as setting
@@ -21,7 +21,7 @@ laid_over (on ∷ flags) [] = []
 laid_over (on ∷ flags) (s ∷ settings) = laid on s ∷ laid_over flags settings
 
 -- what is set of each kind: that of its first entry, and nothing where it has none
-abbrev pub settings_in : List Entry → List Setting
+abbrev pub settings_in : List SetEntry → List Setting
 settings_in [] = empty_set
 settings_in (e ∷ entries) = slice_set (settings_in entries) (entry_of e.kind).place e.setting
 
@@ -31,13 +31,13 @@ setting_or_empty kind None = empty_setting (entry_of kind).shape
 setting_or_empty kind (Some s) = s
 
 -- whether an entry is of a kind
-abbrev pub is_of : Kind → Entry → Bool
-is_of kind entry = (entry_of entry.kind).place == (entry_of kind).place
+abbrev pub is_of_kind : Kind → SetEntry → Bool
+is_of_kind kind entry = (entry_of entry.kind).place == (entry_of kind).place
 
 -- the kind of each entry is marked
-abbrev pub AreMarked : List Bool → List Entry → Type 0
+abbrev pub AreMarked : List Bool → List SetEntry → Type 0
 AreMarked marks entries = IsTrue (list_all (λ e. slice_index_or marks (entry_of e.kind).place false) entries)
 
 -- the entry of a kind after its first change
-abbrev pub first_entry : Kind → Change → Entry
-first_entry kind change = record { kind = kind; setting = changed (empty_setting (entry_of kind).shape) change }
+abbrev pub first_entry : Kind → Change → SetEntry
+first_entry kind change = record { kind = kind; setting = changed_setting (empty_setting (entry_of kind).shape) change }

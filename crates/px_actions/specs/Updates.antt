@@ -5,7 +5,7 @@ use Rattle.std.specs.Str.{byte}
 use Rattle.px_base.specs.Blanks.{trimmed}
 use Rattle.px_actions.specs.Braces.{is_closed}
 use Rattle.px_actions.specs.Kinds.{entry_of, kind_named}
-use Rattle.px_actions.specs.Rules.{keeps}
+use Rattle.px_actions.specs.Rules.{keeps_rule}
 use Rattle.px_actions.specs.declared.faults.ActionFault.{ActionFault}
 use Rattle.px_actions.specs.declared.faults.ActionFault.TheVariants as fault
 use Rattle.px_actions.specs.declared.kinds.Kind.{Kind}
@@ -17,12 +17,12 @@ use Rattle.px_actions.specs.declared.changes.Change.TheVariants as change
 use Rattle.px_actions.specs.declared.updates.Sign.{Sign}
 use Rattle.px_actions.specs.declared.updates.Sign.TheVariants.{Plus, Minus}
 
-abbrev pub is_open : ℕ → Bool
-is_open b = b == byte "{"
+abbrev pub is_opening_brace : ℕ → Bool
+is_opening_brace b = b == byte "{"
 
 -- what stands behind the first open brace, if there is one
 abbrev pub behind_brace : List ℕ → Option (List ℕ)
-behind_brace text = option_map (λ at. drop (at + 1) text) (position is_open text)
+behind_brace text = option_map (λ at. drop (at + 1) text) (position is_opening_brace text)
 
 -- the parameter of what stands behind its open brace: without the last brace, and without white space at its ends
 abbrev pub parameter_of : List ℕ → List ℕ
@@ -30,7 +30,7 @@ parameter_of behind = trimmed (take (length behind - 1) behind)
 
 -- the word's last byte is the brace that balances the first, and the parameter keeps the rule
 unfoldable pub has_parameter : Rule → List ℕ → Bool
-has_parameter rule behind = is_closed behind && keeps rule (parameter_of behind)
+has_parameter rule behind = is_closed behind && keeps_rule rule (parameter_of behind)
 
 -- a change by a parameter
 abbrev pub change_by : Rule → (List ℕ → Change) → List ℕ → Result Change ActionFault
@@ -70,7 +70,7 @@ kind_update sign behind (Some kind) = with_kind kind (shape_change (entry_of kin
 
 -- what stands behind the sign: a name up to the first open brace, and a parameter if there is that brace
 abbrev pub signed_update : Sign → List ℕ → Result (Kind × Change) ActionFault
-signed_update sign text = kind_update sign (behind_brace text) (kind_named (before_first is_open text))
+signed_update sign text = kind_update sign (behind_brace text) (kind_named (before_first is_opening_brace text))
 
 -- the update that a word stands for
 unfoldable pub word_update : List ℕ → Result (Kind × Change) ActionFault

@@ -1,6 +1,6 @@
 // Braces that balance, and the words of a line (the manual's chapter on actions files).
 ghost use Rattle.std.specs.Prelude.{◌≡◌, ◌+◌, ◌<◌, ◌≤◌, ◌^◌, ◌∷◌, [], false, IfNone, IfSome, IsTrue, length};
-ghost use Rattle.px_actions.specs.Braces.{counted, counted_byte, is_behind, open_after, balances, is_closed, words, depths, piece_length};
+ghost use Rattle.px_actions.specs.Braces.{counted_text, counted_byte, is_behind, open_after, balances, is_closed, words, depths, piece_length};
 ghost use Rattle.px_base.specs.Blanks.{trim_front};
 
 use px_base::is_blank;
@@ -117,7 +117,7 @@ pub(crate) fn without_front(text: &[u8]) -> &[u8]
 
 /// How many bytes stand before the first white space outside braces.
 fn first_piece(text: &[u8]) -> usize
-    ensures value { result ≡ piece_length text.now (depths 0 (counted false text.now)) }
+    ensures value { result ≡ piece_length text.now (depths 0 (counted_text false text.now)) }
     ensures within { result ≤ length text.now }
 {
     let mut braces = Braces {

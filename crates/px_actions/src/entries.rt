@@ -4,7 +4,7 @@ ghost use Rattle.std.specs.List.{position};
 ghost use Rattle.px_actions.specs.Kinds.{entry_of};
 ghost use Rattle.px_actions.specs.Shapes.{TakesMemory};
 ghost use Rattle.px_actions.specs.Sets.{empty_set, setting_of, updated};
-ghost use Rattle.px_actions.specs.Tables.{AreMarked, first_entry, is_of, setting_or_empty, settings_in};
+ghost use Rattle.px_actions.specs.Tables.{AreMarked, first_entry, is_of_kind, setting_or_empty, settings_in};
 ghost use Rattle.px_actions.specs.declared.kinds.Shape.TheVariants as shape;
 
 use crate::changes::Change;
@@ -19,7 +19,7 @@ const FIRST_ROOM: usize = 8;
 
 /// What is set of a kind that isn't a flag.
 #[derive(Drop)]
-pub struct Entry {
+pub struct SetEntry {
     pub kind: Kind,
     pub setting: Setting,
 }
@@ -31,7 +31,7 @@ pub struct Entries {
     /// Which kinds have an entry, by the kind's number: it spares the walk for most kinds that are asked for.
     marks: [bool; 41],
     /// In the order of the kinds' first values.
-    entries: Vec<Entry>,
+    entries: Vec<SetEntry>,
 }
 
 impl Model for Entries {
@@ -99,9 +99,9 @@ impl Entries {
 }
 
 /// The place of a kind's entry.
-fn place_of(marks: &[bool; 41], entries: &[Entry], kind: Kind) -> Option<usize>
+fn place_of(marks: &[bool; 41], entries: &[SetEntry], kind: Kind) -> Option<usize>
     requires { AreMarked marks.now entries.now }
-    ensures { result ≡ position (is_of kind) entries.now }
+    ensures { result ≡ position (is_of_kind kind) entries.now }
 {
     let place = kind.place();
     if !marks[place] {
@@ -113,12 +113,12 @@ fn place_of(marks: &[bool; 41], entries: &[Entry], kind: Kind) -> Option<usize>
 /// Applies a change to a kind's entry.
 fn change_entry(
     alloc: Global,
-    entries: &mut [Entry],
+    entries: &mut [SetEntry],
     kind: Kind,
     at: usize,
     change: &Change,
 ) -> Result<(), Mem>
-    requires found { position (is_of kind) entries.old ≡ Some at }
+    requires found { position (is_of_kind kind) entries.old ≡ Some at }
     ensures ok { OnOk result (settings_in entries.new ≡ updated (settings_in entries.old) kind change.now) }
     ensures err { OnErr result (entries.new ≡ entries.old) }
     ensures marked { (marks : List Bool) → AreMarked marks entries.old → AreMarked marks entries.new }
@@ -130,7 +130,7 @@ fn change_entry(
 /// Adds the entry of a kind that gets its first value.
 fn add_entry(
     alloc: Global,
-    entries: &mut Vec<Entry>,
+    entries: &mut Vec<SetEntry>,
     kind: Kind,
     change: &Change,
 ) -> Result<(), Mem>
@@ -142,16 +142,16 @@ fn add_entry(
     if entries.is_empty() {
         entries.reserve(FIRST_ROOM)?;
     }
-    entries.push(Entry { kind, setting })?;
+    entries.push(SetEntry { kind, setting })?;
     Ok(())
 }
 
-fn copy_entries(alloc: Global, entries: &[Entry]) -> Result<Vec<Entry>, Mem>
+fn copy_entries(alloc: Global, entries: &[SetEntry]) -> Result<Vec<SetEntry>, Mem>
     ensures { IfOk result (λ copies. copies.items ≡ entries.now) }
 {
     let mut copies = Vec::with_capacity(alloc, entries.len())?;
     for entry in entries {
-        copies.push(Entry {
+        copies.push(SetEntry {
             kind: entry.kind,
             setting: entry.setting.copy(alloc)?,
         })?;

@@ -1,7 +1,7 @@
 // Where requests are sent: the second word of a forward line.
 ghost use Rattle.std.specs.Prelude.{◌≡◌, ◌&&◌, None, Option, Some, if◌then◌else◌, option_map};
 ghost use Rattle.std.specs.List.{list_all};
-ghost use Rattle.px_actions.specs.Hops.{is_host_byte, is_address_byte, is_made_of, port_behind, parent_of, bracketed, by_name, next_hop, seen_hop, parent};
+ghost use Rattle.px_actions.specs.Hops.{is_host_byte, is_hop_address_byte, is_made_of, hop_port, parent_hop, bracketed_hop, hop_by_name, next_hop, seen_hop, parent};
 
 use px_base::{place, read_port};
 
@@ -24,9 +24,9 @@ fn is_host_byte(byte: u8) -> bool
     byte.is_ascii_alphanumeric() || byte == b'.' || byte == b'-' || byte == b'_'
 }
 
-#[tactic(auto, unfolding(crate::specs::Hops::is_address_byte))]
+#[tactic(auto, unfolding(crate::specs::Hops::is_hop_address_byte))]
 fn is_address_byte(byte: u8) -> bool
-    ensures { result ≡ is_address_byte byte }
+    ensures { result ≡ is_hop_address_byte byte }
 {
     byte.is_ascii_hexdigit() || byte == b':' || byte == b'.'
 }
@@ -38,7 +38,7 @@ fn are_host_bytes(text: &[u8]) -> bool
 }
 
 fn are_address_bytes(text: &[u8]) -> bool
-    ensures { result ≡ list_all is_address_byte text.now }
+    ensures { result ≡ list_all is_hop_address_byte text.now }
 {
     text.iter().all(|byte| is_address_byte(*byte))
 }
@@ -50,14 +50,14 @@ fn is_name(host: &[u8]) -> bool
 }
 
 fn is_address(host: &[u8]) -> bool
-    ensures { result ≡ is_made_of is_address_byte host.now }
+    ensures { result ≡ is_made_of is_hop_address_byte host.now }
 {
     !host.is_empty() && are_address_bytes(host)
 }
 
 /// The port of what stands behind a host: a colon and a port, or nothing.
 fn port_behind(text: &[u8]) -> Option<u16>
-    ensures { result ≡ port_behind text.now }
+    ensures { result ≡ hop_port text.now }
 {
     match text.split_first() {
         None => Some(PARENT_PORT),
@@ -68,7 +68,7 @@ fn port_behind(text: &[u8]) -> Option<u16>
 
 /// The parent of a host, if it is one, and of what stands behind it.
 fn parent_of<'a>(is_host: bool, host: &'a [u8], behind: &[u8]) -> Option<Hop<'a>>
-    ensures { option_map seen_hop result ≡ (if is_host then option_map (λ p. parent host.now p) (port_behind behind.now) else None) }
+    ensures { option_map seen_hop result ≡ (if is_host then option_map (λ p. parent host.now p) (hop_port behind.now) else None) }
 {
     if !is_host {
         return None;
@@ -81,7 +81,7 @@ fn parent_of<'a>(is_host: bool, host: &'a [u8], behind: &[u8]) -> Option<Hop<'a>
 
 /// What stands behind an opening bracket: an address, the closing bracket, and the port.
 fn bracketed(text: &[u8]) -> Option<Hop<'_>>
-    ensures { option_map seen_hop result ≡ bracketed text.now }
+    ensures { option_map seen_hop result ≡ bracketed_hop text.now }
 {
     match place(text, b']') {
         Some(at) => parent_of(is_address(&text[..at]), &text[..at], &text[at + 1..]),
@@ -91,7 +91,7 @@ fn bracketed(text: &[u8]) -> Option<Hop<'_>>
 
 /// A host, and its port behind the first colon.
 fn by_name(text: &[u8]) -> Option<Hop<'_>>
-    ensures { option_map seen_hop result ≡ by_name text.now }
+    ensures { option_map seen_hop result ≡ hop_by_name text.now }
 {
     match place(text, b':') {
         Some(at) => parent_of(is_name(&text[..at]), &text[..at], &text[at..]),

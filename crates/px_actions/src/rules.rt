@@ -4,7 +4,7 @@ ghost use Rattle.std.specs.List.{list_all};
 ghost use Rattle.std.specs.Str.{bytes_eq};
 ghost use Rattle.px_base.specs.Numbers.{decimal};
 ghost use Rattle.px_base.specs.Ports.{port_list};
-ghost use Rattle.px_actions.specs.Rules.{is_control, is_plain, override_hop, hop_behind, meets, keeps, may_add};
+ghost use Rattle.px_actions.specs.Rules.{is_control, is_plain_text, override_hop, hop_behind, meets, keeps_rule, may_add};
 ghost use Rattle.px_head.specs.FieldLines.{read_field};
 ghost use Rattle.px_actions.specs.Hops.{seen_hop};
 
@@ -124,9 +124,9 @@ fn meets(alloc: Global, rule: Rule, parameter: &str) -> Result<bool, Mem>
 }
 
 /// The bytes as a text, if they are UTF-8 without control bytes other than the tab.
-#[tactic(auto, unfolding(crate::specs::Rules::is_plain))]
+#[tactic(auto, unfolding(crate::specs::Rules::is_plain_text))]
 fn plain_text(bytes: &[u8]) -> Option<&str>
-    ensures plain { is_some result ≡ is_plain bytes.now }
+    ensures plain { is_some result ≡ is_plain_text bytes.now }
     ensures same { IfSome result (λ text. text.now ≡ bytes.now) }
 {
     match as_text(bytes) {
@@ -142,9 +142,9 @@ fn plain_text(bytes: &[u8]) -> Option<&str>
 }
 
 /// Whether a parameter without white space at its ends keeps its rule. Memory is taken for port lists alone.
-#[tactic(auto, unfolding(crate::specs::Rules::keeps))]
+#[tactic(auto, unfolding(crate::specs::Rules::keeps_rule))]
 pub(crate) fn keeps(alloc: Global, rule: Rule, parameter: &[u8]) -> Result<bool, Mem>
-    ensures { IfOk result (λ b. b ≡ keeps rule parameter.now) }
+    ensures { IfOk result (λ b. b ≡ keeps_rule rule parameter.now) }
 {
     match plain_text(parameter) {
         Some(text) => meets(alloc, rule, text),

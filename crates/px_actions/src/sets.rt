@@ -2,9 +2,9 @@
 ghost use Rattle.std.specs.Prelude.{◌≡◌, ◌++◌, IfOk, IfSome, IsErr, IfErr, OnErr, OnOk, IsTrue, option_copied, true};
 ghost use Rattle.std.specs.List.{flat_map, list_all};
 ghost use Rattle.px_actions.specs.Kinds.{entry_of};
-ghost use Rattle.px_actions.specs.Rules.{keeps};
+ghost use Rattle.px_actions.specs.Rules.{keeps_rule};
 ghost use Rattle.px_actions.specs.Shapes.{TakesMemory};
-ghost use Rattle.px_actions.specs.Sets.{IsSound, updated, updated_all, IsUpdatedByFront, empty_set, is_on, value, values, is_distinct, set_lines, setting_lines, setting_of};
+ghost use Rattle.px_actions.specs.Sets.{IsSoundSet, updated, updated_all, IsUpdatedByFront, empty_set, is_on, value, set_values, is_distinct, set_lines, setting_lines, setting_of};
 
 use crate::kinds::{KINDS, Kind};
 use crate::tables::Table;
@@ -27,11 +27,11 @@ impl Model for ActionSet {
 
     ghost Value = { List Setting };
 
-    ghost use Rattle.px_actions.specs.Sets.{IsSound};
+    ghost use Rattle.px_actions.specs.Sets.{IsSoundSet};
 
     ghost view = { λ s. s.table };
 
-    ghost invariant = { λ s. IsSound s.table };
+    ghost invariant = { λ s. IsSoundSet s.table };
 }
 
 impl ActionSet {
@@ -77,16 +77,16 @@ impl ActionSet {
     #[tactic(auto, unfolding(crate::specs::Sets::value))]
     pub fn value(&self, kind: Kind) -> Option<&[u8]>
         ensures value { option_copied result ≡ value self.now kind }
-        ensures kept { IfSome result (λ v. IsTrue (keeps (entry_of kind).rule v.now)) }
+        ensures kept { IfSome result (λ v. IsTrue (keeps_rule (entry_of kind).rule v.now)) }
     {
         self.table.value(kind)
     }
 
     /// The values of a list, in its order. Another kind has none.
-    #[tactic(auto, unfolding(crate::specs::Sets::values))]
+    #[tactic(auto, unfolding(crate::specs::Sets::set_values))]
     pub fn values(&self, kind: Kind) -> &[Text]
-        ensures values { result.now ≡ values self.now kind }
-        ensures kept { IsTrue (list_all (keeps (entry_of kind).rule) result.now) }
+        ensures values { result.now ≡ set_values self.now kind }
+        ensures kept { IsTrue (list_all (keeps_rule (entry_of kind).rule) result.now) }
         ensures distinct { IsTrue (is_distinct result.now) }
     {
         self.table.values(kind)
@@ -115,7 +115,7 @@ impl ActionSet {
 }
 
 fn print_settings(table: &Table, kinds: &[Kind], out: &mut Text) -> Result<(), Mem>
-    requires { IsSound table.now }
+    requires { IsSoundSet table.now }
     ensures { OnOk result (out.new ≡ out.old ++ flat_map (λ kind. setting_lines (entry_of kind).name (setting_of table.now kind)) kinds.now) }
 {
     for kind in kinds {

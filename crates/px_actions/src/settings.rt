@@ -3,7 +3,7 @@ ghost use Rattle.std.specs.Prelude.{◌≡◌, ◌++◌, [], IfOk, IsErr, OnErr,
 ghost use Rattle.std.specs.List.{flat_map};
 ghost use Rattle.px_actions.specs.Shapes.{TakesMemory};
 ghost use Rattle.px_actions.specs.declared.settings.Setting.TheVariants as setting;
-ghost use Rattle.px_actions.specs.Sets.{is_among, with_value, without_value, changed, empty_setting, single_value, multi_values, setting_lines, flag_line, value_line};
+ghost use Rattle.px_actions.specs.Sets.{is_among, with_listed_value, without_value, changed_setting, empty_setting, single_value, multi_values, setting_lines, flag_line, value_line};
 
 use crate::changes::Change;
 use crate::kinds::Shape;
@@ -36,7 +36,7 @@ impl Setting {
 
     /// Applies a change. After `Mem`, which comes only of `Set` and `Add`, all is as it was.
     pub(crate) fn change(&mut self, alloc: Global, change: &Change) -> Result<(), Mem>
-        ensures ok { OnOk result (self.new ≡ changed self.old change.now) }
+        ensures ok { OnOk result (self.new ≡ changed_setting self.old change.now) }
         ensures err { OnErr result (self.new ≡ self.old) }
         ensures memory { IsErr result → TakesMemory change.now }
     {
@@ -101,7 +101,7 @@ impl Setting {
 }
 
 pub fn change_flag(on: &mut bool, change: &Change)
-    ensures { setting.Flag on.new ≡ changed (setting.Flag on.old) change.now }
+    ensures { setting.Flag on.new ≡ changed_setting (setting.Flag on.old) change.now }
 {
     match change {
         Change::On => *on = true,
@@ -111,7 +111,7 @@ pub fn change_flag(on: &mut bool, change: &Change)
 }
 
 fn change_single(alloc: Global, value: &mut Option<Text>, change: &Change) -> Result<(), Mem>
-    ensures ok { OnOk result (setting.Single value.new ≡ changed (setting.Single value.old) change.now) }
+    ensures ok { OnOk result (setting.Single value.new ≡ changed_setting (setting.Single value.old) change.now) }
     ensures err { OnErr result (value.new ≡ value.old) }
     ensures memory { IsErr result → TakesMemory change.now }
 {
@@ -124,7 +124,7 @@ fn change_single(alloc: Global, value: &mut Option<Text>, change: &Change) -> Re
 }
 
 fn change_multi(alloc: Global, values: &mut List<Text>, change: &Change) -> Result<(), Mem>
-    ensures ok { OnOk result (setting.Multi values.new ≡ changed (setting.Multi values.old) change.now) }
+    ensures ok { OnOk result (setting.Multi values.new ≡ changed_setting (setting.Multi values.old) change.now) }
     ensures err { OnErr result (values.new ≡ values.old) }
     ensures memory { IsErr result → TakesMemory change.now }
 {
@@ -145,7 +145,7 @@ fn is_among(value: &[u8], values: &[Text]) -> bool
 
 /// Puts a value last into a list, unless it is there. After `Mem` the list is as it was.
 pub fn add_once(alloc: Global, values: &mut List<Text>, value: &[u8]) -> Result<(), Mem>
-    ensures ok { OnOk result (values.new ≡ with_value value.now values.old) }
+    ensures ok { OnOk result (values.new ≡ with_listed_value value.now values.old) }
     ensures err { OnErr result (values.new ≡ values.old) }
 {
     if is_among(value, values.as_slice()) {

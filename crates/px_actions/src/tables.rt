@@ -2,7 +2,7 @@
 ghost use Rattle.std.specs.Prelude.{◌≡◌, ◌≢◌, ◌++◌, IfOk, IsErr, OnErr, OnOk, option_copied};
 ghost use Rattle.px_actions.specs.Kinds.{entry_of};
 ghost use Rattle.px_actions.specs.Shapes.{TakesMemory};
-ghost use Rattle.px_actions.specs.Sets.{IsSound, empty_set, is_switched, multi_values, setting_lines, setting_of, single_value, updated};
+ghost use Rattle.px_actions.specs.Sets.{IsSoundSet, empty_set, is_switched, multi_values, setting_lines, setting_of, single_value, updated};
 ghost use Rattle.px_actions.specs.declared.kinds.Shape.TheVariants as shape;
 
 use crate::changes::Change;
@@ -46,7 +46,7 @@ impl Table {
 
     /// Applies a change to a kind. After `Mem`, which comes only of `Set` and `Add`, all is as it was.
     pub fn change(&mut self, alloc: Global, kind: Kind, change: &Change) -> Result<(), Mem>
-        requires sound { IsSound self.old }
+        requires sound { IsSoundSet self.old }
         ensures ok { OnOk result (self.new ≡ updated self.old kind change.now) }
         ensures err { OnErr result (self.new ≡ self.old) }
         ensures memory { IsErr result → TakesMemory change.now }
@@ -63,7 +63,7 @@ impl Table {
 
     /// Whether a flag is on.
     pub fn is_switched(&self, kind: Kind) -> bool
-        requires sound { IsSound self.now }
+        requires sound { IsSoundSet self.now }
         ensures { result ≡ is_switched (setting_of self.now kind) }
     {
         match kind.shape() {
@@ -75,7 +75,7 @@ impl Table {
 
     /// The value of a single kind.
     pub fn value(&self, kind: Kind) -> Option<&[u8]>
-        requires sound { IsSound self.now }
+        requires sound { IsSoundSet self.now }
         ensures { option_copied result ≡ single_value (setting_of self.now kind) }
     {
         match self.entries.get(kind) {
@@ -86,7 +86,7 @@ impl Table {
 
     /// The values of a list.
     pub fn values(&self, kind: Kind) -> &[Text]
-        requires sound { IsSound self.now }
+        requires sound { IsSoundSet self.now }
         ensures { result.now ≡ multi_values (setting_of self.now kind) }
     {
         match self.entries.get(kind) {
@@ -107,7 +107,7 @@ impl Table {
 
     /// Adds the lines of a kind at the end of a text.
     pub fn print(&self, kind: Kind, out: &mut Text) -> Result<(), Mem>
-        requires sound { IsSound self.now }
+        requires sound { IsSoundSet self.now }
         ensures { OnOk result (out.new ≡ out.old ++ setting_lines (entry_of kind).name (setting_of self.now kind)) }
     {
         let name = kind.name().as_bytes();
@@ -126,7 +126,7 @@ impl Table {
 
     /// Adds the lines of a kind that isn't a flag at the end of a text.
     fn print_value(&self, kind: Kind, name: &[u8], out: &mut Text) -> Result<(), Mem>
-        requires sound { IsSound self.now }
+        requires sound { IsSoundSet self.now }
         requires other { (entry_of kind).shape ≢ shape.Flag }
         ensures { OnOk result (out.new ≡ out.old ++ setting_lines name.now (setting_of self.now kind)) }
     {

@@ -2,7 +2,7 @@
 ghost use Rattle.std.specs.Prelude.{◌≡◌, ◌≢◌, IfErr, IfOk, IsTrue, false, Ok, Err, Some, option_copied};
 ghost use Rattle.std.specs.List.{before_first};
 ghost use Rattle.px_actions.specs.Shapes.{fits};
-ghost use Rattle.px_actions.specs.Updates.{is_open, behind_brace, parameter_of, has_parameter, flag_change, single_change, multi_change, shape_change, kind_update, signed_update, word_update};
+ghost use Rattle.px_actions.specs.Updates.{is_opening_brace, behind_brace, parameter_of, has_parameter, flag_change, single_change, multi_change, shape_change, kind_update, signed_update, word_update};
 
 use crate::braces::is_closed;
 use crate::changes::Change;
@@ -77,7 +77,7 @@ fn read_signed(alloc: Global, sign: Sign, text: &[u8]) -> Result<Update, ActionF
 
 /// The name before the first open brace, and what stands behind that brace if there is one.
 fn cut_at_brace(text: &[u8]) -> (&[u8], Option<&[u8]>)
-    ensures name { result.0.now ≡ before_first is_open text.now }
+    ensures name { result.0.now ≡ before_first is_opening_brace text.now }
     ensures behind { option_copied result.1 ≡ behind_brace text.now }
 {
     match place(text, b'{') {

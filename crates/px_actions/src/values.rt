@@ -6,7 +6,7 @@ ghost use Rattle.px_head.specs.FieldLines.{read_field};
 ghost use Rattle.px_head.specs.Names.{is_held_back_of_request};
 ghost use Rattle.px_actions.specs.Hops.{seen_hop};
 ghost use Rattle.px_actions.specs.Kinds.{entry_of};
-ghost use Rattle.px_actions.specs.Rules.{keeps, override_hop};
+ghost use Rattle.px_actions.specs.Rules.{keeps_rule, override_hop};
 
 use crate::hops::Hop;
 use crate::kinds::Kind;
@@ -18,7 +18,7 @@ use std::alloc::Global;
 /// A value as a text.
 #[tactic(auto, using(crate::proofs::RuleLemmas::keeps_text))]
 pub fn value_text(kind: Kind, value: &[u8]) -> &str
-    requires { IsTrue (keeps (entry_of kind).rule value.now) }
+    requires { IsTrue (keeps_rule (entry_of kind).rule value.now) }
     ensures { result.now ≡ value.now }
 {
     match as_text(value) {
@@ -29,7 +29,7 @@ pub fn value_text(kind: Kind, value: &[u8]) -> &str
 
 /// The cap on the lifetime of cookies, in minutes, of a value of `limit-cookie-lifetime`.
 pub fn lifetime_minutes(value: &[u8]) -> u64
-    requires { IsTrue (keeps (entry_of Kind.LimitCookieLifetime).rule value.now) }
+    requires { IsTrue (keeps_rule (entry_of Kind.LimitCookieLifetime).rule value.now) }
     ensures minutes { decimal 100000000 value.now ≡ Some result }
 {
     match read_decimal(value, MOST_MINUTES) {
@@ -40,7 +40,7 @@ pub fn lifetime_minutes(value: &[u8]) -> u64
 
 /// The field of a value of `add-header`, whose name isn't held back from requests.
 pub fn added_field(value: &[u8]) -> FieldLine<'_>
-    requires { IsTrue (keeps (entry_of Kind.AddHeader).rule value.now) }
+    requires { IsTrue (keeps_rule (entry_of Kind.AddHeader).rule value.now) }
     ensures field { read_field value.now ≡ Some (record { name = result.name.now; value = result.value.now }) }
     ensures sent { is_held_back_of_request result.name.now ≡ false }
 {
@@ -55,7 +55,7 @@ pub fn added_field(value: &[u8]) -> FieldLine<'_>
 
 /// The next hop of a value of `forward-override`.
 pub fn override_hop(value: &[u8]) -> Hop<'_>
-    requires { IsTrue (keeps (entry_of Kind.ForwardOverride).rule value.now) }
+    requires { IsTrue (keeps_rule (entry_of Kind.ForwardOverride).rule value.now) }
     ensures { override_hop value.now ≡ Some (seen_hop result) }
 {
     match read_override(value) {
@@ -66,7 +66,7 @@ pub fn override_hop(value: &[u8]) -> Hop<'_>
 
 /// The ports of a value of `limit-connect`.
 pub fn allowed_ports(alloc: Global, value: &[u8]) -> Result<Ports, Mem>
-    requires { IsTrue (keeps (entry_of Kind.LimitConnect).rule value.now) }
+    requires { IsTrue (keeps_rule (entry_of Kind.LimitConnect).rule value.now) }
     ensures { IfOk result (λ ports. port_list value.now ≡ Some ports) }
 {
     match Ports::read(alloc, value_text(Kind::LimitConnect, value)) {

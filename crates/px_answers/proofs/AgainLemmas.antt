@@ -3,7 +3,7 @@ use Rattle.std.proofs.Common.{◌≡◌, ◌≢◌, ◌⊎◌, inl, inr, ℕ, �
 use Rattle.std.proofs.lemmas.List.{append-nil, take-append-le, take-append-drop, take-take, length-take}
 use Rattle.std.proofs.Math.Seq.{take-length}
 use Rattle.std.proofs.Math.Nat.{eq-or-lt_of_le}
-use Rattle.px_framing.specs.Body.{Body, Part, IsBody, CanGoOn, NoBody, Says, KeepsLimit, IsChunked, AreElements, first_bytes, body_limit}
+use Rattle.px_framing.specs.Body.{Body, Part, IsBody, CanGoOn, NoBody, StateSays, KeepsLimit, IsChunked, AreElements, first_bytes, body_limit}
 use Rattle.px_framing.specs.Reading.{goes_on, reads_on, first}
 use Rattle.px_framing.specs.declared.rules.BodyRule.{BodyRule}
 use Rattle.px_framing.specs.declared.rules.BodyRule.TheVariants as rule
@@ -35,7 +35,7 @@ record Open (rest : List ℕ) (p : Part) : Type 0 where
 is_open : (rest : List ℕ) (p : Part) (s : State) → p.state ≡ s → s ≢ state.Whole → IsChunked rest p → Open rest p
 is_open rest p state.Whole e n x = absurd (n refl)
 is_open rest p state.More e n x =
-    let says : Says state.More rest p.used = rw e at x.says in
+    let says : StateSays state.More rest p.used = rw e at x.says in
     let limit : KeepsLimit state.More p.used = rw e at x.limit in
     let full : take p.used rest ≡ rest = take_all p.used rest says.0 in
     record {
@@ -44,11 +44,11 @@ is_open rest p state.More e n x =
       limit = omega arith;
     }
 is_open rest p state.Cut e n x =
-    let says : Says state.Cut rest p.used = rw e at x.says in
+    let says : StateSays state.Cut rest p.used = rw e at x.says in
     let limit : KeepsLimit state.Cut p.used = rw e at x.limit in
     record { no_body = says.1; before_last = λ m lt. can_take m p.used rest (omega arith) says.0; limit = omega arith }
 is_open rest p state.Misframed e n x =
-    let says : Says state.Misframed rest p.used = rw e at x.says in
+    let says : StateSays state.Misframed rest p.used = rw e at x.says in
     let limit : KeepsLimit state.Misframed p.used = rw e at x.limit in
     record { no_body = says.3; before_last = λ m lt. can_take m (p.used - 1) rest (omega arith) says.1; limit = limit }
 
@@ -68,9 +68,9 @@ is_front rest p x =
 
 -- so all of them are used where they are read again
 all_used : (rest : List ℕ) (p q : Part) (s : State) → q.state ≡ s → Open rest p → Front rest p → IsChunked p.raw q → q.used ≡ length p.raw
-all_used rest p q state.More e o f y = let says : Says state.More p.raw q.used = rw e at y.says in says.0
+all_used rest p q state.More e o f y = let says : StateSays state.More p.raw q.used = rw e at y.says in says.0
 all_used rest p q state.Whole e o f y =
-    let says : Says state.Whole p.raw q.used = rw e at y.says in
+    let says : StateSays state.Whole p.raw q.used = rw e at y.says in
     let same : take q.used p.raw ≡ take q.used (take p.used rest) = f.same q.used y.within ∙ sym (take-take q.used p.used rest (omega (arith, y.within, f.fits))) in
     let body : IsBody (take q.used (take p.used rest)) = subst (λ (w : List ℕ). IsBody w) same says in
     absurd (o.no_body q.used body)
@@ -78,10 +78,10 @@ all_used rest p q state.Cut e o f y =
     let limit : KeepsLimit state.Cut q.used = rw e at y.limit in
     omega (arith, y.within, f.fits, o.limit, limit)
 all_used rest p q state.Misframed e o f y =
-    let says : Says state.Misframed p.raw q.used = rw e at y.says in
+    let says : StateSays state.Misframed p.raw q.used = rw e at y.says in
     by (eq-or-lt_of_le y.within) says
   where
-    by : (q.used ≡ length p.raw) ⊎ (q.used < length p.raw) → Says state.Misframed p.raw q.used → q.used ≡ length p.raw
+    by : (q.used ≡ length p.raw) ⊎ (q.used < length p.raw) → StateSays state.Misframed p.raw q.used → q.used ≡ length p.raw
     by (inl same) says = same
     by (inr less) says = absurd (says.2 (subst (λ (w : List ℕ). CanGoOn w) (sym (f.same q.used y.within)) (o.before_last q.used (omega (arith, less, f.fits)))))
 

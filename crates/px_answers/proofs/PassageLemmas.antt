@@ -7,23 +7,23 @@ use Rattle.std.proofs.lemmas.List.{append-nil}
 use Rattle.px_framing.specs.Body.{Part, nothing, first_bytes, at_end}
 use Rattle.px_framing.specs.declared.rules.BodyRule.{BodyRule}
 use Rattle.px_framing.specs.declared.rules.BodyRule.TheVariants as rule
-use Rattle.px_framing.specs.declared.places.Place.{Place}
-use Rattle.px_framing.specs.declared.places.Place.TheVariants as place
+use Rattle.px_framing.specs.declared.places.ChunkPlace.{ChunkPlace}
+use Rattle.px_framing.specs.declared.places.ChunkPlace.TheVariants as place
 use Rattle.px_framing.specs.declared.stages.Stage.{Stage}
 use Rattle.px_framing.specs.declared.stages.Stage.TheVariants as stage
 use Rattle.px_framing.specs.Reading as framing
-use Rattle.px_framing.specs.Reading.{Reading, IsSettled, Steps, KeepsKind, goes_on, reads, first, before, stage_state, is_ended, is_to_close}
+use Rattle.px_framing.specs.Reading.{Reading, IsSettled, ReaderSteps, KeepsKind, goes_on, reads, first, before, stage_state, is_ended, is_to_close, added}
 use Rattle.px_framing.specs.declared.places.State.{State}
 use Rattle.px_framing.specs.declared.places.State.TheVariants as state
 use Rattle.px_answers.specs.declared.forms.Framed.{Framed}
-use Rattle.px_answers.specs.declared.forms.Outcome.{Outcome}
+use Rattle.px_answers.specs.declared.forms.AnswerOutcome.{AnswerOutcome}
 use Rattle.px_answers.specs.declared.forms.Form.{Form}
 use Rattle.px_answers.specs.declared.forms.Form.TheVariants as form
 use Rattle.px_answers.specs.declared.courses.Course.{Course}
 use Rattle.px_answers.specs.declared.courses.Course.TheVariants as course
-use Rattle.px_answers.specs.Forms.{allows, body_of, formed, passed_head, may_filter, is_open, is_more, is_sound, is_whole, stands}
-use Rattle.px_answers.specs.Finished.{Work, finished, by_end, passed, passed_outcome, so_far}
-use Rattle.px_answers.specs.Passages.{IsRaw, Read, TakesOn, Holds, Passes, Finishes, After, Begins, added, ended_of, passing}
+use Rattle.px_answers.specs.Forms.{allows_filters, body_of, formed, passed_head, may_filter, is_open_to_filters, is_more, is_sound, is_whole, state_at_end}
+use Rattle.px_answers.specs.Finished.{Work, finished, by_end, passed, passed_outcome, returned_so_far}
+use Rattle.px_answers.specs.Passages.{IsRaw, Read, TakesOn, Holds, PassesFront, FinishesBody, CourseAfter, BeginsReturned, ended_of, passing}
 
 -- ---- lists
 
@@ -41,7 +41,7 @@ formed_more form.Plain raw plain r p = refl
 -- ---- readers
 
 -- a body that was fed bytes, and takes more
-pub read_on : (r : BodyRule) (rest raw plain piece x y : List ℕ) (n : ℕ) (old new : Reading) → Read r rest raw plain old → Steps old piece x y n new
+pub read_on : (r : BodyRule) (rest raw plain piece x y : List ℕ) (n : ℕ) (old new : Reading) → Read r rest raw plain old → ReaderSteps old piece x y n new
     → Read r (rest ++ piece) (raw ++ x) (plain ++ y) new
 read_on r rest raw plain piece x y n old new read steps = record {
   used = read.used + n;
@@ -82,7 +82,7 @@ nothing_left r settled = by r.stage r.kept settled.settled
     none : (n : ℕ) (s : State) → 0 < n → first_bytes n s [] ≡ nothing state.More
     none n s h = let fewest : min n 0 ≡ 0 = omega arith in rw (over n h, take-nil n, fewest) refl
 
-    at : (p : Place) (kept : List ℕ) → framing.is_last p ≡ false → framing.capped false (reads p kept []) ≡ nothing state.More
+    at : (p : ChunkPlace) (kept : List ℕ) → framing.is_last p ≡ false → framing.capped false (reads p kept []) ≡ nothing state.More
     at place.Size kept h = refl
     at (place.Data m) kept h = refl
     at place.Gap kept h = refl
@@ -96,7 +96,7 @@ nothing_left r settled = by r.stage r.kept settled.settled
     by (stage.Rest n) kept h = none n state.Cut h.1
     by (stage.Chunks p n) kept h = rw (over n h.2, take-nil n) (at p kept h.1)
 
-pub stands_ended : (r : BodyRule) (failed : Bool) (s : State) → s ≢ state.More → stands r failed s ≡ s
+pub stands_ended : (r : BodyRule) (failed : Bool) (s : State) → s ≢ state.More → state_at_end r failed s ≡ s
 stands_ended r true state.More n = absurd (n refl)
 stands_ended r true state.Whole n = refl
 stands_ended r true state.Cut n = refl
@@ -122,7 +122,7 @@ stands_ended r false s n = by r s n
     by rule.ToClose state.Misframed n = refl
 
 -- chunks that are whole at the end were whole before
-pub whole_before : (r : BodyRule) (failed : Bool) (s : State) → r ≡ rule.Chunked → stands r failed s ≡ state.Whole → s ≡ state.Whole
+pub whole_before : (r : BodyRule) (failed : Bool) (s : State) → r ≡ rule.Chunked → state_at_end r failed s ≡ state.Whole → s ≡ state.Whole
 whole_before r failed state.Whole e h = refl
 whole_before r true state.More e h = cc
 whole_before r true state.Cut e h = cc
@@ -135,7 +135,7 @@ whole_before (rule.Length n) false s e h = cc
 whole_before rule.ToClose false s e h = cc
 
 -- what a reader from the start of a body put out of all its bytes
-pub decoded : (r : BodyRule) (bytes x y : List ℕ) (n : ℕ) (new : Reading) → Steps (first r) bytes x y n new → IsSettled new → (body_of r bytes).plain ≡ y
+pub decoded : (r : BodyRule) (bytes x y : List ℕ) (n : ℕ) (new : Reading) → ReaderSteps (first r) bytes x y n new → IsSettled new → (body_of r bytes).plain ≡ y
 decoded r bytes x y n new steps settled =
     ap (λ (xs : List ℕ). (goes_on (first r) xs).plain) (sym (append-nil bytes)) ∙ ap (λ (p : Part). p.plain) (steps.same [])
     ∙ ap (λ (p : Part). y ++ p.plain) (nothing_left new settled) ∙ append-nil y
@@ -171,26 +171,26 @@ read_now f rest raw plain reader read settled =
 
 -- where the bytes end
 pub now_due : (w : Work) (f : Framed) (rest raw plain : List ℕ) (reader : Reading) (failed : Bool) → Read f.rule rest raw plain reader → IsSettled reader
-    → finished w f (body_of f.rule rest) failed ≡ by_end w f raw plain (stands f.rule failed (stage_state reader.stage))
+    → finished w f (body_of f.rule rest) failed ≡ by_end w f raw plain (state_at_end f.rule failed (stage_state reader.stage))
 now_due w f rest raw plain reader failed read settled = rw (read_now f rest raw plain reader read settled, append-nil raw, append-nil plain) refl
 
 -- a raw front above the limit stays above
-stays_closed : (f : Framed) (n m : ℕ) → is_open f n ≡ false → n ≤ m → is_open f m ≡ false
+stays_closed : (f : Framed) (n m : ℕ) → is_open_to_filters f n ≡ false → n ≤ m → is_open_to_filters f m ≡ false
 stays_closed f n m h le = by f.filters h
   where
-    by : (names : Option (List (List ℕ))) → (allows names && nat_le n f.limit) ≡ false → (allows names && nat_le m f.limit) ≡ false
+    by : (names : Option (List (List ℕ))) → (allows_filters names && nat_le n f.limit) ≡ false → (allows_filters names && nat_le m f.limit) ≡ false
     by None h = refl
     by (Some names) h = grind (arith, nat_tests, common_steps)
 
 -- an unfiltered body, by how it stands
-closed_end : (w : Work) (f : Framed) (raw plain : List ℕ) (s : State) → is_open f (length raw) ≡ false → by_end w f raw plain s ≡ passed f raw plain (is_whole s)
+closed_end : (w : Work) (f : Framed) (raw plain : List ℕ) (s : State) → is_open_to_filters f (length raw) ≡ false → by_end w f raw plain s ≡ passed f raw plain (is_whole s)
 closed_end w f raw plain s closed = rw closed refl
 
 begun : (w : Work) (f : Framed) (rest raw plain : List ℕ) (reader : Reading) → Read f.rule rest raw plain reader → IsSettled reader
-    → is_open f (length raw) ≡ false → After w f rest (passed_head f ++ formed f.form raw plain) (passing f reader)
+    → is_open_to_filters f (length raw) ≡ false → CourseAfter w f rest (passed_head f ++ formed f.form raw plain) (passing f reader)
 begun w f rest raw plain reader read settled closed = by (stage_state reader.stage) refl
   where
-    ends : (s : State) → stage_state reader.stage ≡ s → s ≢ state.More → Finishes w f rest (passed_head f ++ formed f.form raw plain) (passed_outcome f (is_whole s))
+    ends : (s : State) → stage_state reader.stage ≡ s → s ≢ state.More → FinishesBody w f rest (passed_head f ++ formed f.form raw plain) (passed_outcome f (is_whole s))
     ends s e n =
         let not_more : stage_state reader.stage ≢ state.More = λ h. n (sym e ∙ h) in
         record {
@@ -198,26 +198,26 @@ begun w f rest raw plain reader read settled closed = by (stage_state reader.sta
           settled = λ more failed. end_due w f rest raw plain reader read not_more more failed ∙ closed_end w f raw plain (stage_state reader.stage) closed ∙ ap (λ (t : State). passed f raw plain (is_whole t)) e;
         }
 
-    by : (s : State) → stage_state reader.stage ≡ s → After w f rest (passed_head f ++ formed f.form raw plain) (passing f reader)
+    by : (s : State) → stage_state reader.stage ≡ s → CourseAfter w f rest (passed_head f ++ formed f.form raw plain) (passing f reader)
     by state.More e = rw e (record { raw = raw; plain = plain; read = read; more = e; excluded = closed; settled = settled; put_is = refl })
     by state.Whole e = rw e (ends state.Whole e (λ h. cc))
     by state.Cut e = rw e (ends state.Cut e (λ h. cc))
     by state.Misframed e = rw e (ends state.Misframed e (λ h. cc))
 
 -- one more piece of an unfiltered body
-pub passes_on : (w : Work) (f : Framed) (rest put piece x : List ℕ) (old new : Reading) → Passes f rest put old → TakesOn f.form old piece x new → IsSettled new
-    → After w f (rest ++ piece) (put ++ x) (passing f new)
+pub passes_on : (w : Work) (f : Framed) (rest put piece x : List ℕ) (old new : Reading) → PassesFront f rest put old → TakesOn f.form old piece x new → IsSettled new
+    → CourseAfter w f (rest ++ piece) (put ++ x) (passing f new)
 passes_on w f rest put piece x old new h t settled =
     let read = read_on f.rule rest h.raw h.plain piece t.raw t.plain t.used old new h.read t.steps in
-    let closed : is_open f (length (h.raw ++ t.raw)) ≡ false = stays_closed f (length h.raw) (length (h.raw ++ t.raw)) h.excluded (omega (arith, length-append h.raw t.raw)) in
+    let closed : is_open_to_filters f (length (h.raw ++ t.raw)) ≡ false = stays_closed f (length h.raw) (length (h.raw ++ t.raw)) h.excluded (omega (arith, length-append h.raw t.raw)) in
     let all : put ++ x ≡ passed_head f ++ formed f.form (h.raw ++ t.raw) (h.plain ++ t.plain) =
     rw (h.put_is, t.put_is, formed_more f.form h.raw h.plain t.raw t.plain) (append_assoc (passed_head f) (formed f.form h.raw h.plain) (formed f.form t.raw t.plain)) in
     rw all (begun w f (rest ++ piece) (h.raw ++ t.raw) (h.plain ++ t.plain) new read settled closed)
 
 -- a held body above the limit is put out unfiltered
 pub gives_up : (w : Work) (f : Framed) (rest raw plain again old mid out : List ℕ) (reader : Reading) → Read f.rule rest raw plain reader → IsSettled reader
-    → is_more (stage_state reader.stage) ≡ true → is_open f (length raw) ≡ false → again ≡ plain → mid ≡ old ++ passed_head f → out ≡ mid ++ formed f.form raw again
-    → After w f rest (added old out) (course.Passing reader)
+    → is_more (stage_state reader.stage) ≡ true → is_open_to_filters f (length raw) ≡ false → again ≡ plain → mid ≡ old ++ passed_head f → out ≡ mid ++ formed f.form raw again
+    → CourseAfter w f rest (added old out) (course.Passing reader)
 gives_up w f rest raw plain again old mid out reader read settled more closed same head body = record {
   raw = raw;
   plain = plain;
@@ -236,7 +236,7 @@ gives_up w f rest raw plain again old mid out reader read settled more closed sa
 
 -- a body within the limit is held
 pub keeps_on : (w : Work) (f : Framed) (rest raw plain out : List ℕ) (reader : Reading) → Read f.rule rest raw plain reader → IsSettled reader
-    → is_more (stage_state reader.stage) ≡ true → is_open f (length raw) ≡ true → After w f rest (added out out) (course.Holding raw reader)
+    → is_more (stage_state reader.stage) ≡ true → is_open_to_filters f (length raw) ≡ true → CourseAfter w f rest (added out out) (course.Holding raw reader)
 keeps_on w f rest raw plain out reader read settled more allowed = record {
   plain = plain;
   read = read;
@@ -253,9 +253,9 @@ keeps_on w f rest raw plain out reader read settled more allowed = record {
     by state.Misframed e = cc
 
 -- a held body at its end was put out
-pub finishes : (w : Work) (f : Framed) (rest raw plain again old out : List ℕ) (reader : Reading) (s : State) (outcome : Outcome) → Read f.rule rest raw plain reader
+pub finishes : (w : Work) (f : Framed) (rest raw plain again old out : List ℕ) (reader : Reading) (s : State) (outcome : AnswerOutcome) → Read f.rule rest raw plain reader
     → stage_state reader.stage ≡ s → is_more s ≡ false → again ≡ plain → outcome ≡ (by_end w f raw again s).outcome → out ≡ old ++ (by_end w f raw again s).bytes
-    → After w f rest (added old out) (course.Ended outcome)
+    → CourseAfter w f rest (added old out) (course.Ended outcome)
 finishes w f rest raw plain again old out reader s outcome read is over same o grows =
     let not_more : stage_state reader.stage ≢ state.More = λ h. differs s (sym is ∙ h) over in
     record {
@@ -273,28 +273,28 @@ finishes w f rest raw plain again old out reader s outcome read is over same o g
     due more failed = rw (is, sym same, put_one old out (by_end w f raw again s).bytes grows, o) refl
 
 -- a held body was put out where its bytes end
-pub ends_held : (w : Work) (f : Framed) (rest put raw again old out : List ℕ) (reader : Reading) (failed : Bool) (s : State) (outcome : Outcome) (h : Holds f rest put raw reader)
-    → s ≡ stands f.rule failed (stage_state reader.stage) → again ≡ h.plain → outcome ≡ (by_end w f raw again s).outcome → out ≡ old ++ (by_end w f raw again s).bytes
+pub ends_held : (w : Work) (f : Framed) (rest put raw again old out : List ℕ) (reader : Reading) (failed : Bool) (s : State) (outcome : AnswerOutcome) (h : Holds f rest put raw reader)
+    → s ≡ state_at_end f.rule failed (stage_state reader.stage) → again ≡ h.plain → outcome ≡ (by_end w f raw again s).outcome → out ≡ old ++ (by_end w f raw again s).bytes
     → finished w f (body_of f.rule rest) failed ≡ record { bytes = put ++ added old out; outcome = outcome }
 ends_held w f rest put raw again old out reader failed s outcome h is same o grows =
     now_due w f rest raw h.plain reader failed h.read h.settled ∙ rw (sym is, sym same, h.quiet, put_one old out (by_end w f raw again s).bytes grows, o) refl
 
 -- an unfiltered one was put out before
-pub ends_passing : (w : Work) (f : Framed) (rest put out : List ℕ) (reader : Reading) (failed : Bool) (s : State) (h : Passes f rest put reader)
-    → s ≡ stands f.rule failed (stage_state reader.stage)
+pub ends_passing : (w : Work) (f : Framed) (rest put out : List ℕ) (reader : Reading) (failed : Bool) (s : State) (h : PassesFront f rest put reader)
+    → s ≡ state_at_end f.rule failed (stage_state reader.stage)
     → finished w f (body_of f.rule rest) failed ≡ record { bytes = put ++ added out out; outcome = passed_outcome f (is_whole s) }
 ends_passing w f rest put out reader failed s h is =
     let all : put ++ added out out ≡ passed_head f ++ formed f.form h.raw h.plain = ap (λ (xs : List ℕ). put ++ xs) (drop-length out) ∙ append-nil put ∙ h.put_is in
     now_due w f rest h.raw h.plain reader failed h.read h.settled ∙ rw (sym is, all) (closed_end w f h.raw h.plain s h.excluded)
 
 -- and one that was at its end
-pub ends_again : (w : Work) (f : Framed) (rest put out : List ℕ) (failed : Bool) (outcome : Outcome) → Finishes w f rest put outcome
+pub ends_again : (w : Work) (f : Framed) (rest put out : List ℕ) (failed : Bool) (outcome : AnswerOutcome) → FinishesBody w f rest put outcome
     → finished w f (body_of f.rule rest) failed ≡ record { bytes = put ++ added out out; outcome = outcome }
 ends_again w f rest put out failed outcome h =
     ap (λ (xs : List ℕ). finished w f (body_of f.rule xs) failed) (sym (append-nil rest)) ∙ h.settled [] failed ∙ rw (drop-length out, append-nil put) refl
 
 -- bytes behind the end change nothing
-pub stays_ended : (w : Work) (f : Framed) (rest put piece out : List ℕ) (outcome : Outcome) → Finishes w f rest put outcome → Finishes w f (rest ++ piece) (put ++ added out out) outcome
+pub stays_ended : (w : Work) (f : Framed) (rest put piece out : List ℕ) (outcome : AnswerOutcome) → FinishesBody w f rest put outcome → FinishesBody w f (rest ++ piece) (put ++ added out out) outcome
 stays_ended w f rest put piece out outcome h =
     rw (drop-length out, append-nil put) (record {
       over = λ more. rw (append_assoc rest piece more) (h.over (piece ++ more));
@@ -303,16 +303,16 @@ stays_ended w f rest put piece out outcome h =
 
 -- ---- fronts
 
-whole_of : (w : Work) (f : Framed) (rest put : List ℕ) (reader : Reading) (p : Passes f rest put reader) (more : List ℕ) (failed : Bool)
+whole_of : (w : Work) (f : Framed) (rest put : List ℕ) (reader : Reading) (p : PassesFront f rest put reader) (more : List ℕ) (failed : Bool)
     → (finished w f (body_of f.rule (rest ++ more)) failed).bytes ≡ put ++ formed f.form (goes_on reader more).raw (goes_on reader more).plain
 whole_of w f rest put reader p more failed =
     let q = goes_on reader more in
-    let s = stands f.rule failed q.state in
-    let closed : is_open f (length (p.raw ++ q.raw)) ≡ false = stays_closed f (length p.raw) (length (p.raw ++ q.raw)) p.excluded (omega (arith, length-append p.raw q.raw)) in
+    let s = state_at_end f.rule failed q.state in
+    let closed : is_open_to_filters f (length (p.raw ++ q.raw)) ≡ false = stays_closed f (length p.raw) (length (p.raw ++ q.raw)) p.excluded (omega (arith, length-append p.raw q.raw)) in
     rw (p.read.after.same more, closed, formed_more f.form p.raw p.plain q.raw q.plain, p.put_is) (sym (append_assoc (passed_head f) (formed f.form p.raw p.plain) (formed f.form q.raw q.plain)))
 
 -- what was put out is a front of what is returned, whatever follows
-pub begins : (w : Work) (f : Framed) (rest put : List ℕ) (c : Course) → After w f rest put c → Begins w f rest put
+pub begins : (w : Work) (f : Framed) (rest put : List ℕ) (c : Course) → CourseAfter w f rest put c → BeginsReturned w f rest put
 begins w f rest put (course.Holding raw reader) h = record { front = λ more failed. rw h.quiet (grind (arith, common_steps)) }
 begins w f rest put (course.Passing reader) h =
     record { front = λ more failed. rw (whole_of w f rest put reader h more failed) (take-append_seam put (formed f.form (goes_on reader more).raw (goes_on reader more).plain)) }
@@ -333,15 +333,15 @@ not_later true (rule.Length n) state.Misframed h = refl
 not_later true rule.Chunked state.Misframed h = refl
 not_later true rule.ToClose state.Misframed h = refl
 
-so_far_within : (w : Work) (f : Framed) (p : Part) → length (so_far f p) ≤ length (finished w f p false).bytes
+so_far_within : (w : Work) (f : Framed) (p : Part) → length (returned_so_far f p) ≤ length (finished w f p false).bytes
 so_far_within w f p = by (may_filter f (length p.raw) p.state) refl
   where
-    by : (b : Bool) → may_filter f (length p.raw) p.state ≡ b → length (so_far f p) ≤ length (finished w f p false).bytes
+    by : (b : Bool) → may_filter f (length p.raw) p.state ≡ b → length (returned_so_far f p) ≤ length (finished w f p false).bytes
     by true e = rw e (omega arith)
-    by false e = rw (e, not_later (is_open f (length p.raw)) f.rule p.state e) (omega arith)
+    by false e = rw (e, not_later (is_open_to_filters f (length p.raw)) f.rule p.state e) (omega arith)
 
 -- no byte that may be returned is held back
-pub no_lag : (w : Work) (f : Framed) (rest put : List ℕ) (c : Course) → After w f rest put c → length (so_far f (body_of f.rule rest)) ≤ length put
+pub no_lag : (w : Work) (f : Framed) (rest put : List ℕ) (c : Course) → CourseAfter w f rest put c → length (returned_so_far f (body_of f.rule rest)) ≤ length put
 no_lag w f rest put (course.Holding raw reader) h =
     rw (read_now f rest raw h.plain reader h.read h.settled, append-nil raw, h.more, h.allowed) (omega arith)
 no_lag w f rest put (course.Passing reader) h =
@@ -352,7 +352,7 @@ no_lag w f rest put (course.Ended outcome) h =
 no_lag w f rest put course.Wanting h = absurd h
 
 -- the course is at its end exactly where the body is
-pub ends_exactly : (w : Work) (f : Framed) (rest put : List ℕ) (c : Course) → After w f rest put c → is_some (ended_of c) ≡ not (is_more (body_of f.rule rest).state)
+pub ends_exactly : (w : Work) (f : Framed) (rest put : List ℕ) (c : Course) → CourseAfter w f rest put c → is_some (ended_of c) ≡ not (is_more (body_of f.rule rest).state)
 ends_exactly w f rest put (course.Holding raw reader) h = rw (read_now f rest raw h.plain reader h.read h.settled, h.more) refl
 ends_exactly w f rest put (course.Passing reader) h = rw (read_now f rest h.raw h.plain reader h.read h.settled, h.more) refl
 ends_exactly w f rest put (course.Ended outcome) h = by (body_of f.rule rest).state (rw (append-nil rest) at (h.over []))

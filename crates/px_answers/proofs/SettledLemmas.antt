@@ -5,9 +5,9 @@ use Rattle.std.proofs.lemmas.Bool.Decides.{nat_tests}
 use Rattle.std.proofs.lemmas.List.{take-append-le}
 use Rattle.std.proofs.Math.Seq.{take-append-add}
 use Rattle.px_framing.specs.Body.{Part, nothing, first_bytes}
-use Rattle.px_framing.specs.Reading.{before, cut_state, first, goes_on, is_last, reads, reads_on, state_at, step, Step}
-use Rattle.px_framing.specs.declared.places.Place.{Place}
-use Rattle.px_framing.specs.declared.places.Place.TheVariants as place
+use Rattle.px_framing.specs.Reading.{before, cut_state, first, goes_on, is_last, reads, reads_on, place_state, step, ByteStep}
+use Rattle.px_framing.specs.declared.places.ChunkPlace.{ChunkPlace}
+use Rattle.px_framing.specs.declared.places.ChunkPlace.TheVariants as place
 use Rattle.px_framing.specs.declared.places.State.{State}
 use Rattle.px_framing.specs.declared.places.State.TheVariants as state
 use Rattle.px_framing.specs.declared.stages.Stage.{Stage}
@@ -18,7 +18,7 @@ use Rattle.px_answers.specs.Finished.{Work, finished, by_end}
 use Rattle.px_answers.proofs.PassageLemmas.{stands_ended}
 
 -- behind the last place nothing is read
-last_over : (p : Place) (kept more : List ℕ) → state_at p ≢ state.More → reads p kept more ≡ nothing (state_at p)
+last_over : (p : ChunkPlace) (kept more : List ℕ) → place_state p ≢ state.More → reads p kept more ≡ nothing (place_state p)
 unfolding reads
 last_over p kept [] n = refl
 last_over place.Size kept (b ∷ bs) n = absurd (n refl)
@@ -28,15 +28,15 @@ last_over (place.Trailers m) kept (b ∷ bs) n = absurd (n refl)
 last_over place.Done kept (b ∷ bs) n = refl
 last_over place.Wrong kept (b ∷ bs) n = refl
 
-reads_over : (p : Place) (kept bytes more : List ℕ) → (reads p kept bytes).state ≢ state.More → reads p kept (bytes ++ more) ≡ reads p kept bytes
+reads_over : (p : ChunkPlace) (kept bytes more : List ℕ) → (reads p kept bytes).state ≢ state.More → reads p kept (bytes ++ more) ≡ reads p kept bytes
 unfolding reads
 reads_over p kept [] more n = last_over p kept more n
 reads_over p kept (b ∷ bs) more n =
     by (step p kept b) (reads_over (step p kept b).next (step p kept b).kept bs more) (is_last p) n
   where
-    by : (s : Step) → ((reads s.next s.kept bs).state ≢ state.More → reads s.next s.kept (bs ++ more) ≡ reads s.next s.kept bs) → (last : Bool)
-        → (cond last (nothing (state_at p)) (before s.raw s.plain 1 (reads s.next s.kept bs))).state ≢ state.More
-        → cond last (nothing (state_at p)) (before s.raw s.plain 1 (reads s.next s.kept (bs ++ more))) ≡ cond last (nothing (state_at p)) (before s.raw s.plain 1 (reads s.next s.kept bs))
+    by : (s : ByteStep) → ((reads s.next s.kept bs).state ≢ state.More → reads s.next s.kept (bs ++ more) ≡ reads s.next s.kept bs) → (last : Bool)
+        → (cond last (nothing (place_state p)) (before s.raw s.plain 1 (reads s.next s.kept bs))).state ≢ state.More
+        → cond last (nothing (place_state p)) (before s.raw s.plain 1 (reads s.next s.kept (bs ++ more))) ≡ cond last (nothing (place_state p)) (before s.raw s.plain 1 (reads s.next s.kept bs))
     by s same true n = refl
     by s same false n = ap (before s.raw s.plain 1) (same n)
 

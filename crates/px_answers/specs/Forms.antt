@@ -44,17 +44,17 @@ unfoldable pub head_with : Framed → List Field → Bool → List ℕ
 head_with f framing keep = printed_head f.first_line (f.fields ++ framing ++ connection_field keep ∷ [])
 
 -- the connection is kept behind an unfiltered body that is whole
-abbrev pub keeps : Framed → Bool
-keeps f = f.keep && has_end f
+abbrev pub keeps_behind_answer : Framed → Bool
+keeps_behind_answer f = f.keep && has_end f
 
 -- the head of an unfiltered body
 abbrev pub passed_head : Framed → List ℕ
-passed_head f = head_with f f.framing (keeps f)
+passed_head f = head_with f f.framing (keeps_behind_answer f)
 
 -- the head allows filters
-abbrev pub allows : {A : Type 0} → Option A → Bool
-allows None = false
-allows (Some names) = true
+abbrev pub allows_filters : {A : Type 0} → Option A → Bool
+allows_filters None = false
+allows_filters (Some names) = true
 
 abbrev pub is_more : State → Bool
 is_more state.More = true
@@ -76,12 +76,12 @@ is_sound state.Cut = false
 is_sound state.Misframed = false
 
 -- the head allows filters, and so many raw bytes are within the limit
-abbrev pub is_open : Framed → ℕ → Bool
-is_open f count = allows f.filters && nat_le count f.limit
+abbrev pub is_open_to_filters : Framed → ℕ → Bool
+is_open_to_filters f count = allows_filters f.filters && nat_le count f.limit
 
 -- the body may still be filtered
 abbrev pub may_filter : Framed → ℕ → State → Bool
-may_filter f count s = is_open f count && is_sound s
+may_filter f count s = is_open_to_filters f count && is_sound s
 
 abbrev pub cut_unless_whole : State → State
 cut_unless_whole state.More = state.Cut
@@ -90,6 +90,6 @@ cut_unless_whole state.Cut = state.Cut
 cut_unless_whole state.Misframed = state.Misframed
 
 -- how a body stands where no more bytes come; failed is whether their reading failed
-abbrev pub stands : BodyRule → Bool → State → State
-stands r true s = cut_unless_whole s
-stands r false s = at_end r s
+abbrev pub state_at_end : BodyRule → Bool → State → State
+state_at_end r true s = cut_unless_whole s
+state_at_end r false s = at_end r s

@@ -33,14 +33,14 @@ length_fields None = []
 length_fields (Some n) = length_field n ∷ []
 
 -- codings as received, with a comma and a space between them
-abbrev pub joined : List (List ℕ) → List ℕ
-joined [] = []
-joined (c ∷ cs) = c ++ flat_map (λ d. codes ", " ++ d) cs
+abbrev pub joined_codings : List (List ℕ) → List ℕ
+joined_codings [] = []
+joined_codings (c ∷ cs) = c ++ flat_map (λ d. codes ", " ++ d) cs
 
 -- the field that names codings; none where there are none
 abbrev pub coding_fields : List (List ℕ) → List Field
 coding_fields [] = []
-coding_fields (c ∷ cs) = record { name = codes "Transfer-Encoding"; value = joined (c ∷ cs) } ∷ []
+coding_fields (c ∷ cs) = record { name = codes "Transfer-Encoding"; value = joined_codings (c ∷ cs) } ∷ []
 
 -- what frames a body that is returned as it came: the stated length where there is none, its length, its codings, or else the close
 abbrev pub raw_framing : BodyRule → List Field → List (List ℕ) → List Field
@@ -61,11 +61,11 @@ form_by old (rule.Length n) fields = form.Raw
 form_by old rule.Chunked fields = if old && are_chunked (codings_of fields) then form.Plain else form.Raw
 form_by old rule.ToClose fields = form.Raw
 
-abbrev pub has_body : BodyRule → Bool
-has_body rule.Absent = false
-has_body (rule.Length n) = true
-has_body rule.Chunked = true
-has_body rule.ToClose = true
+abbrev pub answer_has_body : BodyRule → Bool
+answer_has_body rule.Absent = false
+answer_has_body (rule.Length n) = true
+answer_has_body rule.Chunked = true
+answer_has_body rule.ToClose = true
 
 -- no coding is applied to the content: each Content-Encoding is `identity`
 abbrev pub is_identity : Field → Bool
@@ -84,7 +84,7 @@ is_filter files name = is_some (found files (record { kind = kind.Content; name 
 -- content filter is named
 unfoldable pub is_filterable : FiltersOfFiles → ResponseHead → BodyRule → Terms → Bool
 is_filterable files head r terms =
-    has_body r
+    answer_has_body r
     && not (head.status == 206)
     && terms.text
     && list_all is_identity head.fields
@@ -99,8 +99,8 @@ abbrev pub is_old : Terms → Bool
 is_old terms = terms.minor == 0
 
 -- how the body is returned, by the head as received
-unfoldable pub plan_of : FiltersOfFiles → ResponseHead → BodyRule → Terms → BodyPlan
-plan_of files head r terms = record {
+unfoldable pub body_plan : FiltersOfFiles → ResponseHead → BodyRule → Terms → BodyPlan
+body_plan files head r terms = record {
   rule = r;
   form = form_by (is_old terms) r head.fields;
   framing = framing_of (form_by (is_old terms) r head.fields) r head.fields;
@@ -124,4 +124,4 @@ framed_so plan lines = record {
 
 -- what an answer's head settles
 abbrev pub framed_of : FiltersOfFiles → ResponseHead → BodyRule → Terms → HeaderLines → Framed
-framed_of files head r terms lines = framed_so (plan_of files head r terms) lines
+framed_of files head r terms lines = framed_so (body_plan files head r terms) lines

@@ -1,11 +1,11 @@
 // The bytes of a body, taken from its pieces.
 ghost use Rattle.std.specs.Prelude.{◌≡◌, ◌++◌, ◌+◌, length, IfOk, OnOk, List, ℕ};
 ghost use Rattle.px_framing.specs.Passing.{bytes_left};
-ghost use Rattle.px_framing.specs.Reading.{IsSettled, stage_state};
+ghost use Rattle.px_framing.specs.Reading.{IsSettled, stage_state, added};
 ghost use Rattle.px_framing.specs.declared.places.State.TheVariants as state;
 ghost use Rattle.px_framing.specs.declared.rules.BodyRule.{BodyRule};
-ghost use Rattle.px_answers.specs.Forms.{body_of, formed, stands as stands_spec};
-ghost use Rattle.px_answers.specs.Passages.{AreOwn, AreWholeChunks, Read, TakesOn, added};
+ghost use Rattle.px_answers.specs.Forms.{body_of, formed, state_at_end as stands_spec};
+ghost use Rattle.px_answers.specs.Passages.{AreOwn, AreWholeChunks, Read, TakesOn};
 
 use crate::forms::Form;
 use px_base::{Mem, Text};

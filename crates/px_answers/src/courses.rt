@@ -1,5 +1,5 @@
 // How far the body of an answer has come.
-use crate::forms::Outcome;
+use crate::forms::AnswerOutcome;
 use px_base::Text;
 use px_framing::BodyReader;
 
@@ -11,7 +11,7 @@ pub enum Course {
     /// It is put out unfiltered as it comes.
     Passing { reader: BodyReader },
     /// All that is returned was put out.
-    Ended(Outcome),
+    Ended(AnswerOutcome),
     /// Memory was wanting.
     Wanting,
 }

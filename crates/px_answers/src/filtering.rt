@@ -1,6 +1,6 @@
 // The filtered form of a whole body.
 ghost use Rattle.std.specs.Prelude.{◌≡◌, ◌++◌, IfOk, OnOk};
-ghost use Rattle.px_answers.specs.Finished.{filtered, names_of, run_named, run_one};
+ghost use Rattle.px_answers.specs.Finished.{filtered, allowed_names, run_content_filters, run_one};
 
 use crate::forms::Framed;
 use crate::heads::push_filtered_head;
@@ -27,7 +27,7 @@ fn run_one(
 }
 
 /// What the named content filters make of a text, in their order.
-#[tactic(auto, unfolding(crate::specs::Finished::run_named))]
+#[tactic(auto, unfolding(crate::specs::Finished::run_content_filters))]
 fn run_named(
     alloc: Global,
     warm: &mut WarmFilters<'_>,
@@ -35,7 +35,7 @@ fn run_named(
     names: &[Text],
     text: Text,
 ) -> Result<Text, Mem>
-    ensures made { IfOk result (λ made. made ≡ run_named (record { filters = warm.old; vars = vars.now }) names.now text) }
+    ensures made { IfOk result (λ made. made ≡ run_content_filters (record { filters = warm.old; vars = vars.now }) names.now text) }
     ensures same { warm.new ≡ warm.old }
 {
     let mut text = text;
@@ -46,7 +46,7 @@ fn run_named(
 }
 
 fn names_of(names: &Option<List<Text>>) -> &[Text]
-    ensures { result.now ≡ names_of names.now }
+    ensures { result.now ≡ allowed_names names.now }
 {
     match names {
         None => &[],

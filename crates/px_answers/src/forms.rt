@@ -27,7 +27,7 @@ pub enum Returned {
 
 /// What came of an answer.
 #[derive(Clone, Copy, Debug, PartialEq, Eq)]
-pub struct Outcome {
+pub struct AnswerOutcome {
     pub returned: Returned,
     /// Whether the connection may be kept behind it.
     pub keep: bool,

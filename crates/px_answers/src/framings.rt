@@ -2,7 +2,7 @@
 ghost use Rattle.std.specs.Prelude.{◌≡◌, ◌++◌, [], ◌∷◌, IfOk, OnOk};
 ghost use Rattle.std.specs.List.{list_all, list_any};
 ghost use Rattle.px_framing.specs.Rules.{codings_of};
-ghost use Rattle.px_answers.specs.Framings.{coding_fields, filters_if, form_by, framed_so, framing_of, has_body, is_filter, is_length, is_filterable, is_identity, is_old, is_plainly_coded, joined, length_fields, plan_of, raw_framing, stated_length};
+ghost use Rattle.px_answers.specs.Framings.{coding_fields, filters_if, form_by, framed_so, framing_of, answer_has_body, is_filter, is_length, is_filterable, is_identity, is_old, is_plainly_coded, joined_codings, length_fields, body_plan, raw_framing, stated_length};
 ghost use Rattle.px_answers.specs.Forms.{length_field};
 
 use crate::fields::{push_field, push_length};
@@ -62,7 +62,7 @@ pub struct BodyPlan {
 
 impl BodyPlan {
     /// How the body of an answer with that head is returned, which is read by that rule. `files` are the filters that there are.
-    #[tactic(auto, unfolding(crate::specs::Framings::plan_of))]
+    #[tactic(auto, unfolding(crate::specs::Framings::body_plan))]
     pub fn new(
         alloc: Global,
         files: &Filters,
@@ -70,7 +70,7 @@ impl BodyPlan {
         rule: BodyRule,
         terms: Terms,
     ) -> Result<BodyPlan, Mem>
-        ensures { IfOk result (λ plan. plan ≡ plan_of files.now head.now rule terms) }
+        ensures { IfOk result (λ plan. plan ≡ body_plan files.now head.now rule terms) }
     {
         let old = terms.minor == 0;
         let received = head.fields.as_slice();
@@ -188,7 +188,7 @@ fn coding_fields(alloc: Global, codings: &[Text]) -> Result<List<Field>, Mem>
 
 /// The codings with a comma and a space between them.
 fn joined(alloc: Global, first: &[u8], rest: &[Text]) -> Result<Text, Mem>
-    ensures { IfOk result (λ text. text ≡ joined (first.now ∷ rest.now)) }
+    ensures { IfOk result (λ text. text ≡ joined_codings (first.now ∷ rest.now)) }
 {
     let mut text = Text::from_bytes(alloc, first)?;
     for coding in rest {
@@ -277,7 +277,7 @@ fn is_filter(files: &Filters, name: &[u8]) -> bool
 }
 
 fn has_body(rule: BodyRule) -> bool
-    ensures { result ≡ has_body rule }
+    ensures { result ≡ answer_has_body rule }
 {
     match rule {
         BodyRule::Absent => false,

@@ -2,7 +2,7 @@
 // Connection. No field is copied.
 ghost use Rattle.std.specs.Prelude.{◌≡◌, ◌++◌, ◌∷◌, [], OnOk, length};
 ghost use Rattle.px_head.specs.Prints.{crlf, field_line, field_lines};
-ghost use Rattle.px_answers.specs.Forms.{connection_field, ends_by, has_end, head_with, keeps, length_field, passed_head};
+ghost use Rattle.px_answers.specs.Forms.{connection_field, ends_by, has_end, head_with, keeps_behind_answer, length_field, passed_head};
 ghost use Rattle.px_answers.specs.Heads.{head_front};
 
 use crate::forms::{Form, Framed};
@@ -30,7 +30,7 @@ fn ends_by(form: Form, rule: BodyRule) -> bool
 
 /// Whether the connection is kept behind an unfiltered body that is whole.
 pub fn keeps(framed: &Framed) -> bool
-    ensures { result ≡ keeps framed.now }
+    ensures { result ≡ keeps_behind_answer framed.now }
 {
     framed.keep && ends_by(framed.form, framed.rule)
 }

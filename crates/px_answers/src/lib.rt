@@ -15,7 +15,7 @@ mod passages;
 
 pub use asked::Asked;
 pub use courses::Course;
-pub use forms::{Form, Framed, Outcome, Returned};
+pub use forms::{AnswerOutcome, Form, Framed, Returned};
 pub use framings::{BodyPlan, HeaderLines, Terms};
 pub use laws::settled_at_end;
 pub use passages::Passage;

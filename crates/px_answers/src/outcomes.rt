@@ -1,9 +1,9 @@
 // What comes of an answer, by what its head settled and by how its body stands.
 ghost use Rattle.std.specs.Prelude.{◌≡◌};
-ghost use Rattle.px_answers.specs.Forms.{allows, is_open, is_more, is_whole};
+ghost use Rattle.px_answers.specs.Forms.{allows_filters, is_open_to_filters, is_more, is_whole};
 ghost use Rattle.px_answers.specs.Finished.{passed_as, passed_or_cut, passed_outcome};
 
-use crate::forms::{Framed, Outcome, Returned};
+use crate::forms::{AnswerOutcome, Framed, Returned};
 use crate::heads::keeps;
 use px_base::{List, Text};
 use px_framing::{BodyRule, State};
@@ -53,17 +53,17 @@ fn passed_as(rule: BodyRule, whole: bool) -> Returned
 }
 
 /// What comes of an unfiltered answer whose body is at its end.
-pub fn passed_outcome(framed: &Framed, whole: bool) -> Outcome
+pub fn passed_outcome(framed: &Framed, whole: bool) -> AnswerOutcome
     ensures { result ≡ passed_outcome framed.now whole }
 {
-    Outcome {
+    AnswerOutcome {
         returned: passed_as(framed.rule, whole),
         keep: keeps(framed) && whole,
     }
 }
 
 fn allows(names: &Option<List<Text>>) -> bool
-    ensures { result ≡ allows names.now }
+    ensures { result ≡ allows_filters names.now }
 {
     match names {
         None => false,
@@ -73,7 +73,7 @@ fn allows(names: &Option<List<Text>>) -> bool
 
 /// Whether the head allows filters, and so many raw bytes are within the limit.
 pub fn is_open(framed: &Framed, count: usize) -> bool
-    ensures { result ≡ is_open framed.now count }
+    ensures { result ≡ is_open_to_filters framed.now count }
 {
     allows(&framed.filters) && count as u64 <= framed.limit
 }

@@ -1,16 +1,16 @@
 // The machine that returns the body of an answer whose head stands whole.
 ghost use Rattle.std.specs.Prelude.{◌≡◌, ◌≢◌, ◌≤◌, ◌<◌, ◌+◌, ◌^◌, ◌++◌, List, ℕ, Bool, None, [], IfOk, OnOk, OnErr, is_some, not, length};
 ghost use Rattle.px_framing.specs.Passing.{bytes_left};
-ghost use Rattle.px_framing.specs.Reading.{IsSettled, stage_state};
+ghost use Rattle.px_framing.specs.Reading.{IsSettled, stage_state, added};
 ghost use Rattle.px_framing.specs.declared.places.State.TheVariants as state;
 ghost use Rattle.px_answers.specs.Forms.{body_of, is_more};
-ghost use Rattle.px_answers.specs.Finished.{Work, by_end, so_far};
-ghost use Rattle.px_answers.specs.Passages.{After, AreOwn, AreWholeChunks, Begins, Ends, IsRaw, IsSound, Passes, Read, added, ended_of, held_of, passing, room_of};
+ghost use Rattle.px_answers.specs.Finished.{Work, by_end, returned_so_far};
+ghost use Rattle.px_answers.specs.Passages.{CourseAfter, AreOwn, AreWholeChunks, BeginsReturned, EndsCourse, IsRaw, IsSoundCourse, PassesFront, Read, ended_of, held_of, passing, room_of};
 
 use crate::bodies::{data_of, push_formed, stands, take};
 use crate::courses::Course;
 use crate::filtering::push_filtered;
-use crate::forms::{Form, Framed, Outcome, Returned};
+use crate::forms::{AnswerOutcome, Form, Framed, Returned};
 use crate::heads::push_passed_head;
 use crate::laws::raw_again;
 use crate::outcomes::{is_more, is_open, is_whole, passed_outcome};
@@ -31,7 +31,7 @@ fn conclude(
     raw: Text,
     state: State,
     out: &mut Text,
-) -> Result<Outcome, Mem>
+) -> Result<AnswerOutcome, Mem>
     requires own { AreOwn framed.now.rule raw }
     requires whole { state ≡ State.Whole → AreWholeChunks framed.now.rule raw }
     ensures outcome { IfOk result (λ outcome. outcome ≡ (by_end (record { filters = warm.old; vars = vars.now }) framed.now raw (body_of framed.now.rule raw).plain state).outcome) }
@@ -41,7 +41,7 @@ fn conclude(
     if is_open(framed, raw.len()) && is_whole(state) {
         let plain = data_of(framed.rule, raw)?;
         push_filtered(alloc, warm, vars, framed, plain, out)?;
-        Ok(Outcome {
+        Ok(AnswerOutcome {
             returned: Returned::Filtered,
             keep: framed.keep,
         })
@@ -64,8 +64,8 @@ fn settle(
 ) -> Result<Course, Mem>
     requires raw { IsRaw framed.now.rule raw reader }
     ensures after { IfOk result (λ next. (rest plain : List ℕ) → Read framed.now.rule rest raw plain reader
-        → After (record { filters = warm.old; vars = vars.now }) framed.now rest (added out.old out.new) next) }
-    ensures sound { IfOk result (λ next. IsSound framed.now next) }
+        → CourseAfter (record { filters = warm.old; vars = vars.now }) framed.now rest (added out.old out.new) next) }
+    ensures sound { IfOk result (λ next. IsSoundCourse framed.now next) }
     ensures grows { IfOk result (λ _. out.new ≡ out.old ++ added out.old out.new) }
     ensures room { IfOk result (λ next. room_of next ≤ bytes_left reader.stage) }
     ensures more { IfOk result (λ next. ended_of next ≡ None → stage_state reader.stage ≡ State.More) }
@@ -100,9 +100,9 @@ fn passing(framed: &Framed, reader: BodyReader) -> Course
 
 /// Goes on with a body that isn't filtered.
 fn pass_on(framed: &Framed, reader: BodyReader, piece: &[u8], out: &mut Text) -> Result<Course, Mem>
-    ensures after { IfOk result (λ next. (w : Work) (rest put : List ℕ) → Passes framed.now rest put reader
-        → After w framed.now (rest ++ piece.now) (put ++ added out.old out.new) next) }
-    ensures sound { IfOk result (λ next. IsSound framed.now next) }
+    ensures after { IfOk result (λ next. (w : Work) (rest put : List ℕ) → PassesFront framed.now rest put reader
+        → CourseAfter w framed.now (rest ++ piece.now) (put ++ added out.old out.new) next) }
+    ensures sound { IfOk result (λ next. IsSoundCourse framed.now next) }
     ensures grows { IfOk result (λ _. out.new ≡ out.old ++ added out.old out.new) }
     ensures room { IfOk result (λ next. ended_of next ≡ None → room_of next + length piece.now ≡ bytes_left reader.stage) }
 {
@@ -121,13 +121,13 @@ fn advance(
     piece: &[u8],
     out: &mut Text,
 ) -> Result<Course, Mem>
-    requires sound { IsSound framed.now course }
-    ensures after { IfOk result (λ next. (rest put : List ℕ) → After (record { filters = warm.old; vars = vars.now }) framed.now rest put course
-        → After (record { filters = warm.old; vars = vars.now }) framed.now (rest ++ piece.now) (put ++ added out.old out.new) next) }
-    ensures sound { IfOk result (λ next. IsSound framed.now next) }
+    requires sound { IsSoundCourse framed.now course }
+    ensures after { IfOk result (λ next. (rest put : List ℕ) → CourseAfter (record { filters = warm.old; vars = vars.now }) framed.now rest put course
+        → CourseAfter (record { filters = warm.old; vars = vars.now }) framed.now (rest ++ piece.now) (put ++ added out.old out.new) next) }
+    ensures sound { IfOk result (λ next. IsSoundCourse framed.now next) }
     ensures grows { IfOk result (λ _. out.new ≡ out.old ++ added out.old out.new) }
     ensures room { IfOk result (λ next. ended_of next ≡ None → room_of next + length piece.now ≤ room_of course) }
-    ensures repeats { (outcome : Outcome) → course ≡ Course.Ended outcome → IfOk result (λ next. (next ≡ course) × (out.new ≡ out.old)) }
+    ensures repeats { (outcome : AnswerOutcome) → course ≡ Course.Ended outcome → IfOk result (λ next. (next ≡ course) × (out.new ≡ out.old)) }
     ensures wanting { course ≡ Course.Wanting → IfOk result (λ _. ⊥) }
     ensures same { warm.new ≡ warm.old }
 {
@@ -157,12 +157,12 @@ fn finish(
     course: Course,
     failed: bool,
     out: &mut Text,
-) -> Result<Outcome, Mem>
-    requires sound { IsSound framed.now course }
-    ensures ended { IfOk result (λ outcome. (rest put : List ℕ) → After (record { filters = warm.old; vars = vars.now }) framed.now rest put course
-        → Ends (record { filters = warm.old; vars = vars.now }) framed.now rest failed (put ++ added out.old out.new) (Course.Ended outcome)) }
+) -> Result<AnswerOutcome, Mem>
+    requires sound { IsSoundCourse framed.now course }
+    ensures ended { IfOk result (λ outcome. (rest put : List ℕ) → CourseAfter (record { filters = warm.old; vars = vars.now }) framed.now rest put course
+        → EndsCourse (record { filters = warm.old; vars = vars.now }) framed.now rest failed (put ++ added out.old out.new) (Course.Ended outcome)) }
     ensures grows { IfOk result (λ _. out.new ≡ out.old ++ added out.old out.new) }
-    ensures repeats { (outcome : Outcome) → course ≡ Course.Ended outcome → IfOk result (λ again. (again ≡ outcome) × (out.new ≡ out.old)) }
+    ensures repeats { (outcome : AnswerOutcome) → course ≡ Course.Ended outcome → IfOk result (λ again. (again ≡ outcome) × (out.new ≡ out.old)) }
     ensures wanting { course ≡ Course.Wanting → IfOk result (λ _. ⊥) }
     ensures same { warm.new ≡ warm.old }
 {
@@ -192,13 +192,13 @@ pub struct Passage {
 }
 
 impl Model for Passage {
-    ghost use Rattle.px_answers.specs.Passages.{IsSound, Passaging};
+    ghost use Rattle.px_answers.specs.Passages.{IsSoundCourse, Passaging};
 
     ghost Value = { Passaging };
 
     ghost view = { λ p. record { vars = p.vars; framed = p.framed; course = p.course } };
 
-    ghost invariant = { λ p. IsSound p.framed p.course };
+    ghost invariant = { λ p. IsSoundCourse p.framed p.course };
 }
 
 impl Passage {
@@ -210,7 +210,7 @@ impl Passage {
         framed: Framed,
         out: &mut Text,
     ) -> Result<Passage, Mem>
-        ensures after { IfOk result (λ p. After (record { filters = warm.old; vars = vars }) framed [] (added out.old out.new) p.course) }
+        ensures after { IfOk result (λ p. CourseAfter (record { filters = warm.old; vars = vars }) framed [] (added out.old out.new) p.course) }
         ensures vars { IfOk result (λ p. p.vars ≡ vars) }
         ensures framed { IfOk result (λ p. p.framed ≡ framed) }
         ensures grows { IfOk result (λ _. out.new ≡ out.old ++ added out.old out.new) }
@@ -235,16 +235,16 @@ impl Passage {
         piece: &[u8],
         out: &mut Text,
     ) -> Result<(), Mem>
-        ensures after { OnOk result ((rest put : List ℕ) → After (record { filters = warm.old; vars = self.old.vars }) self.old.framed rest put self.old.course
-            → After (record { filters = warm.old; vars = self.old.vars }) self.old.framed (rest ++ piece.now) (put ++ added out.old out.new) self.new.course) }
+        ensures after { OnOk result ((rest put : List ℕ) → CourseAfter (record { filters = warm.old; vars = self.old.vars }) self.old.framed rest put self.old.course
+            → CourseAfter (record { filters = warm.old; vars = self.old.vars }) self.old.framed (rest ++ piece.now) (put ++ added out.old out.new) self.new.course) }
         ensures vars { self.new.vars ≡ self.old.vars }
         ensures framed { self.new.framed ≡ self.old.framed }
         ensures grows { OnOk result (out.new ≡ out.old ++ added out.old out.new) }
-        ensures so_far { (w : Work) (rest put : List ℕ) → After w self.old.framed rest put self.old.course → Begins w self.old.framed rest put }
-        ensures done { OnOk result ((rest put : List ℕ) → After (record { filters = warm.old; vars = self.old.vars }) self.old.framed rest put self.old.course
+        ensures so_far { (w : Work) (rest put : List ℕ) → CourseAfter w self.old.framed rest put self.old.course → BeginsReturned w self.old.framed rest put }
+        ensures done { OnOk result ((rest put : List ℕ) → CourseAfter (record { filters = warm.old; vars = self.old.vars }) self.old.framed rest put self.old.course
             → is_some (ended_of self.new.course) ≡ not (is_more (body_of self.old.framed.rule (rest ++ piece.now)).state)) }
-        ensures lag { OnOk result ((rest put : List ℕ) → After (record { filters = warm.old; vars = self.old.vars }) self.old.framed rest put self.old.course
-            → length (so_far self.old.framed (body_of self.old.framed.rule (rest ++ piece.now))) ≤ length (put ++ added out.old out.new)) }
+        ensures lag { OnOk result ((rest put : List ℕ) → CourseAfter (record { filters = warm.old; vars = self.old.vars }) self.old.framed rest put self.old.course
+            → length (returned_so_far self.old.framed (body_of self.old.framed.rule (rest ++ piece.now))) ≤ length (put ++ added out.old out.new)) }
         ensures repeats { ended_of self.old.course ≢ None → OnOk result ((self.new ≡ self.old) × (out.new ≡ out.old)) }
         ensures room { OnOk result (ended_of self.new.course ≡ None → room_of self.new.course + length piece.now ≤ room_of self.old.course) }
         ensures wanting { OnErr result (self.new.course ≡ Course.Wanting) }
@@ -271,8 +271,8 @@ impl Passage {
         failed: bool,
         out: &mut Text,
     ) -> Result<(), Mem>
-        ensures ended { OnOk result ((rest put : List ℕ) → After (record { filters = warm.old; vars = self.old.vars }) self.old.framed rest put self.old.course
-            → Ends (record { filters = warm.old; vars = self.old.vars }) self.old.framed rest failed (put ++ added out.old out.new) self.new.course) }
+        ensures ended { OnOk result ((rest put : List ℕ) → CourseAfter (record { filters = warm.old; vars = self.old.vars }) self.old.framed rest put self.old.course
+            → EndsCourse (record { filters = warm.old; vars = self.old.vars }) self.old.framed rest failed (put ++ added out.old out.new) self.new.course) }
         ensures vars { self.new.vars ≡ self.old.vars }
         ensures framed { self.new.framed ≡ self.old.framed }
         ensures grows { OnOk result (out.new ≡ out.old ++ added out.old out.new) }
@@ -296,7 +296,7 @@ impl Passage {
     }
 
     /// What came of the answer, once all that is returned of it was put out.
-    pub fn ended(&self) -> Option<Outcome>
+    pub fn ended(&self) -> Option<AnswerOutcome>
         ensures { result ≡ ended_of self.now.course }
     {
         match &self.course {

@@ -2,7 +2,7 @@
 use Rattle.std.proofs.Common.{◌≡◌, ℕ, ◌+◌, ◌<◌, Bool, true, false, cond, List, [], ◌∷◌, ◌++◌, length, drop, map, Option, Some, None, refl, sym, ap, ◌∙◌, add-one, drop-cons}
 use Rattle.std.specs.Str.{bytes_eq}
 use Rattle.px_base.specs.Contents.{Contents, after_turn}
-use Rattle.px_base.specs.Folders.{holds, state_at, states_behind}
+use Rattle.px_base.specs.Folders.{holds, files_at, states_behind}
 
 -- the first of two that is there
 abbrev pub or_else : Option (List ℕ) → Option (List ℕ) → Option (List ℕ)
@@ -21,11 +21,11 @@ holds-append (f ∷ xs) ys name = ap (cond (bytes_eq f.0 name) (Some f.1)) (hold
 pub ruleset folder_rules = (holds-append)
 
 -- the contents to come, where there are some
-states_behind-next : (states : List (List (List ℕ × List ℕ))) (i : ℕ) → i + 1 < length states → states_behind states i ≡ holds (state_at states (i + 1)) ∷ states_behind states (i + 1)
+states_behind-next : (states : List (List (List ℕ × List ℕ))) (i : ℕ) → i + 1 < length states → states_behind states i ≡ holds (files_at states (i + 1)) ∷ states_behind states (i + 1)
 states_behind-next states i l = ap (map holds) (rw (← add-one (i + 1)) at (drop-cons states (i + 1) [] l))
 
 -- a turn that goes to the next state
-pub turned_to_next : (states : List (List (List ℕ × List ℕ))) (i : ℕ) (now : Contents) → i + 1 < length states → (name : List ℕ) → holds (state_at states (i + 1)) name ≡ after_turn now (states_behind states i) name
+pub turned_to_next : (states : List (List (List ℕ × List ℕ))) (i : ℕ) (now : Contents) → i + 1 < length states → (name : List ℕ) → holds (files_at states (i + 1)) name ≡ after_turn now (states_behind states i) name
 turned_to_next states i now l name = ap (λ cs. after_turn now cs name) (sym (states_behind-next states i l))
 
 pub later_after_next : (states : List (List (List ℕ × List ℕ))) (i : ℕ) → i + 1 < length states → states_behind states (i + 1) ≡ drop 1 (states_behind states i)

@@ -16,9 +16,9 @@ abbrev pub server : List ℕ → List ℕ → Option Server
 server host digits = option_map (λ p. record { host = host; port = p }) (port digits)
 
 -- the first byte is that one
-abbrev pub begins_with : ℕ → List ℕ → Bool
-begins_with b [] = false
-begins_with b (c ∷ cs) = c == b
+abbrev pub begins_with_byte : ℕ → List ℕ → Bool
+begins_with_byte b [] = false
+begins_with_byte b (c ∷ cs) = c == b
 
 -- a host before the first colon, by its place, and the port behind it
 abbrev pub unbracketed : List ℕ → Option ℕ → Option Server
@@ -26,15 +26,15 @@ unbracketed bytes None = None
 unbracketed bytes (Some at) = server (take at bytes) (drop (at + 1) bytes)
 
 -- a host before the first closing bracket, by its place; behind it a colon and the port
-abbrev pub bracketed : List ℕ → Option ℕ → Option Server
-bracketed bytes None = None
-bracketed bytes (Some at) = if begins_with (byte ":") (drop (at + 1) bytes) then server (take at bytes) (drop 1 (drop (at + 1) bytes)) else None
+abbrev pub bracketed_server : List ℕ → Option ℕ → Option Server
+bracketed_server bytes None = None
+bracketed_server bytes (Some at) = if begins_with_byte (byte ":") (drop (at + 1) bytes) then server (take at bytes) (drop 1 (drop (at + 1) bytes)) else None
 
 -- the server that those bytes name, if they name one
 abbrev pub server_in : List ℕ → Option Server
 server_in bytes =
-    if begins_with (byte "[") bytes
-    then bracketed (drop 1 bytes) (position (λ b. b == byte "]") (drop 1 bytes))
+    if begins_with_byte (byte "[") bytes
+    then bracketed_server (drop 1 bytes) (position (λ b. b == byte "]") (drop 1 bytes))
     else unbracketed bytes (position (λ b. b == byte ":") bytes)
 
 -- the byte behind the server

@@ -9,8 +9,8 @@ holds [] name = None
 holds (f ∷ fs) name = if bytes_eq f.0 name then Some f.1 else holds fs name
 
 -- the files of the state at a place; there are none where there is no state
-abbrev pub state_at : List (List (List ℕ × List ℕ)) → ℕ → List (List ℕ × List ℕ)
-state_at states at = slice_index_or states at []
+abbrev pub files_at : List (List (List ℕ × List ℕ)) → ℕ → List (List ℕ × List ℕ)
+files_at states at = slice_index_or states at []
 
 -- the contents of the states behind a place
 abbrev pub states_behind : List (List (List ℕ × List ℕ)) → ℕ → List Contents

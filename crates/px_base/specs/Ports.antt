@@ -32,17 +32,17 @@ unfoldable pub item : List ℕ → Option PortRange
 item bs = item_at bs (position is_dash bs)
 
 -- an item's ranges before those of the rest; an empty item allows nothing
-abbrev pub with_item : List ℕ → Option (List PortRange) → Option (List PortRange)
-with_item bs rest = if length bs == 0 then rest else option_and_then (λ r. option_map (λ rs. r ∷ rs) rest) (item bs)
+abbrev pub with_port_item : List ℕ → Option (List PortRange) → Option (List PortRange)
+with_port_item bs rest = if length bs == 0 then rest else option_and_then (λ r. option_map (λ rs. r ∷ rs) rest) (item bs)
 
 -- the ranges of items, where each has that form
-abbrev pub ranges_of : List (List ℕ) → Option (List PortRange)
-ranges_of [] = Some []
-ranges_of (i ∷ items) = with_item (trimmed i) (ranges_of items)
+abbrev pub port_ranges : List (List ℕ) → Option (List PortRange)
+port_ranges [] = Some []
+port_ranges (i ∷ items) = with_port_item (trimmed i) (port_ranges items)
 
 -- what a text stands for as a port list, if it is one; 44 is the comma
 unfoldable pub port_list : List ℕ → Option (List PortRange)
-port_list text = ranges_of (slice_split (λ b. b == 44) text)
+port_list text = port_ranges (slice_split (λ b. b == 44) text)
 
 -- the port is in one of the ranges
 abbrev pub allows : List PortRange → ℕ → Bool

@@ -1,9 +1,9 @@
 // What a dialer in memory keeps of its dials.
 ghost use Rattle.std.specs.Prelude.{◌≡◌, ◌<◌, ◌≤◌, ℕ, length, true, suc, take, slice_set, slice_index_or, vec_capacity, if◌then◌else◌};
 ghost use Rattle.std.specs.List.{insert};
-ghost use Rattle.px_base.specs.Entries.{merged, opens, finished_in, more_finished, ended, host_of, port_of, note_of};
+ghost use Rattle.px_base.specs.Entries.{merged, opens_at, finished_in, more_finished, ended, entry_host, entry_port, entry_note};
 ghost use Rattle.px_base.specs.Dials.{is_open, finish};
-ghost use Rattle.px_base.specs.declared.entries.Entry.{Entry};
+ghost use Rattle.px_base.specs.declared.entries.DialEntry.{DialEntry};
 
 use crate::{LinkNote, Text};
 use std::alloc::Global;
@@ -11,7 +11,7 @@ use std::mem;
 
 /// What is kept of a dial. The host, the port and the bytes of a finished link stand in its note.
 #[derive(Drop)]
-pub enum Entry {
+pub enum DialEntry {
     NoName {
         host: Text,
         port: u16,
@@ -35,14 +35,14 @@ pub enum Entry {
 /// The entry of a link that is hung up, with its host and port.
 #[derive(Drop)]
 struct End {
-    entry: Entry,
+    entry: DialEntry,
     host: Text,
     port: u16,
 }
 
 /// What went over a link that is hung up.
 #[derive(Drop)]
-pub struct Passage {
+pub struct LinkPassage {
     pub heard: Text,
     pub sent: Text,
     pub read_failed: bool,
@@ -52,10 +52,10 @@ pub struct Passage {
 /// Hangs up the open link with that number, and puts its note among those of the finished links.
 pub fn end_link(
     alloc: Global,
-    entries: &mut Vec<Entry>,
+    entries: &mut Vec<DialEntry>,
     links: &mut Vec<LinkNote>,
     number: usize,
-    passage: Passage,
+    passage: LinkPassage,
 )
     requires is_open { is_open number (merged 0 entries.old.items links.old.items) ≡ true }
     requires notes { finished_in entries.old.items ≡ length links.old.items }
@@ -71,20 +71,20 @@ pub fn end_link(
 /// Ends the open link at a place, and inserts its note behind those of the links that were dialled before.
 fn note_end(
     alloc: Global,
-    entries: &mut Vec<Entry>,
+    entries: &mut Vec<DialEntry>,
     links: &mut Vec<LinkNote>,
     at: usize,
-    passage: Passage,
+    passage: LinkPassage,
 )
-    requires is_open { opens at entries.old.items ≡ true }
+    requires is_open { opens_at at entries.old.items ≡ true }
     requires notes { finished_in entries.old.items ≡ length links.old.items }
     requires room { length entries.old.items ≤ vec_capacity links.old }
-    ensures entries { (e : Entry) → entries.new.items ≡ slice_set entries.old.items at (ended passage.read_failed passage.write_failed (slice_index_or entries.old.items at e)) }
-    ensures links { (e : Entry) → links.new.items ≡ insert links.old.items (finished_in (take at entries.old.items)) (note_of passage.heard passage.sent (slice_index_or entries.old.items at e)) }
+    ensures entries { (e : DialEntry) → entries.new.items ≡ slice_set entries.old.items at (ended passage.read_failed passage.write_failed (slice_index_or entries.old.items at e)) }
+    ensures links { (e : DialEntry) → links.new.items ≡ insert links.old.items (finished_in (take at entries.old.items)) (entry_note passage.heard passage.sent (slice_index_or entries.old.items at e)) }
     ensures room { vec_capacity links.old ≤ vec_capacity links.new }
 {
     let before = finished_before(entries, at);
-    let Passage {
+    let LinkPassage {
         heard,
         sent,
         read_failed,
@@ -106,7 +106,7 @@ fn note_end(
 }
 
 /// How many of the entries before a place are finished links.
-fn finished_before(entries: &[Entry], at: usize) -> usize
+fn finished_before(entries: &[DialEntry], at: usize) -> usize
     requires { at ≤ length entries.now }
     ensures { result ≡ finished_in (take at entries.now) }
 {
@@ -120,32 +120,32 @@ fn finished_before(entries: &[Entry], at: usize) -> usize
     count
 }
 
-fn is_finished(entry: &Entry) -> bool
+fn is_finished(entry: &DialEntry) -> bool
     ensures { (n : ℕ) → more_finished entry.now n ≡ (if result then suc n else n) }
 {
     match entry {
-        Entry::NoName { .. } => false,
-        Entry::NotReached { .. } => false,
-        Entry::Open { .. } => false,
-        Entry::Finished { .. } => true,
+        DialEntry::NoName { .. } => false,
+        DialEntry::NotReached { .. } => false,
+        DialEntry::Open { .. } => false,
+        DialEntry::Finished { .. } => true,
     }
 }
 
 /// Ends the link at a place, and gives its host and port.
 fn end_at(
     alloc: Global,
-    entries: &mut Vec<Entry>,
+    entries: &mut Vec<DialEntry>,
     at: usize,
     read_failed: bool,
     write_failed: bool,
 ) -> (Text, u16)
     requires { at < length entries.old.items }
-    ensures entries { (e : Entry) → entries.new.items ≡ slice_set entries.old.items at (ended read_failed write_failed (slice_index_or entries.old.items at e)) }
-    ensures host { (e : Entry) → result.0 ≡ host_of (slice_index_or entries.old.items at e) }
-    ensures port { (e : Entry) → result.1 ≡ port_of (slice_index_or entries.old.items at e) }
+    ensures entries { (e : DialEntry) → entries.new.items ≡ slice_set entries.old.items at (ended read_failed write_failed (slice_index_or entries.old.items at e)) }
+    ensures host { (e : DialEntry) → result.0 ≡ entry_host (slice_index_or entries.old.items at e) }
+    ensures port { (e : DialEntry) → result.1 ≡ entry_port (slice_index_or entries.old.items at e) }
 {
     let slot = &mut entries[at];
-    let placeholder = Entry::Finished {
+    let placeholder = DialEntry::Finished {
         offered: Text::new(alloc),
         read_failed,
         write_failed,
@@ -156,18 +156,18 @@ fn end_at(
     (host, port)
 }
 
-fn end_entry(alloc: Global, entry: Entry, read_failed: bool, write_failed: bool) -> End
+fn end_entry(alloc: Global, entry: DialEntry, read_failed: bool, write_failed: bool) -> End
     ensures entry { result.entry ≡ ended read_failed write_failed entry }
-    ensures host { result.host ≡ host_of entry }
-    ensures port { result.port ≡ port_of entry }
+    ensures host { result.host ≡ entry_host entry }
+    ensures port { result.port ≡ entry_port entry }
 {
     match entry {
-        Entry::Open {
+        DialEntry::Open {
             host,
             port,
             offered,
         } => End {
-            entry: Entry::Finished {
+            entry: DialEntry::Finished {
                 offered,
                 read_failed,
                 write_failed,

@@ -2,7 +2,7 @@
 ghost use Rattle.std.specs.Prelude.{◌≡◌, ◌++◌, ◌≤◌, ◌==◌, ℕ, List, length, true, IfOk, Some, None, option_map, option_copied, slice_get, unwrap_or, [], ◌∷◌};
 ghost use Rattle.std.specs.Str.{bytes_eq};
 ghost use Rattle.px_base.specs.Contents.{content_of, Unchanged};
-ghost use Rattle.px_base.specs.Folders.{holds, state_at, states_behind};
+ghost use Rattle.px_base.specs.Folders.{holds, files_at, states_behind};
 
 use crate::{Content, Files, FilesFault, List, Mem, Text};
 use std::alloc::Global;
@@ -31,7 +31,7 @@ impl MemFiles {
         fails: &[u64],
     ) -> Result<MemFiles, Mem>
         ensures tells { IfOk result (λ files. ((⟦<MemFiles as Files>⟧.state files).tells ≡ true) × ((⟦<MemFiles as Files>⟧.state files).tells_later ≡ true)) }
-        ensures contents { IfOk result (λ files. Unchanged (holds (state_at states 0)) (⟦<MemFiles as Files>⟧.state files).contents) }
+        ensures contents { IfOk result (λ files. Unchanged (holds (files_at states 0)) (⟦<MemFiles as Files>⟧.state files).contents) }
         ensures later { IfOk result (λ files. (⟦<MemFiles as Files>⟧.state files).later ≡ states_behind states 0) }
         ensures no_puts { IfOk result (λ files. (⟦<MemFiles as Files>⟧.state files).puts ≡ 0) }
         ensures no_faults { IfOk result (λ files. ((⟦<MemFiles as Files>⟧.state files).read_faults ≡ 0) × ((⟦<MemFiles as Files>⟧.state files).put_faults ≡ 0)) }
@@ -53,7 +53,7 @@ impl MemFiles {
     /// What a name holds now.
     #[tactic(auto, using(crate::proofs::FolderLemmas::folder_rules))]
     fn find(&self, name: &[u8]) -> Option<&Text>
-        ensures { option_copied result ≡ holds (self.now.puts.items ++ state_at self.now.states self.now.at) name.now }
+        ensures { option_copied result ≡ holds (self.now.puts.items ++ files_at self.now.states self.now.at) name.now }
     {
         match lookup(self.puts.as_slice(), name) {
             Some(bytes) => Some(bytes),
@@ -64,7 +64,7 @@ impl MemFiles {
 
 /// The files of the state at a place.
 fn state(states: &[List<(Text, Text)>], at: usize) -> &[(Text, Text)]
-    ensures { result.now ≡ state_at states.now at }
+    ensures { result.now ≡ files_at states.now at }
 {
     if at < states.len() {
         states[at].as_slice()
@@ -112,7 +112,7 @@ fn new_file(alloc: Global, name: &[u8], bytes: &[u8]) -> Result<(Text, Text), Me
 impl Files for MemFiles {
     ghost state = { λ m. record {
       tells = true;
-      contents = holds (m.puts.items ++ state_at m.states m.at);
+      contents = holds (m.puts.items ++ files_at m.states m.at);
       tells_later = true;
       later = states_behind m.states m.at;
       read_faults = m.read_faults;

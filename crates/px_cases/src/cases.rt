@@ -5,9 +5,9 @@ mod setups;
 mod wants;
 
 use crate::cases::fields::{Case, Key, read_cases};
-use crate::cases::runs::{Cut, Plan, Seen, configs, run_command, run_session};
+use crate::cases::runs::{RunCut, RunPlan, Seen, configs, run_command, run_session};
 use crate::cases::setups::{Device, Failing, Origin, Setup};
-use crate::cases::wants::{Difference, Wants};
+use crate::cases::wants::{CaseDifference, Wants};
 use px_config::Config;
 use px_leaf_rows::{Fault, Misread, Report};
 use std::alloc::Global;
@@ -39,7 +39,7 @@ struct Trial<'t, 's, R> {
 }
 
 impl<R: Threads + Sync> Trial<'_, '_, R> {
-    fn run(&self, plan: &Plan) -> Result<Seen, Fault> {
+    fn run(&self, plan: &RunPlan) -> Result<Seen, Fault> {
         match &self.configs {
             Some(configs) => run_session(self.rt, self.setup, configs.as_slice(), plan),
             None => run_command(self.rt, self.setup, plan),
@@ -58,10 +58,10 @@ impl<R: Threads + Sync> Trial<'_, '_, R> {
     fn tell(
         &self,
         report: &mut Report,
-        difference: Option<Difference<'_>>,
+        difference: Option<CaseDifference<'_>>,
         run: &str,
     ) -> Result<bool, Fault> {
-        let Some(Difference { line, want, got }) = difference else {
+        let Some(CaseDifference { line, want, got }) = difference else {
             return Ok(true);
         };
         let same = want.iter().zip(got).take_while(|(w, g)| w == g).count();
@@ -82,8 +82,8 @@ impl<R: Threads + Sync> Trial<'_, '_, R> {
     }
 
     /// Whether a run meets the case.
-    fn hold(&self, report: &mut Report, cut: Cut, run: &str) -> Result<bool, Fault> {
-        let seen = self.run(&Plan { cut, failing: None })?;
+    fn hold(&self, report: &mut Report, cut: RunCut, run: &str) -> Result<bool, Fault> {
+        let seen = self.run(&RunPlan { cut, failing: None })?;
         self.tell(report, self.wants.difference(&seen), run)
     }
 
@@ -98,11 +98,11 @@ impl<R: Threads + Sync> Trial<'_, '_, R> {
         let places = if self.at_each_place { longest } else { 0 };
         for place in 1..places {
             let run = format!(in self.alloc; ", the streams cut at {place}")?;
-            if !self.hold(report, Cut::At(place), run.as_str())? {
+            if !self.hold(report, RunCut::At(place), run.as_str())? {
                 return Ok(false);
             }
         }
-        self.hold(report, Cut::Bytes, ", the streams cut into single bytes")
+        self.hold(report, RunCut::Bytes, ", the streams cut into single bytes")
     }
 
     /// Lets each call of a device fail in turn, of a link those of one dial's, until none fails. In how many runs one failed, if each is
@@ -114,8 +114,8 @@ impl<R: Threads + Sync> Trial<'_, '_, R> {
         dial: usize,
     ) -> Result<Option<u64>, Fault> {
         for call in 0..CALL_LIMIT {
-            let seen = self.run(&Plan {
-                cut: Cut::Given,
+            let seen = self.run(&RunPlan {
+                cut: RunCut::Given,
                 failing: Some(Failing { device, call, dial }),
             })?;
             if self.wants.difference(&seen).is_none() {
@@ -160,7 +160,7 @@ impl<R: Threads + Sync> Trial<'_, '_, R> {
 
     /// Whether all runs of the case are as it wants.
     fn hold_all(&self, report: &mut Report) -> Result<bool, Fault> {
-        if !self.hold(report, Cut::Given, "")? {
+        if !self.hold(report, RunCut::Given, "")? {
             return Ok(false);
         }
         if self.setup.each_cut && !self.hold_cuts(report)? {

@@ -8,8 +8,8 @@ use Rattle.std.proofs.lemmas.Grind.{common_steps}
 use Rattle.px_base.specs.Numbers.{decimal, all_digits, with_digits, is_digit}
 use Rattle.px_base.specs.declared.dials.Answer.{Answer}
 use Rattle.px_base.specs.declared.dials.Answer.TheVariants as answer
-use Rattle.px_commands.specs.Origins.{plain_answer, BeginsEntry, BeginsWith, BeginsWithWord, IsOrigin}
-use Rattle.px_commands.specs.Entries.{is_line_feed, counted, entry_at, first_entry}
+use Rattle.px_commands.specs.Origins.{plain_answer, BeginsEntry, BeginsCounted, BeginsWithWord, IsOrigin}
+use Rattle.px_commands.specs.Entries.{is_line_feed, counted_front, entry_at, first_counted_entry}
 
 -- what two equal options hold
 held : {A : Type 0} (x y : A) → Some x ≡ Some y → x ≡ y
@@ -47,7 +47,7 @@ drop-length : (xs ys : List ℕ) → drop (length xs) (xs ++ ys) ≡ ys
 drop-length xs ys = grind (arith, common_steps)
 
 -- an entry is the first entry
-counted-front : (bytes rest : List ℕ) → counted (bytes ++ rest) (Some (length bytes)) ≡ Some (bytes, rest)
+counted-front : (bytes rest : List ℕ) → counted_front (bytes ++ rest) (Some (length bytes)) ≡ Some (bytes, rest)
 counted-front bytes rest =
     let fits : leb (length bytes) (length (bytes ++ rest)) ≡ true = le-leb _ _ (grind (arith, common_steps)) in
     rw (fits, take-front bytes rest, drop-length bytes rest) refl
@@ -63,14 +63,14 @@ position-front ds rest h =
     let inside : ltb (length ds) (length (ds ++ 10 ∷ rest)) ≡ true = lt-ltb _ _ (grind (arith, common_steps)) in
     rw (at, inside) refl
 
-pub begins-first : (text bytes rest : List ℕ) → BeginsWith text bytes rest → first_entry text ≡ Some (bytes, rest)
-unfolding first_entry
+pub begins-first : (text bytes rest : List ℕ) → BeginsCounted text bytes rest → first_counted_entry text ≡ Some (bytes, rest)
+unfolding first_counted_entry
 begins-first text bytes rest h =
     let at = position-front h.digits (bytes ++ rest) (decimal-digits 99999999 (length bytes) h.digits h.counts) in
     rw (h.parts, at) (entry-front h.digits bytes rest h.short h.counts)
 
 -- the first entry is an entry
-counted-parts : (behind bytes rest : List ℕ) (n : Option ℕ) → counted behind n ≡ Some (bytes, rest) → (n ≡ Some (length bytes)) × (behind ≡ bytes ++ rest)
+counted-parts : (behind bytes rest : List ℕ) (n : Option ℕ) → counted_front behind n ≡ Some (bytes, rest) → (n ≡ Some (length bytes)) × (behind ≡ bytes ++ rest)
 counted-parts behind bytes rest None e = (cc)
 counted-parts behind bytes rest (Some n) e = by (leb n (length behind)) refl e
   where
@@ -83,11 +83,11 @@ counted-parts behind bytes rest (Some n) e = by (leb n (length behind)) refl e
         let d : drop n behind ≡ rest = ap (λ (p : List ℕ × List ℕ). p.1) pair in
         (ap Some (sym (length-take-le n behind l) ∙ ap length t), sym (take-append-drop n behind) ∙ ap (λ xs. xs ++ drop n behind) t ∙ ap (λ xs. bytes ++ xs) d)
 
-entry-begins : (text bytes rest : List ℕ) (at : Option ℕ) → ((i : ℕ) → at ≡ Some i → text ≡ take i text ++ 10 ∷ drop (i + 1) text) → ((i : ℕ) → at ≡ Some i → i < length text) → entry_at text at ≡ Some (bytes, rest) → BeginsWith text bytes rest
+entry-begins : (text bytes rest : List ℕ) (at : Option ℕ) → ((i : ℕ) → at ≡ Some i → text ≡ take i text ++ 10 ∷ drop (i + 1) text) → ((i : ℕ) → at ≡ Some i → i < length text) → entry_at text at ≡ Some (bytes, rest) → BeginsCounted text bytes rest
 entry-begins text bytes rest None cut within e = (cc)
 entry-begins text bytes rest (Some i) cut within e = by (leb i 8) refl e
   where
-    by : (b : Bool) → leb i 8 ≡ b → cond b (counted (drop (i + 1) text) (decimal 99999999 (take i text))) None ≡ Some (bytes, rest) → BeginsWith text bytes rest
+    by : (b : Bool) → leb i 8 ≡ b → cond b (counted_front (drop (i + 1) text) (decimal 99999999 (take i text))) None ≡ Some (bytes, rest) → BeginsCounted text bytes rest
     by false h k = (cc)
     by true h k =
         let p = counted-parts (drop (i + 1) text) bytes rest (decimal 99999999 (take i text)) k in
@@ -111,8 +111,8 @@ cut_at_lf text i e = by (ltb (position_or_len is_line_feed text) (length text)) 
         let parts : text ≡ take (position_or_len is_line_feed text) text ++ 10 ∷ drop (position_or_len is_line_feed text + 1) text = split_at_first is_line_feed text 10 l ∙ ap (λ b. take (position_or_len is_line_feed text) text ++ b ∷ drop (position_or_len is_line_feed text + 1) text) here in
         (subst (λ (j : ℕ). j < length text) same l, subst (λ (j : ℕ). text ≡ take j text ++ 10 ∷ drop (j + 1) text) same parts)
 
-pub first-begins : (text bytes rest : List ℕ) → first_entry text ≡ Some (bytes, rest) → BeginsWith text bytes rest
-unfolding first_entry
+pub first-begins : (text bytes rest : List ℕ) → first_counted_entry text ≡ Some (bytes, rest) → BeginsCounted text bytes rest
+unfolding first_counted_entry
 first-begins text bytes rest e = entry-begins text bytes rest (position is_line_feed text) (λ i k. (cut_at_lf text i k).1) (λ i k. (cut_at_lf text i k).0) e
 
 -- ---- word lines
@@ -143,7 +143,7 @@ no_two text rest other h k =
     omega (arith, a, b)
 
 -- an entry of bytes begins with a digit
-digit_first : (text bytes rest : List ℕ) → BeginsWith text bytes rest → is_digit (get_or text 0 0) ≡ true
+digit_first : (text bytes rest : List ℕ) → BeginsCounted text bytes rest → is_digit (get_or text 0 0) ≡ true
 unfolding decimal
 digit_first text bytes rest h = by h.digits h.counts h.parts
   where
@@ -151,7 +151,7 @@ digit_first text bytes rest h = by h.digits h.counts h.parts
     by [] counts parts = (cc)
     by (d ∷ ds) counts parts = rw parts (and_parts (is_digit d) (all_digits ds) (decimal-digits 99999999 (length bytes) (d ∷ ds) counts)).0
 
-no_word : (word text bytes rest other : List ℕ) → 0 < length word → get_or word 0 0 ≡ 110 → BeginsWith text bytes rest → BeginsWithWord word text other → ⊥
+no_word : (word text bytes rest other : List ℕ) → 0 < length word → get_or word 0 0 ≡ 110 → BeginsCounted text bytes rest → BeginsWithWord word text other → ⊥
 no_word word text bytes rest other some n h k =
     let first : get_or text 0 0 ≡ 110 = word_at word text other 0 some k ∙ n in
     no_digit (rw first at (digit_first text bytes rest h))
@@ -194,11 +194,11 @@ one_entry text rest other (answer.Link bytes cuts rs ws) (answer.Link bytes2 cut
     (h.0 ∙ ap (λ (p : List ℕ × List ℕ). plain_answer p.0) pair ∙ sym k.0, ap (λ (p : List ℕ × List ℕ). p.1) pair)
 
 -- an entry of bytes that was read
-pub bytes_entry : (text bytes rest : List ℕ) → first_entry text ≡ Some (bytes, rest) → BeginsEntry text (plain_answer bytes) rest
+pub bytes_entry : (text bytes rest : List ℕ) → first_counted_entry text ≡ Some (bytes, rest) → BeginsEntry text (plain_answer bytes) rest
 bytes_entry text bytes rest e = (refl, first-begins text bytes rest e)
 
 -- no entry was read
-pub no_entry : (text : List ℕ) → ((rest : List ℕ) → BeginsWithWord (codes "no-name") text rest → ⊥) → ((rest : List ℕ) → BeginsWithWord (codes "not-reached") text rest → ⊥) → first_entry text ≡ None
+pub no_entry : (text : List ℕ) → ((rest : List ℕ) → BeginsWithWord (codes "no-name") text rest → ⊥) → ((rest : List ℕ) → BeginsWithWord (codes "not-reached") text rest → ⊥) → first_counted_entry text ≡ None
     → (a : Answer) (rest : List ℕ) → BeginsEntry text a rest → ⊥
 no_entry text name reach none answer.NoName rest h = name rest h
 no_entry text name reach none answer.NotReached rest h = reach rest h

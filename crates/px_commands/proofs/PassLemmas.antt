@@ -17,12 +17,12 @@ use Rattle.px_serve.specs.Ends.{ReadEndCause, WriteEndCause}
 use Rattle.px_serve.specs.Histories.{IsFixed, Looks}
 use Rattle.px_serve.specs.Sessions.{Caller}
 use Rattle.px_link_pool.specs.Histories.{Views}
-use Rattle.px_commands.specs.Clients.{ServesClient, SharesLinks, TakesNewLinks, caller_of, in_memory, through_server}
+use Rattle.px_commands.specs.Clients.{ServesClient, SharesLinks, TakesNewLinks, caller_of, in_memory, server_views}
 use Rattle.px_commands.specs.Sents.{sent_text}
 use Rattle.px_commands.specs.declared.statuses.Status.{Status}
-use Rattle.px_socks.specs.Dialers.{Kept, outer_state}
+use Rattle.px_socks.specs.Dialers.{KeptDialer, outer_state}
 use Rattle.px_socks.specs.Handshakes.{Handshakes}
-use Rattle.px_commands.specs.Passes.{Outside, IsSame, HasAnswers, PutsAfter, HasServed, IsServed, IsServedShared, IsServedSharedThrough, IsServedThrough, Passes, RunsLoaded, ServesApart, ServesInput, ServesShared, begun_socks}
+use Rattle.px_commands.specs.Passes.{Outside, IsOutsideSame, HasAnswers, PutsAfter, HasServed, IsSessionServed, IsServedShared, IsServedSharedThrough, IsServedThrough, PassesSession, RunsLoaded, ServesApart, ServesInput, ServesShared, begun_socks}
 
 -- files that were only read
 pub record OnlyRead (old new : FilesState) : Type 0 where
@@ -61,7 +61,7 @@ pub passes_by : (config : Config) (origin sent : List ℕ) (tags : List (List �
     → OnlyRead f f1 → (IsTrue f.tells → HasAnswers (f.contents origin) answers)
     → HasServed config tags answers i i' o o' t t' e made
     → ((text : List ℕ) → ((x : List ℕ) → made ≡ Some x → x ≡ text) → PutsAfter f1 f2 sent text e s)
-    → Passes config origin sent tags (record { files = f; input = i; out = o; errors = errors; clock = t }) (record { files = f2; input = i'; out = o'; errors = errors; clock = t' }) s
+    → PassesSession config origin sent tags (record { files = f; input = i; out = o; errors = errors; clock = t }) (record { files = f2; input = i'; out = o'; errors = errors; clock = t' }) s
 passes_by config origin sent tags f f1 f2 i i' o o' errors t t' answers e made s read has h puts = record {
   answers = answers;
   has_answers = has;
@@ -74,7 +74,7 @@ passes_by config origin sent tags f f1 f2 i i' o o' errors t t' answers e made s
 
 -- nothing was changed behind files that were only read
 same_behind : (f f1 : FilesState) (i : SourceState) (o errors : SinkState) (t : ClockState) (new : Outside) → OnlyRead f f1
-    → IsSame (record { files = f1; input = i; out = o; errors = errors; clock = t }) new → IsSame (record { files = f; input = i; out = o; errors = errors; clock = t }) new
+    → IsOutsideSame (record { files = f1; input = i; out = o; errors = errors; clock = t }) new → IsOutsideSame (record { files = f; input = i; out = o; errors = errors; clock = t }) new
 same_behind f f1 i o errors t new h same = record {
   untouched = record {
     files = λ u name. same.untouched.files (h.tells_same ∙ u) name ∙ h.unchanged u name;
@@ -159,7 +159,7 @@ has_served {tags = tags} {answers = answers} {i = i} {i' = i'} {o = o} {o' = o'}
     })
 
     apart : TakesNewLinks (caller_of tags) looks i i' o o' (fresh_dialer answers) d' t t' e → ServesApart config tags answers i i' o o' t t' e text
-    apart h = subst (λ b. MatchBool b (IsServedThrough config tags answers i i' o o' t t' e text) (IsServed config tags answers i i' o o' t t' e text)) (sym plain) (record {
+    apart h = subst (λ b. MatchBool b (IsServedThrough config tags answers i i' o o' t t' e text) (IsSessionServed config tags answers i i' o o' t t' e text)) (sym plain) (record {
       looks = looks;
       looks_after = h.looks_after;
       fixed = fixed;
@@ -178,8 +178,8 @@ has_served {tags = tags} {answers = answers} {i = i} {i' = i'} {o = o} {o' = o'}
     whole = by_sharing in_memory config.settings.sharing (caller_of tags) looks i i' o o' (fresh_dialer answers) d' t t' e shared apart over
 
 -- the same through SOCKS servers
-pub has_served_through : {tags : List (List ℕ)} {answers : List Answer} {i i' : SourceState} {o o' : SinkState} {t t' : ClockState} {e : SessionEnd} {made : Option (List ℕ)} {looks : Looks} {config : Config} {sharing : Bool} {k : Kept} (k' : Kept) {caller : Caller}
-    → ServesClient through_server sharing caller looks i i' o o' (outer_state k) (outer_state k') t t' e
+pub has_served_through : {tags : List (List ℕ)} {answers : List Answer} {i i' : SourceState} {o o' : SinkState} {t t' : ClockState} {e : SessionEnd} {made : Option (List ℕ)} {looks : Looks} {config : Config} {sharing : Bool} {k : KeptDialer} (k' : KeptDialer) {caller : Caller}
+    → ServesClient server_views sharing caller looks i i' o o' (outer_state k) (outer_state k') t t' e
     → caller ≡ caller_of tags → k ≡ begun_socks answers → sharing ≡ config.settings.sharing → IsFixed looks config
     → ReadEndCause i i' e → WriteEndCause o o' e
     → ((x : List ℕ) → made ≡ Some x → x ≡ sent_text (finished_links k'.inner.dials))
@@ -196,9 +196,9 @@ has_served_through {tags = tags} {answers = answers} {i = i} {i' = i'} {o = o} {
     text = sent_text (finished_links k'.inner.dials)
 
     hands : Handshakes (outer_state k').dials k'.inner.dials
-    hands = handshakes (tells ∙ ap (λ (m : Kept). m.inner.tells) begun)
+    hands = handshakes (tells ∙ ap (λ (m : KeptDialer). m.inner.tells) begun)
 
-    shared : SharesLinks through_server (caller_of tags) looks i i' o o' (outer_state (begun_socks answers)) (outer_state k') t t' e → ServesShared config tags answers i i' o o' t t' e text
+    shared : SharesLinks server_views (caller_of tags) looks i i' o o' (outer_state (begun_socks answers)) (outer_state k') t t' e → ServesShared config tags answers i i' o o' t t' e text
     shared h = subst (λ b. MatchBool b (IsServedSharedThrough config tags answers i i' o o' t t' e text) (IsServedShared config tags answers i i' o o' t t' e text)) (sym socks) (record {
       looks = looks;
       fixed = fixed;
@@ -211,7 +211,7 @@ has_served_through {tags = tags} {answers = answers} {i = i} {i' = i'} {o = o} {
     })
 
     apart : TakesNewLinks (caller_of tags) looks i i' o o' (outer_state (begun_socks answers)) (outer_state k') t t' e → ServesApart config tags answers i i' o o' t t' e text
-    apart h = subst (λ b. MatchBool b (IsServedThrough config tags answers i i' o o' t t' e text) (IsServed config tags answers i i' o o' t t' e text)) (sym socks) (record {
+    apart h = subst (λ b. MatchBool b (IsServedThrough config tags answers i i' o o' t t' e text) (IsSessionServed config tags answers i i' o o' t t' e text)) (sym socks) (record {
       looks = looks;
       looks_after = h.looks_after;
       fixed = fixed;
@@ -224,11 +224,11 @@ has_served_through {tags = tags} {answers = answers} {i = i} {i' = i'} {o = o} {
       write_cause = write;
     })
 
-    over : ServesClient through_server config.settings.sharing (caller_of tags) looks i i' o o' (outer_state (begun_socks answers)) (outer_state k') t t' e
+    over : ServesClient server_views config.settings.sharing (caller_of tags) looks i i' o o' (outer_state (begun_socks answers)) (outer_state k') t t' e
     over = rw (client, begun, by) at served
 
     whole : ServesInput config tags answers i i' o o' t t' e text
-    whole = by_sharing through_server config.settings.sharing (caller_of tags) looks i i' o o' (outer_state (begun_socks answers)) (outer_state k') t t' e shared apart over
+    whole = by_sharing server_views config.settings.sharing (caller_of tags) looks i i' o o' (outer_state (begun_socks answers)) (outer_state k') t t' e shared apart over
 
 -- the configuration loads
 pub pass_loaded : (config origin sent : List ℕ) (tags : List (List ℕ)) (old new : Outside) (loaded : Config) (s : Status)

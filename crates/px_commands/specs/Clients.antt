@@ -8,7 +8,7 @@ use Rattle.px_base.specs.Sources.{SourceState}
 use Rattle.px_base.specs.Sinks.{SinkState}
 use Rattle.px_base.specs.Moments.{ClockState}
 use Rattle.px_base.specs.Dials.{DialerState}
-use Rattle.px_socks.specs.Ends.{InnerSource, InnerSink, outer_source, outer_sink}
+use Rattle.px_socks.specs.Ends.{InnerSource, InnerSink, socks_source, socks_sink}
 use Rattle.px_link_pool.specs.Histories.{Views}
 use Rattle.px_exchange.specs.declared.notes.ExchangeNote.{ExchangeNote}
 use Rattle.px_serve.specs.declared.ends.SessionEnd.{SessionEnd}
@@ -25,8 +25,8 @@ abbrev pub in_memory : Views TapeIn TapeOut
 in_memory = record { ins = tape_in.ghosts.state; outs = tape_out.ghosts.state }
 
 -- how the ends of a link through a SOCKS server are seen
-abbrev pub through_server : Views InnerSource InnerSink
-through_server = record { ins = outer_source; outs = outer_sink }
+abbrev pub server_views : Views InnerSource InnerSink
+server_views = record { ins = socks_source; outs = socks_sink }
 
 -- a session over a dialer that is in the one state before it and in the other behind it, where each dial is a new link
 pub record TakesNewLinks (caller : Caller) (looks : Looks) (i i' : SourceState) (o o' : SinkState) (d d' : DialerState) (t t' : ClockState) (e : SessionEnd) : Type 0 where

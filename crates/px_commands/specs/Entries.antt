@@ -9,17 +9,17 @@ abbrev pub is_line_feed : ℕ → Bool
 is_line_feed b = b == 10
 
 -- so many of the bytes, and those behind them, where there are so many
-abbrev pub counted : List ℕ → Option ℕ → Option (List ℕ × List ℕ)
-counted behind None = None
-counted behind (Some n) = if nat_le n (length behind) then Some (take n behind, drop n behind) else None
+abbrev pub counted_front : List ℕ → Option ℕ → Option (List ℕ × List ℕ)
+counted_front behind None = None
+counted_front behind (Some n) = if nat_le n (length behind) then Some (take n behind, drop n behind) else None
 
 -- the entry of a text whose first LF is at that place
 abbrev pub entry_at : List ℕ → Option ℕ → Option (List ℕ × List ℕ)
 entry_at text None = None
-entry_at text (Some at) = if nat_le at 8 then counted (drop (at + 1) text) (decimal 99999999 (take at text)) else None
+entry_at text (Some at) = if nat_le at 8 then counted_front (drop (at + 1) text) (decimal 99999999 (take at text)) else None
 
-unfoldable pub first_entry : List ℕ → Option (List ℕ × List ℕ)
-first_entry text = entry_at text (position is_line_feed text)
+unfoldable pub first_counted_entry : List ℕ → Option (List ℕ × List ℕ)
+first_counted_entry text = entry_at text (position is_line_feed text)
 
 -- the first entry of a text, if it begins with one
 abbrev pub EntryIs : List ℕ → Option (Answer × List ℕ) → Type 0

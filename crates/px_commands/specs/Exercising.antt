@@ -9,7 +9,7 @@ use Rattle.px_commands.specs.Loads.{Prints, load_status}
 use Rattle.px_commands.specs.Passes.{GivesUp, Outside, Reports}
 
 -- the five lines of the job of a number were printed
-pub record Printed (number : ℕ) (old new : Outside) (s : Status) : Type 0 where
+pub record PrintsExercise (number : ℕ) (old new : Outside) (s : Status) : Type 0 where
   pub text : List ℕ
   pub exercises : Exercises number text
   pub prints : Prints old new text s
@@ -22,4 +22,4 @@ pub record FailsToLoadJob (number : ℕ) (old new : Outside) (s : Status) : Type
 
 -- with the words of `exercise`
 abbrev pub RunsExercise : ℕ → Outside → Outside → Status → Type 0
-RunsExercise number old new s = Printed number old new s ⊎ (FailsToLoadJob number old new s ⊎ GivesUp old new s)
+RunsExercise number old new s = PrintsExercise number old new s ⊎ (FailsToLoadJob number old new s ⊎ GivesUp old new s)

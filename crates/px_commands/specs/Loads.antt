@@ -85,11 +85,11 @@ abbrev pub ShowsBy : Config → List ℕ → List (List ℕ) → Outside → Out
 ShowsBy loaded url tags old new s = RefusesUrl url old new s ⊎ (ShowsUrl loaded url tags old new s ⊎ GivesUp old new s)
 
 -- CONFIG loads, and then the URL is read
-pub record Shows (config url : List ℕ) (tags : List (List ℕ)) (old new : Outside) (s : Status) : Type 0 where
+pub record ShowsLoaded (config url : List ℕ) (tags : List (List ℕ)) (old new : Outside) (s : Status) : Type 0 where
   pub loaded : Config
   pub loads : Loads config old.files loaded
   pub shows : ShowsBy loaded url tags old new s
 
 -- with the words of `show`
 abbrev pub RunsShow : List ℕ → List ℕ → List (List ℕ) → Outside → Outside → Status → Type 0
-RunsShow config url tags old new s = FailsToLoad config old new s ⊎ (Shows config url tags old new s ⊎ GivesUp old new s)
+RunsShow config url tags old new s = FailsToLoad config old new s ⊎ (ShowsLoaded config url tags old new s ⊎ GivesUp old new s)

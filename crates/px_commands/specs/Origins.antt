@@ -10,7 +10,7 @@ abbrev pub plain_answer : List ℕ → Answer
 plain_answer bytes = answer.Link bytes [] [] []
 
 -- bytes behind their count at the front of a text, and what comes behind them; 10 is LF
-pub record BeginsWith (text bytes rest : List ℕ) : Type 0 where
+pub record BeginsCounted (text bytes rest : List ℕ) : Type 0 where
   pub digits : List ℕ
   pub short : length digits ≤ 8
   pub counts : decimal 99999999 digits ≡ Some (length bytes)
@@ -24,7 +24,7 @@ BeginsWithWord word text rest = (text ≡ word ++ 10 ∷ rest) ⊎ ((text ≡ wo
 abbrev pub BeginsEntry : List ℕ → Answer → List ℕ → Type 0
 BeginsEntry text answer.NoName rest = BeginsWithWord (codes "no-name") text rest
 BeginsEntry text answer.NotReached rest = BeginsWithWord (codes "not-reached") text rest
-BeginsEntry text (answer.Link bytes cuts reads writes) rest = (answer.Link bytes cuts reads writes ≡ plain_answer bytes) × BeginsWith text bytes rest
+BeginsEntry text (answer.Link bytes cuts reads writes) rest = (answer.Link bytes cuts reads writes ≡ plain_answer bytes) × BeginsCounted text bytes rest
 
 -- the text is the entries of those answers
 abbrev pub IsOrigin : List ℕ → List Answer → Type 0

@@ -15,14 +15,14 @@ use Rattle.px_serve.specs.declared.ends.SessionEnd.{SessionEnd}
 use Rattle.px_serve.specs.Ends.{ReadEndCause, WriteEndCause}
 use Rattle.px_serve.specs.Histories.{IsFixed, Looks}
 use Rattle.px_serve.specs.Sessions.{Serves}
-use Rattle.px_socks.specs.Dialers.{Kept, outer_state}
+use Rattle.px_socks.specs.Dialers.{KeptDialer, outer_state}
 use Rattle.px_socks.specs.Handshakes.{Handshakes}
 use Rattle.px_commands.specs.declared.statuses.Status.{Status}
 use Rattle.px_commands.specs.declared.statuses.Status.TheVariants as status
-use Rattle.px_commands.specs.Clients.{SharesLinks, caller_of, in_memory, through_server}
+use Rattle.px_commands.specs.Clients.{SharesLinks, caller_of, in_memory, server_views}
 use Rattle.px_commands.specs.Origins.{IsOrigin}
 use Rattle.px_commands.specs.Sents.{sent_text}
-use Rattle.px_commands.specs.Statuses.{is_wanting, status_after}
+use Rattle.px_commands.specs.Statuses.{is_session_wanting, status_after}
 
 -- the objects of a run: the files, the input, the output, the error output and the clock
 pub record Outside : Type 0 where
@@ -48,7 +48,7 @@ pub record Untouched (old new : Outside) : Type 0 where
   pub clock : new.clock ≡ old.clock
 
 -- nor was the error output
-pub record IsSame (old new : Outside) : Type 0 where
+pub record IsOutsideSame (old new : Outside) : Type 0 where
   pub untouched : Untouched old new
   pub errors : new.errors ≡ old.errors
 
@@ -71,7 +71,7 @@ pub record Reports (old new : Outside) (text : List ℕ) (whole s : Status) : Ty
 -- memory was wanting before a session began, and nothing was printed
 pub record GivesUp (old new : Outside) (s : Status) : Type 0 where
   pub wanting : s ≡ status.NoMemory
-  pub same : IsSame old new
+  pub same : IsOutsideSame old new
 
 -- a file holds ORIGIN with these answers
 abbrev pub HasAnswers : Option (List ℕ) → List Answer → Type 0
@@ -81,7 +81,7 @@ HasAnswers (Some text) answers = (length text ≤ 67108864) × IsOrigin text ans
 -- SENT was put, or tried to be, behind a session that ended so: not after want of memory in it; the first cause in time decides
 -- the status
 pub record PutsSent (old new : FilesState) (sent text : List ℕ) (e : SessionEnd) (s : Status) : Type 0 where
-  pub memory : is_wanting e ≡ false
+  pub memory : is_session_wanting e ≡ false
   pub result : Result (Unit {0}) FilesFault
   pub put : IsTrue old.tells → Puts old.contents new.contents sent text result
   pub others : IsTrue old.tells → OthersUnchanged old.contents new.contents sent
@@ -100,7 +100,7 @@ PutsAfter old new sent text e s = PutsSent old new sent text e s ⊎ Withholds o
 
 -- a session over the input and the answers, with that configuration, and the text of SENT: no forward line has a SOCKS server, and
 -- each dial takes an answer
-pub record IsServed (config : Config) (tags : List (List ℕ)) (answers : List Answer) (i i' : SourceState) (o o' : SinkState) (t t' : ClockState) (e : SessionEnd) (text : List ℕ) : Type 0 where
+pub record IsSessionServed (config : Config) (tags : List (List ℕ)) (answers : List Answer) (i i' : SourceState) (o o' : SinkState) (t t' : ClockState) (e : SessionEnd) (text : List ℕ) : Type 0 where
   pub looks : Looks
   pub looks_after : Looks
   pub fixed : IsFixed looks config
@@ -115,7 +115,7 @@ pub record IsServed (config : Config) (tags : List (List ℕ)) (answers : List A
   pub write_cause : WriteEndCause o o' e
 
 -- a dialer through SOCKS servers that is just made, over one in memory with these answers
-abbrev pub begun_socks : List Answer → Kept
+abbrev pub begun_socks : List Answer → KeptDialer
 begun_socks answers = record { inner = fresh_dialer answers; notes = []; names = 0; reach = 0; link_reads = 0; link_writes = 0 }
 
 -- the same through SOCKS servers: the session is one over the outer dials; each takes an answer too, but for one whose target no
@@ -125,7 +125,7 @@ pub record IsServedThrough (config : Config) (tags : List (List ℕ)) (answers :
   pub looks : Looks
   pub looks_after : Looks
   pub fixed : IsFixed looks config
-  pub dialer : Kept
+  pub dialer : KeptDialer
   pub notes : List ExchangeNote
   pub serves : Serves (caller_of tags) looks looks_after i i'
       (record { client_out = o; dialer = outer_state (begun_socks answers); clock = t })
@@ -154,8 +154,8 @@ pub record IsServedShared (config : Config) (tags : List (List ℕ)) (answers : 
 pub record IsServedSharedThrough (config : Config) (tags : List (List ℕ)) (answers : List Answer) (i i' : SourceState) (o o' : SinkState) (t t' : ClockState) (e : SessionEnd) (text : List ℕ) : Type 0 where
   pub looks : Looks
   pub fixed : IsFixed looks config
-  pub dialer : Kept
-  pub shares : SharesLinks through_server (caller_of tags) looks i i' o o' (outer_state (begun_socks answers)) (outer_state dialer) t t' e
+  pub dialer : KeptDialer
+  pub shares : SharesLinks server_views (caller_of tags) looks i i' o o' (outer_state (begun_socks answers)) (outer_state dialer) t t' e
   pub handshakes : Handshakes (outer_state dialer).dials dialer.inner.dials
   pub text_is : text ≡ sent_text (finished_links dialer.inner.dials)
   -- the session's own faults
@@ -165,7 +165,7 @@ pub record IsServedSharedThrough (config : Config) (tags : List (List ℕ)) (ans
 -- a session over the input and the answers whose requests take new links: through SOCKS servers where a forward line has one
 abbrev pub ServesApart : Config → List (List ℕ) → List Answer → SourceState → SourceState → SinkState → SinkState → ClockState → ClockState → SessionEnd → List ℕ → Type 0
 ServesApart config tags answers i i' o o' t t' e text =
-    MatchBool (has_socks config.forwards) (IsServedThrough config tags answers i i' o o' t t' e text) (IsServed config tags answers i i' o o' t t' e text)
+    MatchBool (has_socks config.forwards) (IsServedThrough config tags answers i i' o o' t t' e text) (IsSessionServed config tags answers i i' o o' t t' e text)
 
 -- the same whose requests share links
 abbrev pub ServesShared : Config → List (List ℕ) → List Answer → SourceState → SourceState → SinkState → SinkState → ClockState → ClockState → SessionEnd → List ℕ → Type 0
@@ -187,16 +187,16 @@ pub record HasServed (config : Config) (tags : List (List ℕ)) (answers : List 
 pub record FailsOnOrigin (old new : Outside) (s : Status) : Type 0 where
   pub failed : s ≡ status.ReadFailed
   pub cause : Rose old.files.read_faults new.files.read_faults
-  pub same : IsSame old new
+  pub same : IsOutsideSame old new
 
 -- ORIGIN is missing, too large or not of its format
 pub record RefusesOrigin (origin : List ℕ) (old new : Outside) (s : Status) : Type 0 where
   pub refused : s ≡ status.NoOrigin
   pub none : IsTrue old.files.tells → (answers : List Answer) → ¬ HasAnswers (old.files.contents origin) answers
-  pub same : IsSame old new
+  pub same : IsOutsideSame old new
 
 -- a session was served, behind which SENT was put
-pub record Passes (config : Config) (origin sent : List ℕ) (tags : List (List ℕ)) (old new : Outside) (s : Status) : Type 0 where
+pub record PassesSession (config : Config) (origin sent : List ℕ) (tags : List (List ℕ)) (old new : Outside) (s : Status) : Type 0 where
   pub answers : List Answer
   pub has_answers : IsTrue old.files.tells → HasAnswers (old.files.contents origin) answers
   pub session_end : SessionEnd
@@ -208,4 +208,4 @@ pub record Passes (config : Config) (origin sent : List ℕ) (tags : List (List 
 -- with a configuration
 abbrev pub RunsLoaded : Config → List ℕ → List ℕ → List (List ℕ) → Outside → Outside → Status → Type 0
 RunsLoaded config origin sent tags old new s =
-    FailsOnOrigin old new s ⊎ (RefusesOrigin origin old new s ⊎ (Passes config origin sent tags old new s ⊎ GivesUp old new s))
+    FailsOnOrigin old new s ⊎ (RefusesOrigin origin old new s ⊎ (PassesSession config origin sent tags old new s ⊎ GivesUp old new s))

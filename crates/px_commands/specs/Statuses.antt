@@ -19,14 +19,14 @@ code_of status.DoorsFailed = 7
 code_of status.NoOrigin = 8
 
 -- memory was wanting in a session that ended so
-abbrev pub is_wanting : SessionEnd → Bool
-is_wanting end.Ended = false
-is_wanting end.Cut = false
-is_wanting end.Closed = false
-is_wanting end.Spent = false
-is_wanting end.ReadFailed = false
-is_wanting end.WriteFailed = false
-is_wanting end.NoMemory = true
+abbrev pub is_session_wanting : SessionEnd → Bool
+is_session_wanting end.Ended = false
+is_session_wanting end.Cut = false
+is_session_wanting end.Closed = false
+is_session_wanting end.Spent = false
+is_session_wanting end.ReadFailed = false
+is_session_wanting end.WriteFailed = false
+is_session_wanting end.NoMemory = true
 
 -- the status of a put, where nothing went wrong before it
 abbrev pub status_of_put : {T : Type 0} → Result T FilesFault → Status

@@ -3,13 +3,13 @@ use Rattle.std.specs.Prelude.{◌≡◌, ℕ, ◌-◌, ◌^◌, ◌==◌, nat_le
 use Rattle.px_base.specs.Numbers.{decimal}
 
 -- a word that begins with `-`
-abbrev pub is_flag : List ℕ → Bool
-is_flag [] = false
-is_flag (b ∷ bs) = b == 45
+abbrev pub is_flag_word : List ℕ → Bool
+is_flag_word [] = false
+is_flag_word (b ∷ bs) = b == 45
 
 abbrev pub no_flags : List (List ℕ) → Bool
 no_flags [] = true
-no_flags (w ∷ ws) = not (is_flag w) && no_flags ws
+no_flags (w ∷ ws) = not (is_flag_word w) && no_flags ws
 
 -- pass CONFIG ORIGIN SENT [TAG]..., where no word after the first begins with `-`
 pub record IsPass (words : List (List ℕ)) (config origin sent : List ℕ) (tags : List (List ℕ)) : Type 0 where
@@ -27,16 +27,16 @@ pub record IsShow (words : List (List ℕ)) (config url : List ℕ) (tags : List
   pub none_is_flag : no_flags (config ∷ url ∷ tags) ≡ true
 
 -- a number up to that one, of one to ten digits
-abbrev pub number_of : ℕ → List ℕ → Option ℕ
-number_of most word = if nat_le (length word) 10 then decimal most word else None
+abbrev pub number_in_word : ℕ → List ℕ → Option ℕ
+number_in_word most word = if nat_le (length word) 10 then decimal most word else None
 
 -- a number from 1 to that one, of one to ten digits
 abbrev pub above_none : Option ℕ → Option ℕ
 above_none None = None
 above_none (Some n) = if n == 0 then None else Some n
 
-abbrev pub count_of : ℕ → List ℕ → Option ℕ
-count_of most word = above_none (number_of most word)
+abbrev pub count_in_word : ℕ → List ℕ → Option ℕ
+count_in_word most word = above_none (number_in_word most word)
 
 abbrev pub behind_workers : Option ℕ → Option ℕ → Option ℕ
 behind_workers None most = None
@@ -45,14 +45,14 @@ behind_workers (Some workers) most = most
 -- [WORKERS [CONNECTIONS]]: at most so many connections are served; without a number there is no end to them
 abbrev pub most_of : List (List ℕ) → Option ℕ
 most_of [] = Some (2 ^ 64 - 1)
-most_of (workers ∷ []) = behind_workers (count_of 64 workers) (Some (2 ^ 64 - 1))
-most_of (workers ∷ connections ∷ []) = behind_workers (count_of 64 workers) (count_of 4294967295 connections)
+most_of (workers ∷ []) = behind_workers (count_in_word 64 workers) (Some (2 ^ 64 - 1))
+most_of (workers ∷ connections ∷ []) = behind_workers (count_in_word 64 workers) (count_in_word 4294967295 connections)
 most_of (workers ∷ connections ∷ more ∷ rest) = None
 
 -- [WORKERS [CONNECTIONS]]: so many connections are served at once; without a number 8
 abbrev pub workers_of : List (List ℕ) → Option ℕ
 workers_of [] = Some 8
-workers_of (workers ∷ rest) = count_of 64 workers
+workers_of (workers ∷ rest) = count_in_word 64 workers
 
 -- serve CONFIG [WORKERS [CONNECTIONS]], where no word after the first begins with `-`
 pub record IsServe (words : List (List ℕ)) (config : List ℕ) (workers most : ℕ) : Type 0 where
@@ -66,4 +66,4 @@ pub record IsServe (words : List (List ℕ)) (config : List ℕ) (workers most :
 pub record IsExercise (words : List (List ℕ)) (n : ℕ) : Type 0 where
   pub word : List ℕ
   pub words_are : words ≡ codes "exercise" ∷ word ∷ []
-  pub number_is : number_of 2147483647 word ≡ Some n
+  pub number_is : number_in_word 2147483647 word ≡ Some n

@@ -11,7 +11,7 @@ use px_base::{Clock, Dialer, List, Mem, Peer, Sink, Source, Text};
 use px_config::Config;
 use px_publish::{Configs, FixedConfig};
 use px_serve::{SessionEnd, serve_connection};
-use px_shared::{Shared, serve_shared};
+use px_shared::{SharedSession, serve_shared};
 use px_ways::Way;
 use std::alloc::Global;
 use std::sync::Arc;
@@ -22,7 +22,7 @@ const CLIENT: &[u8] = b"127.0.0.1";
 
 /// The one client of `pass`, and the one configuration at each look.
 #[derive(Drop)]
-pub struct Client {
+pub struct PassClient {
     tags: List<Text>,
     peer: Peer,
     configs: FixedConfig<Config>,
@@ -45,7 +45,7 @@ fn fixed_config(alloc: Global, loaded: Config) -> Result<FixedConfig<Config>, Me
 }
 
 /// The client with these tags. Whether its requests share links the configuration says.
-pub fn made_client(alloc: Global, loaded: Config, tags: &[String]) -> Result<Client, Mem>
+pub fn made_client(alloc: Global, loaded: Config, tags: &[String]) -> Result<PassClient, Mem>
     ensures tags { IfOk result (λ c. c.tags ≡ map string_bytes tags.now) }
     ensures peer { IfOk result (λ c. c.peer.address ≡ codes "127.0.0.1") }
     ensures view { IfOk result (λ c. ⟦<FixedConfig<Config> as Configs>⟧.view c.configs ≡ loaded ∷ []) }
@@ -58,7 +58,7 @@ pub fn made_client(alloc: Global, loaded: Config, tags: &[String]) -> Result<Cli
     let peer = Peer {
         address: Text::from_bytes(alloc, CLIENT)?,
     };
-    Ok(Client {
+    Ok(PassClient {
         tags,
         peer,
         configs,
@@ -71,7 +71,7 @@ pub fn made_client(alloc: Global, loaded: Config, tags: &[String]) -> Result<Cli
 pub fn serve_client<R: Threads + Sync, S: Source, O: Sink, D: Dialer, T: Clock>(
     alloc: Global,
     way: &Way<'_, R>,
-    client: Client,
+    client: PassClient,
     dialer: D,
     input: &mut S,
     out: &mut O,
@@ -98,7 +98,7 @@ pub fn serve_client<R: Threads + Sync, S: Source, O: Sink, D: Dialer, T: Clock>(
 fn share_links<R: Threads + Sync, S: Source, O: Sink, D: Dialer, T: Clock>(
     alloc: Global,
     way: &Way<'_, R>,
-    client: Client,
+    client: PassClient,
     dialer: D,
     input: &mut S,
     out: &mut O,
@@ -114,13 +114,13 @@ fn share_links<R: Threads + Sync, S: Source, O: Sink, D: Dialer, T: Clock>(
     ensures out_goes_on { SinkGoesOn (O.state out.old) (O.state out.new) }
     ensures clock_goes_on { ClockGoesOn (T.state clock.old) (T.state clock.new) }
 {
-    let Client {
+    let PassClient {
         tags,
         peer,
         mut configs,
         sharing: _,
     } = client;
-    let Shared {
+    let SharedSession {
         session,
         dialer,
         wanting: _,
@@ -145,7 +145,7 @@ fn share_links<R: Threads + Sync, S: Source, O: Sink, D: Dialer, T: Clock>(
 fn take_new_links<R: Threads + Sync, S: Source, O: Sink, D: Dialer, T: Clock>(
     alloc: Global,
     way: &Way<'_, R>,
-    client: Client,
+    client: PassClient,
     dialer: D,
     input: &mut S,
     out: &mut O,
@@ -161,7 +161,7 @@ fn take_new_links<R: Threads + Sync, S: Source, O: Sink, D: Dialer, T: Clock>(
     ensures out_goes_on { SinkGoesOn (O.state out.old) (O.state out.new) }
     ensures clock_goes_on { ClockGoesOn (T.state clock.old) (T.state clock.new) }
 {
-    let Client {
+    let PassClient {
         tags,
         peer,
         mut configs,

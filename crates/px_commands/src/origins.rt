@@ -3,7 +3,7 @@ ghost use Rattle.std.specs.Prelude.{◌≡◌, ◌≢◌, ◌<◌, ◌≤◌, �
 ghost use Rattle.std.specs.List.{position};
 ghost use Rattle.px_base.specs.declared.dials.Answer.{Answer};
 ghost use Rattle.px_commands.specs.Origins.{BeginsWithWord, IsOrigin, plain_answer};
-ghost use Rattle.px_commands.specs.Entries.{EntryIs, first_entry, counted, is_line_feed};
+ghost use Rattle.px_commands.specs.Entries.{EntryIs, first_counted_entry, counted_front, is_line_feed};
 
 use px_base::{Answer, List, Mem, Text, read_decimal};
 use std::alloc::{AllocFailed, Global};
@@ -96,9 +96,9 @@ fn read_word<'t>(text: &'t [u8], word: &[u8]) -> Option<&'t [u8]>
 }
 
 /// The bytes of the first entry, where it is one of bytes, and what comes behind it.
-#[tactic(auto, unfolding(crate::specs::Entries::first_entry))]
+#[tactic(auto, unfolding(crate::specs::Entries::first_counted_entry))]
 fn read_bytes(text: &[u8]) -> Option<(&[u8], &[u8])>
-    ensures entry { option_map (λ e. (e.0.now, e.1.now)) result ≡ first_entry text.now }
+    ensures entry { option_map (λ e. (e.0.now, e.1.now)) result ≡ first_counted_entry text.now }
     ensures shorter { IfSome result (λ e. length e.1.now < length text.now) }
 {
     match line_feed(text) {
@@ -114,7 +114,7 @@ fn read_bytes(text: &[u8]) -> Option<(&[u8], &[u8])>
 
 /// So many of the bytes, and those behind them, where there are so many.
 fn take_counted(behind: &[u8], count: Option<u64>) -> Option<(&[u8], &[u8])>
-    ensures entry { option_map (λ e. (e.0.now, e.1.now)) result ≡ counted behind.now count }
+    ensures entry { option_map (λ e. (e.0.now, e.1.now)) result ≡ counted_front behind.now count }
     ensures within { IfSome result (λ e. length e.1.now ≤ length behind.now) }
 {
     match count {

@@ -80,7 +80,7 @@ fn run_loaded<R: Threads + Sync, F: Files, S: Source, O: Sink, T: Clock>(
 
 /// How a session ended, and the text of SENT, if memory was there for it.
 #[derive(Drop)]
-pub struct Served {
+pub struct ServedSession {
     end: SessionEnd,
     sent: Option<Text>,
 }
@@ -96,7 +96,7 @@ fn serve_input<R: Threads + Sync, S: Source, O: Sink, T: Clock>(
     input: &mut S,
     out: &mut O,
     clock: &mut T,
-) -> Result<Served, Mem>
+) -> Result<ServedSession, Mem>
     ensures served { IfOk result (λ s. HasServed loaded (map string_bytes tags.now) answers (S.state input.old) (S.state input.new) (O.state out.old) (O.state out.new) (T.state clock.old) (T.state clock.new) s.end s.sent) }
     ensures unused { OnErr result ((S.state input.new ≡ S.state input.old) × (O.state out.new ≡ O.state out.old) × (T.state clock.new ≡ T.state clock.old)) }
     ensures input_goes_on { SourceGoesOn (S.state input.old) (S.state input.new) }
@@ -120,7 +120,7 @@ fn serve_plain<R: Threads + Sync, S: Source, O: Sink, T: Clock>(
     input: &mut S,
     out: &mut O,
     clock: &mut T,
-) -> Result<Served, Mem>
+) -> Result<ServedSession, Mem>
     requires plain { has_socks loaded.forwards ≡ false }
     ensures served { IfOk result (λ s. HasServed loaded (map string_bytes tags.now) answers (S.state input.old) (S.state input.new) (O.state out.old) (O.state out.new) (T.state clock.old) (T.state clock.new) s.end s.sent) }
     ensures unused { OnErr result ((S.state input.new ≡ S.state input.old) × (O.state out.new ≡ O.state out.old) × (T.state clock.new ≡ T.state clock.old)) }
@@ -131,7 +131,7 @@ fn serve_plain<R: Threads + Sync, S: Source, O: Sink, T: Clock>(
     let client = made_client(alloc, loaded, tags)?;
     let dialer = MemDialer::new(alloc, answers)?;
     let Ended { end, dialer } = serve_client(alloc, way, client, dialer, input, out, clock);
-    Ok(Served {
+    Ok(ServedSession {
         end,
         sent: made_sent(alloc, dialer.links()),
     })
@@ -147,7 +147,7 @@ fn serve_through<R: Threads + Sync, S: Source, O: Sink, T: Clock>(
     input: &mut S,
     out: &mut O,
     clock: &mut T,
-) -> Result<Served, Mem>
+) -> Result<ServedSession, Mem>
     requires through { has_socks loaded.forwards ≡ true }
     ensures served { IfOk result (λ s. HasServed loaded (map string_bytes tags.now) answers (S.state input.old) (S.state input.new) (O.state out.old) (O.state out.new) (T.state clock.old) (T.state clock.new) s.end s.sent) }
     ensures unused { OnErr result ((S.state input.new ≡ S.state input.old) × (O.state out.new ≡ O.state out.old) × (T.state clock.new ≡ T.state clock.old)) }
@@ -159,18 +159,18 @@ fn serve_through<R: Threads + Sync, S: Source, O: Sink, T: Clock>(
     let dialer = SocksDialer::new(alloc, MemDialer::new(alloc, answers)?);
     let Ended { end, dialer } = serve_client(alloc, way, client, dialer, input, out, clock);
     let inner = dialer.into_inner();
-    Ok(Served {
+    Ok(ServedSession {
         end,
         sent: made_sent(alloc, inner.links()),
     })
 }
 
 /// Puts SENT behind a session, unless memory was wanting in it or for the text.
-fn put_served<F: Files>(files: &mut F, name: &str, served: Served) -> Status
+fn put_served<F: Files>(files: &mut F, name: &str, served: ServedSession) -> Status
     ensures puts { (text : List ℕ) → ((x : List ℕ) → served.sent ≡ Some x → x ≡ text) → PutsAfter (F.state files.old) (F.state files.new) name.now text served.end result }
     ensures go_on { FilesGoOn (F.state files.old) (F.state files.new) }
 {
-    let Served { end, sent } = served;
+    let ServedSession { end, sent } = served;
     match sent {
         Some(text) => put_sent(files, name, text.as_bytes(), end),
         None => Status::NoMemory,

@@ -1,6 +1,6 @@
 // How a command ends.
 ghost use Rattle.std.specs.Prelude.{◌≡◌, codes};
-ghost use Rattle.px_commands.specs.Statuses.{code_of, is_wanting, status_after, status_of_put};
+ghost use Rattle.px_commands.specs.Statuses.{code_of, is_session_wanting, status_after, status_of_put};
 
 use px_base::FilesFault;
 use px_serve::SessionEnd;
@@ -72,7 +72,7 @@ pub fn status_after(end: SessionEnd, put: Result<(), FilesFault>) -> Status
 
 /// Whether memory was wanting in a session that ended so.
 pub fn is_wanting(end: SessionEnd) -> bool
-    ensures { result ≡ is_wanting end }
+    ensures { result ≡ is_session_wanting end }
 {
     match end {
         SessionEnd::ReadFailed => false,

@@ -1,6 +1,6 @@
 // The words after the program's name.
 ghost use Rattle.std.specs.Prelude.{◌≡◌, ◌<◌, ◌≤◌, not, map, string_bytes, IfSome, IsNone, List, None, Some, ℕ};
-ghost use Rattle.px_commands.specs.Words.{IsPass, IsCheck, IsExercise, IsServe, IsShow, count_of, is_flag, most_of, no_flags, number_of, workers_of};
+ghost use Rattle.px_commands.specs.Words.{IsPass, IsCheck, IsExercise, IsServe, IsShow, count_in_word, is_flag_word, most_of, no_flags, number_in_word, workers_of};
 
 use px_base::read_decimal;
 
@@ -140,7 +140,7 @@ fn read_counts(words: &[String]) -> Option<(u64, u64)>
 
 /// A number up to `most`, of one to ten digits.
 fn read_number(word: &[u8], most: u64) -> Option<u64>
-    ensures value { result ≡ number_of most word.now }
+    ensures value { result ≡ number_in_word most word.now }
     ensures within { IfSome result (λ n. n ≤ most) }
 {
     if word.len() > 10 {
@@ -151,7 +151,7 @@ fn read_number(word: &[u8], most: u64) -> Option<u64>
 
 /// A number from 1 to `most`, of one to ten digits.
 fn read_count(word: &[u8], most: u64) -> Option<u64>
-    ensures value { result ≡ count_of most word.now }
+    ensures value { result ≡ count_in_word most word.now }
     ensures some { IfSome result (λ n. 0 < n) }
     ensures within { IfSome result (λ n. n ≤ most) }
 {
@@ -174,7 +174,7 @@ fn has_flag(words: &[String]) -> bool
 }
 
 fn begins_with_dash(word: &[u8]) -> bool
-    ensures { result ≡ is_flag word.now }
+    ensures { result ≡ is_flag_word word.now }
 {
     !word.is_empty() && word[0] == b'-'
 }

@@ -4,7 +4,7 @@ use Rattle.std.specs.Prelude.{IfErr, option_map}
 use Rattle.px_text.specs.declared.lines.Line.{Line}
 use Rattle.px_text.specs.declared.faults.TextFault.{TextFault}
 use Rattle.px_text.specs.declared.faults.TextFault.TheVariants as text
-use Rattle.px_text.specs.Faults.{IsReported as IsTextRefusal}
+use Rattle.px_text.specs.Faults.{IsTextRefusal}
 use Rattle.px_action_files.specs.Faults.{IsReported, Refused, refused}
 use Rattle.px_action_files.specs.declared.faults.FileFault.{FileFault}
 use Rattle.px_action_files.specs.declared.faults.FileFault.TheVariants as at
@@ -19,13 +19,13 @@ use Rattle.px_filter_files.specs.declared.faults.FilterFault.{FilterFault}
 use Rattle.px_filter_files.specs.declared.faults.FilterFault.TheVariants as filtering
 use Rattle.px_config.specs.Actions.{within}
 use Rattle.px_config.specs.Filters.{filters_or, seen_filter_fault}
-use Rattle.px_config.specs.Faults.{Fault, IsFault, IsOf, at_file, fault_at}
+use Rattle.px_config.specs.Faults.{Fault, IsFault, IsRefusalOf, at_file, fault_at}
 use Rattle.px_config.specs.Pages.{pieces_or, seen_template_fault}
 use Rattle.px_config.specs.Loading.{IsLoadFault}
 use Rattle.px_config.specs.Parts.{lines_or, seen_text_fault}
 
 -- the refusal of a file, with the file's name, is the fault
-pub fault_of : {X : Type 0} (name : List ℕ) (meaning : Result X Refused) (f : FileFault) (r : LoadFault) → IsReported meaning f → IsOf name f r → IsFault (at_file name meaning) r
+pub fault_of : {X : Type 0} (name : List ℕ) (meaning : Result X Refused) (f : FileFault) (r : LoadFault) → IsReported meaning f → IsRefusalOf name f r → IsFault (at_file name meaning) r
 fault_of name meaning (at.At line number) (fault.Spelled file l n) is of = ap (at_file name) is ∙ cc
 fault_of name meaning (at.At line number) (fault.Read file) is of = of
 fault_of name meaning (at.At line number) fault.Mem is of = tt

@@ -16,7 +16,7 @@ use Rattle.std.specs.Prelude.{unwrap_or}
 use Rattle.std.specs.Set.{KeepsOthers as KeepsOtherNames}
 use Rattle.px_base.specs.declared.files.Content.{Content}
 use Rattle.px_base.specs.declared.files.Content.TheVariants as content
-use Rattle.px_config.specs.Indexes.{HasNames, content_at, found_in, has_name}
+use Rattle.px_config.specs.Indexes.{HasNames, content_at, found_in, names_hold}
 use Rattle.px_config.specs.Sets.{Item, content_in, is_in}
 
 module _ {K : Type 0} (eq : K → K → Bool) (test : K → Bool) where
@@ -53,9 +53,9 @@ found_once_added name old new here updates =
 
 pub named_once_added : {Y : Type 0} (name : List ℕ) (old new : BTreeSet (Vec ℕ Y)) (here : Bool) →
     sorted.UpdatesBy (λ x y. slice_cmp nat_cmp x.items y.items) (λ k. slice_cmp nat_cmp name k.items) old new here →
-    (other : List ℕ) → has_name new other ≡ cond (bytes_eq name other) here (has_name old other)
+    (other : List ℕ) → names_hold new other ≡ cond (bytes_eq name other) here (names_hold old other)
 named_once_added name old new here updates =
-    at_name (has_name old) (has_name new) name here updates.1
+    at_name (names_hold old) (names_hold new) name here updates.1
     (λ other differ. other_names _ _ _ _ updates.3 _ (λ x y. (eq_by_cmp_equiv nat_list_cmp_total).congr other x.items y.items) (λ k. apart name other k.items differ))
 
 -- ---- contents from the last item to the first
@@ -121,7 +121,7 @@ pub one_name_more : {Y : Type 0} (old new : BTreeSet (Vec ℕ Y)) (items after :
     HasNames after new
 one_name_more old new items after item key has ends named updates = λ name.
     named_once_added key old new true updates name
-    ∙ or_swapped (bytes_eq key name) (has_name old name)
+    ∙ or_swapped (bytes_eq key name) (names_hold old name)
     ∙ ap (λ b. b || bytes_eq key name) (has name)
     ∙ ap (λ n. is_in items name || bytes_eq n name) named
     ∙ sym (in_last items item name)

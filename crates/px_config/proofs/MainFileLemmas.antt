@@ -7,7 +7,7 @@ use Rattle.px_config.specs.declared.main_files.Named.{Named}
 use Rattle.px_config.specs.declared.names.TheConstants.{FILES_OF_A_KIND}
 use Rattle.px_config.specs.Directives.{last_of, last_value, name_in, value_for, value_in, values_of, with_value}
 use Rattle.px_config.specs.MainFiles.{nothing_named, places_with, with_named}
-use Rattle.px_config.specs.Names.{action_names, confdir, filter_names, folder_of, joined, or_else, places_of, templdir}
+use Rattle.px_config.specs.Names.{action_names, confdir, filter_names, folder_of, joined_path, or_else, places_of, templdir}
 
 -- ---- values
 
@@ -76,9 +76,9 @@ unfolding confdir values_of
 confdir_end file lines last e = ap (λ f. or_else f (folder_of file)) e
 
 templdir_end : (file : List ℕ) (lines : List Line) (last : Option (List ℕ)) → last_value (codes "templdir") lines ≡ last_of last (values_of (codes "templdir") []) →
-    templdir file lines ≡ unwrap_or last (joined (confdir file lines) (codes "templates"))
+    templdir file lines ≡ unwrap_or last (joined_path (confdir file lines) (codes "templates"))
 unfolding templdir values_of
-templdir_end file lines last e = ap (λ f. unwrap_or f (joined (confdir file lines) (codes "templates"))) e
+templdir_end file lines last e = ap (λ f. unwrap_or f (joined_path (confdir file lines) (codes "templates"))) e
 
 pub walks_places : {lines rest : List Line} {named : Named} (file : List ℕ) → Walks lines rest named → rest ≡ [] → places_with file named ≡ places_of file lines
 walks_places {lines} {rest} {named} file h ends =

@@ -2,14 +2,14 @@
 use Rattle.std.proofs.Common.{◌≡◌, ℕ, List, [], ◌∷◌, ◌++◌, Bool, true, false, Option, None, Some, refl, sym, ap, ◌∙◌, cond}
 use Rattle.std.specs.Prelude.{◌==◌, if◌then◌else◌}
 use Rattle.px_config.specs.declared.names.TheConstants.{SLASH}
-use Rattle.px_config.specs.Names.{folder_of, in_front}
+use Rattle.px_config.specs.Names.{folder_of, in_front_of_folder}
 
 by_last : (front : List ℕ) (last : ℕ) → folder_of (front ++ last ∷ []) ≡ (if last == SLASH then Some front else folder_of front)
 unfolding folder_of
 by_last [] last = refl
-by_last (b ∷ front) last = ap (in_front b) (by_last front last) ∙ by (last == SLASH)
+by_last (b ∷ front) last = ap (in_front_of_folder b) (by_last front last) ∙ by (last == SLASH)
   where
-    by : (t : Bool) → in_front b (cond t (Some front) (folder_of front)) ≡ cond t (Some (b ∷ front)) (in_front b (folder_of front))
+    by : (t : Bool) → in_front_of_folder b (cond t (Some front) (folder_of front)) ≡ cond t (Some (b ∷ front)) (in_front_of_folder b (folder_of front))
     by true = refl
     by false = refl
 

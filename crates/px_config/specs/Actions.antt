@@ -2,7 +2,7 @@
 use Rattle.std.specs.Prelude.{ℕ, ◌+◌, ◌-◌, List, [], ◌∷◌, ◌++◌, length, map, sum_by, Option, Some, None, Result, Ok}
 use Rattle.std.specs.List.{slice_get}
 use Rattle.px_text.specs.declared.lines.Line.{Line}
-use Rattle.px_action_files.specs.Faults.{Refused, and_then, refused, result_map}
+use Rattle.px_action_files.specs.Faults.{Refused, and_then, refused}
 use Rattle.px_action_files.specs.Files.{file_sections}
 use Rattle.px_action_files.specs.Meanings.{SectionSeen, seen_section}
 use Rattle.px_action_files.specs.PatternLines.{pattern_lines}
@@ -11,6 +11,7 @@ use Rattle.px_config.specs.declared.actions.ActionFiles.{ActionFiles}
 use Rattle.px_config.specs.Faults.{Fault, at_file}
 use Rattle.px_config.specs.Parts.{file_lines}
 use Rattle.px_config.specs.Sets.{Item}
+use Rattle.px_base.specs.Results.{result_map}
 
 -- the pattern that passes the limit is refused at its line
 abbrev pub within : {X : Type 0} → Option Line → X → Result X Refused
@@ -18,8 +19,8 @@ within None sections = Ok sections
 within (Some line) sections = refused line.number 31
 
 -- the sections of lines, where all files may have so many patterns, and files before them have some
-unfoldable pub sections_of : ℕ → ℕ → List Line → Result (List SectionSeen) Refused
-sections_of limit so_far lines = and_then (file_sections lines) (within (slice_get (pattern_lines lines) (limit - so_far)))
+unfoldable pub limited_sections : ℕ → ℕ → List Line → Result (List SectionSeen) Refused
+limited_sections limit so_far lines = and_then (file_sections lines) (within (slice_get (pattern_lines lines) (limit - so_far)))
 
 -- an actions file by its name, and its sections
 abbrev pub ActionsSeen : Type 0
@@ -34,15 +35,15 @@ pub record ActionsGiven : Type 0 where
 abbrev pub no_actions : ActionsGiven
 no_actions = record { files = []; patterns = 0 }
 
-abbrev pub patterns_in : List SectionSeen → ℕ
-patterns_in sections = sum_by (λ s. length s.patterns) sections
+abbrev pub pattern_total : List SectionSeen → ℕ
+pattern_total sections = sum_by (λ s. length s.patterns) sections
 
 abbrev pub with_sections : ActionsGiven → List ℕ → List SectionSeen → ActionsGiven
-with_sections given name sections = record { files = given.files ++ (name, sections) ∷ []; patterns = given.patterns + patterns_in sections }
+with_sections given name sections = record { files = given.files ++ (name, sections) ∷ []; patterns = given.patterns + pattern_total sections }
 
 -- the sections of an actions file, where files before it have so many patterns
 abbrev pub file_actions : List Item → Option (List ℕ) → ℕ → ℕ → List ℕ → Result (List SectionSeen) Refused
-file_actions items folder limit so_far name = and_then (file_lines items folder name) (sections_of limit so_far)
+file_actions items folder limit so_far name = and_then (file_lines items folder name) (limited_sections limit so_far)
 
 unfoldable pub with_actions : List Item → Option (List ℕ) → ℕ → ActionsGiven → List ℕ → Result ActionsGiven Fault
 with_actions items folder limit given name = result_map (with_sections given name) (at_file name (file_actions items folder limit given.patterns name))

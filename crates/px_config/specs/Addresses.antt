@@ -13,11 +13,11 @@ pub record AddressSeen : Type 0 where
 abbrev pub is_dot : ℕ → Bool
 is_dot b = b == 46
 
-abbrev pub is_colon : ℕ → Bool
-is_colon b = b == 58
+abbrev pub begins_port : ℕ → Bool
+begins_port b = b == 58
 
-abbrev pub is_bracket : ℕ → Bool
-is_bracket b = b == 93
+abbrev pub ends_address : ℕ → Bool
+ends_address b = b == 93
 
 -- a number to 255
 abbrev pub is_small : List ℕ → Bool
@@ -40,32 +40,32 @@ abbrev pub is_local_address : List ℕ → Bool
 is_local_address host = bytes_eq host (codes "::1")
 
 -- the port of what stands behind a host: a colon and a port, or nothing
-abbrev pub port_behind : List ℕ → Option ℕ
-port_behind [] = Some 8118
-port_behind (b ∷ rest) = if is_colon b then port rest else None
+abbrev pub address_port : List ℕ → Option ℕ
+address_port [] = Some 8118
+address_port (b ∷ rest) = if begins_port b then port rest else None
 
 -- a value of another form is refused before a host that isn't this machine's own
-abbrev pub with_port : List ℕ → Bool → Option ℕ → Result AddressSeen ℕ
-with_port host is_local None = Err 29
-with_port host is_local (Some number) = if is_local then Ok (record { host = host; port_number = number }) else Err 30
+abbrev pub address_with_port : List ℕ → Bool → Option ℕ → Result AddressSeen ℕ
+address_with_port host is_local None = Err 29
+address_with_port host is_local (Some number) = if is_local then Ok (record { host = host; port_number = number }) else Err 30
 
 -- the address of what stands behind an opening bracket, by the place of the closing one
 abbrev pub bracketed_at : List ℕ → Option ℕ → Result AddressSeen ℕ
 bracketed_at text None = Err 29
-bracketed_at text (Some at) = with_port (take at text) (is_local_address (take at text)) (port_behind (drop (at + 1) text))
+bracketed_at text (Some at) = address_with_port (take at text) (is_local_address (take at text)) (address_port (drop (at + 1) text))
 
-abbrev pub bracketed : List ℕ → Result AddressSeen ℕ
-bracketed text = bracketed_at text (position is_bracket text)
+abbrev pub bracketed_address : List ℕ → Result AddressSeen ℕ
+bracketed_address text = bracketed_at text (position ends_address text)
 
 -- the address of a host that goes to the first colon, by its place
 abbrev pub named_at : List ℕ → Option ℕ → Result AddressSeen ℕ
-named_at text None = with_port text (is_local_name text) (Some 8118)
-named_at text (Some at) = with_port (take at text) (is_local_name (take at text)) (port_behind (drop at text))
+named_at text None = address_with_port text (is_local_name text) (Some 8118)
+named_at text (Some at) = address_with_port (take at text) (is_local_name (take at text)) (address_port (drop at text))
 
-abbrev pub by_name : List ℕ → Result AddressSeen ℕ
-by_name text = named_at text (position is_colon text)
+abbrev pub address_by_name : List ℕ → Result AddressSeen ℕ
+address_by_name text = named_at text (position begins_port text)
 
 -- the address for which a value stands, or the number of its refusal
 unfoldable pub address_of : List ℕ → Result AddressSeen ℕ
-address_of [] = by_name []
-address_of (b ∷ rest) = if b == 91 then bracketed rest else by_name (b ∷ rest)
+address_of [] = address_by_name []
+address_of (b ∷ rest) = if b == 91 then bracketed_address rest else address_by_name (b ∷ rest)

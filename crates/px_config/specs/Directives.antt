@@ -1,9 +1,10 @@
 -- The lines of the main file: a directive's name, white space, and a value (Privoxy's manual, "The Main Configuration File").
-use Rattle.std.specs.Prelude.{ℕ, Bool, List, [], ◌∷◌, ◌++◌, filter_map, Option, Some, None, codes, if◌then◌else◌}
+use Rattle.std.specs.Prelude.{ℕ, List, [], ◌∷◌, ◌++◌, filter_map, Option, Some, None, codes, if◌then◌else◌}
 use Rattle.std.specs.List.{before_first, after_first}
-use Rattle.std.specs.Str.{str_eq_ignore_ascii_case}
 use Rattle.px_base.specs.Blanks.{is_blank, trimmed}
 use Rattle.px_text.specs.declared.lines.Line.{Line}
+use Rattle.px_action_files.specs.Files.{is_named}
+use Rattle.px_base.specs.Lists.{nonempty}
 
 -- the name of a line's directive goes to the first white space
 abbrev pub name_in : List ℕ → List ℕ
@@ -12,14 +13,6 @@ name_in text = before_first is_blank text
 -- the value is what stands behind it
 abbrev pub value_in : List ℕ → List ℕ
 value_in text = trimmed (after_first is_blank text)
-
--- names are compared without case
-abbrev pub is_named : List ℕ → List ℕ → Bool
-is_named name word = str_eq_ignore_ascii_case name word
-
-abbrev pub nonempty : List ℕ → Option (List ℕ)
-nonempty [] = None
-nonempty (b ∷ bs) = Some (b ∷ bs)
 
 -- the value that a name and a value give for a directive, if they are of it and there is one
 abbrev pub value_given : List ℕ → List ℕ → List ℕ → Option (List ℕ)

@@ -33,10 +33,10 @@ IsNoRead (fault.Read file) = ⊥
 IsNoRead fault.Mem = Unit {0}
 
 -- the refusal at a line of a file, with the file's name
-abbrev pub IsOf : List ℕ → FileFault → LoadFault → Type 0
-IsOf name (at.At line number) (fault.Spelled file l n) = (file ≡ name) × ((l ≡ line) × (n ≡ number))
-IsOf name (at.At line number) (fault.Read file) = ⊥
-IsOf name (at.At line number) fault.Mem = Unit {0}
-IsOf name at.Mem (fault.Spelled file l n) = ⊥
-IsOf name at.Mem (fault.Read file) = ⊥
-IsOf name at.Mem fault.Mem = Unit {0}
+abbrev pub IsRefusalOf : List ℕ → FileFault → LoadFault → Type 0
+IsRefusalOf name (at.At line number) (fault.Spelled file l n) = (file ≡ name) × ((l ≡ line) × (n ≡ number))
+IsRefusalOf name (at.At line number) (fault.Read file) = ⊥
+IsRefusalOf name (at.At line number) fault.Mem = Unit {0}
+IsRefusalOf name at.Mem (fault.Spelled file l n) = ⊥
+IsRefusalOf name at.Mem (fault.Read file) = ⊥
+IsRefusalOf name at.Mem fault.Mem = Unit {0}

@@ -1,7 +1,7 @@
 -- What the filter files of a set give: their filters and the notes on jobs, or the first fault.
 use Rattle.std.specs.Prelude.{ℕ, List, [], ◌∷◌, ◌++◌, map, Option, Result, Ok, Err, codes}
 use Rattle.px_text.specs.declared.lines.Line.{Line}
-use Rattle.px_action_files.specs.Faults.{Refused, and_then, refused, result_map}
+use Rattle.px_action_files.specs.Faults.{Refused, and_then, refused}
 use Rattle.px_action_files.specs.declared.faults.FileFault.{FileFault}
 use Rattle.px_action_files.specs.declared.faults.FileFault.TheVariants as at
 use Rattle.px_filter_files.specs.FilterFiles.{file_of}
@@ -13,6 +13,7 @@ use Rattle.px_config.specs.declared.settings.Note.{Note}
 use Rattle.px_config.specs.Faults.{Fault, at_file}
 use Rattle.px_config.specs.Parts.{file_lines}
 use Rattle.px_config.specs.Sets.{Item}
+use Rattle.px_base.specs.Results.{result_map}
 
 -- the filters of lines, or their first refusal
 abbrev pub filters_or : Result FilterFile FilterFault → Result FilterFile Refused

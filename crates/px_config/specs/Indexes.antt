@@ -22,9 +22,9 @@ abbrev pub HasContents : {Y : Type 0} → List Item → BTreeMap (Vec ℕ Y) (Bo
 HasContents items map = (name : List ℕ) → content_at map name ≡ content_in items name
 
 -- whether a set of names has a name
-abbrev pub has_name : {Y : Type 0} → BTreeSet (Vec ℕ Y) → List ℕ → Bool
-has_name names name = contains_by (λ k. slice_cmp nat_cmp name k.items) names
+abbrev pub names_hold : {Y : Type 0} → BTreeSet (Vec ℕ Y) → List ℕ → Bool
+names_hold names name = contains_by (λ k. slice_cmp nat_cmp name k.items) names
 
 -- the set has the names of the items
 abbrev pub HasNames : {Y : Type 0} → List Item → BTreeSet (Vec ℕ Y) → Type 0
-HasNames items names = (name : List ℕ) → has_name names name ≡ is_in items name
+HasNames items names = (name : List ℕ) → names_hold names name ≡ is_in items name

@@ -8,7 +8,7 @@ use Rattle.px_config.specs.declared.main_files.Named.{Named}
 use Rattle.px_config.specs.declared.names.Places.{Places}
 use Rattle.px_config.specs.declared.names.TheConstants.{FILES_OF_A_KIND}
 use Rattle.px_config.specs.Directives.{value_given, with_value}
-use Rattle.px_config.specs.Names.{folder_of, joined, or_else, places_of}
+use Rattle.px_config.specs.Names.{folder_of, joined_path, or_else, places_of}
 
 -- ---- the lines that name files and folders
 
@@ -32,7 +32,7 @@ places_with main n =
       action_files = take FILES_OF_A_KIND n.action_files;
       filter_files = take FILES_OF_A_KIND n.filter_files;
       confdir = folder;
-      templdir = unwrap_or n.templdir (joined folder (codes "templates"));
+      templdir = unwrap_or n.templdir (joined_path folder (codes "templates"));
     }
 
 -- ---- the main file

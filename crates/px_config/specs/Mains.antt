@@ -4,14 +4,14 @@ use Rattle.std.specs.List.{find, list_any}
 use Rattle.std.specs.Str.{bytes_eq, is_utf8}
 use Rattle.px_base.specs.Numbers.{decimal}
 use Rattle.px_text.specs.declared.lines.Line.{Line}
-use Rattle.px_action_files.specs.Faults.{Refused, and_then, refused, result_map}
-use Rattle.px_decide.specs.Forwards.{Line as ForwardLine, forward_line, number_of, socks_line}
+use Rattle.px_action_files.specs.Faults.{Refused, and_then, refused}
+use Rattle.px_decide.specs.Forwards.{Line as ForwardLine, forward_line, forward_fault_number, socks_line}
 use Rattle.px_decide.specs.declared.faults.ForwardFault.{ForwardFault}
 use Rattle.px_decide.specs.declared.faults.ForwardFault.TheVariants as forwarding
 use Rattle.px_action_files.specs.declared.faults.FileFault.{FileFault}
 use Rattle.px_action_files.specs.declared.faults.FileFault.TheVariants as at
 use Rattle.px_config.specs.Addresses.{AddressSeen, address_of}
-use Rattle.px_config.specs.Directives.{is_named, name_in, value_in}
+use Rattle.px_config.specs.Directives.{name_in, value_in}
 use Rattle.px_config.specs.declared.directives.Directive.{Directive}
 use Rattle.px_config.specs.declared.directives.Directive.TheVariants as directive
 use Rattle.px_config.specs.declared.directives.TheConstants.{DIRECTIVES}
@@ -22,6 +22,8 @@ use Rattle.px_config.specs.declared.names.TheConstants.{FILES_OF_A_KIND}
 use Rattle.px_config.specs.declared.settings.MainParts.{MainParts}
 use Rattle.px_config.specs.declared.settings.Note.{Note}
 use Rattle.px_config.specs.declared.settings.Settings.{Settings}
+use Rattle.px_action_files.specs.Files.{is_named}
+use Rattle.px_base.specs.Results.{result_map}
 
 -- ---- what a line does
 
@@ -83,7 +85,7 @@ seen_fault line forwarding.Mem = at.Mem
 -- each line of either kind adds a forward line
 abbrev pub with_forward : ℕ → Main → Result ForwardLine ForwardFault → Result Main Refused
 with_forward line m (Ok forward) = Ok (record m { forwards = m.forwards ++ forward ∷ [] })
-with_forward line m (Err fault) = refused line (number_of fault)
+with_forward line m (Err fault) = refused line (forward_fault_number fault)
 
 -- a forward line of a kind
 abbrev pub adds_forward : (List ℕ → Result ForwardLine ForwardFault) → ℕ → Main → List ℕ → Result Main Refused
@@ -185,5 +187,5 @@ settings_of m = record {
 }
 
 -- what the main file gives
-abbrev pub parts_of : Main → MainParts
-parts_of m = record { settings = settings_of m; forwards = m.forwards; notes = m.notes }
+abbrev pub main_parts : Main → MainParts
+main_parts m = record { settings = settings_of m; forwards = m.forwards; notes = m.notes }

@@ -8,19 +8,19 @@ use Rattle.px_config.specs.declared.names.TheConstants.{SLASH, FILES_OF_A_KIND}
 use Rattle.px_config.specs.Directives.{last_value, values_of}
 
 -- one byte more in front of a folder; without a folder, the empty one where the byte is a slash
-abbrev pub in_front : ℕ → Option (List ℕ) → Option (List ℕ)
-in_front b (Some folder) = Some (b ∷ folder)
-in_front b None = if b == SLASH then Some [] else None
+abbrev pub in_front_of_folder : ℕ → Option (List ℕ) → Option (List ℕ)
+in_front_of_folder b (Some folder) = Some (b ∷ folder)
+in_front_of_folder b None = if b == SLASH then Some [] else None
 
 -- the folder in which a file stands: the text before the last slash of its name, if there is one
 unfoldable pub folder_of : List ℕ → Option (List ℕ)
 folder_of [] = None
-folder_of (b ∷ name) = in_front b (folder_of name)
+folder_of (b ∷ name) = in_front_of_folder b (folder_of name)
 
 -- a folder and a name are joined by a slash; without a folder a name stands by itself
-abbrev pub joined : Option (List ℕ) → List ℕ → List ℕ
-joined None name = name
-joined (Some folder) name = folder ++ SLASH ∷ name
+abbrev pub joined_path : Option (List ℕ) → List ℕ → List ℕ
+joined_path None name = name
+joined_path (Some folder) name = folder ++ SLASH ∷ name
 
 abbrev pub is_rooted : List ℕ → Bool
 is_rooted [] = false
@@ -28,7 +28,7 @@ is_rooted (b ∷ name) = b == SLASH
 
 -- the name of a file as it is read: one that begins with a slash is used as written, any other stands in the folder
 abbrev pub full_name : Option (List ℕ) → List ℕ → List ℕ
-full_name folder name = if is_rooted name then name else joined folder name
+full_name folder name = if is_rooted name then name else joined_path folder name
 
 abbrev pub or_else : Option (List ℕ) → Option (List ℕ) → Option (List ℕ)
 or_else None other = other
@@ -40,7 +40,7 @@ confdir main lines = or_else (last_value (codes "confdir") lines) (folder_of mai
 
 -- where templates and images stand: the last templdir, or `templates` in confdir
 unfoldable pub templdir : List ℕ → List Line → List ℕ
-templdir main lines = unwrap_or (last_value (codes "templdir") lines) (joined (confdir main lines) (codes "templates"))
+templdir main lines = unwrap_or (last_value (codes "templdir") lines) (joined_path (confdir main lines) (codes "templates"))
 
 -- the names of the action files and of the filter files; more than sixteen of a kind are refused, and aren't read
 unfoldable pub action_names : List Line → List (List ℕ)

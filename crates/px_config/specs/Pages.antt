@@ -44,8 +44,8 @@ text_or built None = built
 text_or built (Some bytes) = bytes
 
 -- the text of a page's template: of its file, or the built-in one where that is missing
-abbrev pub page_text : List Item → List ℕ → Page → List ℕ
-page_text items folder page = text_or (built_in page) (text_in items folder (page_name page))
+abbrev pub template_text : List Item → List ℕ → Page → List ℕ
+template_text items folder page = text_or (built_in page) (text_in items folder (page_name page))
 
 -- the text that a name includes, with the name; one that isn't UTF-8 or has a slash is missing
 abbrev pub include_of : List Item → List ℕ → List ℕ → Option (List ℕ × List ℕ)
@@ -69,7 +69,7 @@ unfoldable pub template_of : List Item → List ℕ → List ℕ → Result (Lis
 template_of items folder bytes = template_with (includes_of items folder (included_names bytes)) bytes
 
 abbrev pub page_of : List Item → List ℕ → Page → Result (List Piece) Fault
-page_of items folder page = at_file (page_name page) (template_of items folder (page_text items folder page))
+page_of items folder page = at_file (page_name page) (template_of items folder (template_text items folder page))
 
 -- the templates of pages behind others, or the first fault
 unfoldable pub pages_of : List Item → List ℕ → List (List Piece) → List Page → Result (List (List Piece)) Fault

@@ -3,7 +3,7 @@ use Rattle.std.specs.Prelude.{ℕ, List, Option, Some, None, Result, Ok}
 use Rattle.px_base.specs.declared.files.Content.{Content}
 use Rattle.px_base.specs.declared.files.Content.TheVariants as content
 use Rattle.px_text.specs.declared.lines.Line.{Line}
-use Rattle.px_text.specs.Faults.{first_fault}
+use Rattle.px_text.specs.Faults.{first_text_fault}
 use Rattle.px_text.specs.Lines.{logical}
 use Rattle.px_text.specs.declared.faults.TextFault.{TextFault}
 use Rattle.px_text.specs.declared.faults.TextFault.TheVariants as text
@@ -24,7 +24,7 @@ lines_or (Some text.Mem) lines = Ok lines
 unfoldable pub content_lines : Content → Result (List Line) Refused
 content_lines content.Missing = refused 0 32
 content_lines content.Over = refused 0 31
-content_lines (content.Found bytes) = lines_or (first_fault bytes) (logical bytes)
+content_lines (content.Found bytes) = lines_or (first_text_fault bytes) (logical bytes)
 
 abbrev pub file_lines : List Item → Option (List ℕ) → List ℕ → Result (List Line) Refused
 file_lines items folder name = content_lines (content_in items (full_name folder name))

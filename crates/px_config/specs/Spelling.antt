@@ -1,7 +1,7 @@
 -- What a set of files stands for: a configuration, or its first fault.
 use Rattle.std.specs.Prelude.{ℕ, ◌+◌, Bool, List, [], ◌∷◌, ◌++◌, length, map, Option, Some, None, option_map, Result, Ok, Err, codes}
 use Rattle.px_text.specs.declared.lines.Line.{Line}
-use Rattle.px_action_files.specs.Faults.{and_then, result_map}
+use Rattle.px_action_files.specs.Faults.{and_then}
 use Rattle.px_action_files.specs.Meanings.{SectionSeen, seen_section}
 use Rattle.px_decide.specs.Forwards.{Line as ForwardLine}
 use Rattle.px_filter_files.specs.FilterFiles.{FiltersOfFiles, filters_of_all}
@@ -15,7 +15,7 @@ use Rattle.px_config.specs.declared.sets.FileSet.{FileSet}
 use Rattle.px_config.specs.declared.settings.Note.{Note}
 use Rattle.px_config.specs.declared.settings.Settings.{Settings}
 use Rattle.px_config.specs.Faults.{Fault, at_file}
-use Rattle.px_config.specs.Mains.{main_of, parts_of}
+use Rattle.px_config.specs.Mains.{main_of, main_parts}
 use Rattle.px_config.specs.Names.{places_of, template_names}
 use Rattle.px_config.specs.Actions.{ActionsGiven, ActionsSeen, action_files, no_actions}
 use Rattle.px_config.specs.Filters.{filter_files}
@@ -25,6 +25,7 @@ use Rattle.px_config.specs.Sets.{Item, all_included}
 use Rattle.px_config.specs.declared.filters.FilterFiles.{FilterFiles}
 use Rattle.px_config.specs.declared.names.Places.{Places}
 use Rattle.px_config.specs.declared.settings.MainParts.{MainParts}
+use Rattle.px_base.specs.Results.{result_map}
 
 -- ---- what a configuration is
 
@@ -105,7 +106,7 @@ behind_main set places parts = and_then (action_files set.items places.confdir p
 
 -- 2. the lines of the main file
 unfoldable pub behind_lines : FileSet → List Line → Result ConfigSeen Fault
-behind_lines set lines = and_then (at_file set.main (main_of set.main lines)) (λ m. behind_main set (places_of set.main lines) (parts_of m))
+behind_lines set lines = and_then (at_file set.main (main_of set.main lines)) (λ m. behind_main set (places_of set.main lines) (main_parts m))
 
 -- the configuration for which a set stands, or the first fault: 1. the main file and its lines
 unfoldable pub spelled : FileSet → Result ConfigSeen Fault

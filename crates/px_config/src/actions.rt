@@ -2,7 +2,7 @@
 ghost use Rattle.std.specs.Prelude.{◌≡◌, All, Ok, IfErr, IfOk, OnOk, map, option_copied};
 ghost use Rattle.px_action_files.specs.Faults.{IsReported};
 ghost use Rattle.px_action_files.specs.Meanings.{seen_section};
-ghost use Rattle.px_config.specs.Actions.{action_files, file_actions, no_actions, patterns_in, sections_of, seen_actions, with_actions, with_sections};
+ghost use Rattle.px_config.specs.Actions.{action_files, file_actions, no_actions, pattern_total, limited_sections, seen_actions, with_actions, with_sections};
 ghost use Rattle.px_config.specs.Faults.{IsFault};
 ghost use Rattle.px_config.specs.Sets.{FitsItem};
 
@@ -22,7 +22,7 @@ pub(crate) struct ActionFiles {
 
 /// How many patterns stand in sections.
 fn patterns_in(sections: &[Section]) -> Result<usize, Mem>
-    ensures { IfOk result (λ count. count ≡ patterns_in (map seen_section sections.now)) }
+    ensures { IfOk result (λ count. count ≡ pattern_total (map seen_section sections.now)) }
 {
     let mut count = 0usize;
     let mut rest = sections;
@@ -37,15 +37,15 @@ fn patterns_in(sections: &[Section]) -> Result<usize, Mem>
 }
 
 /// The sections of lines, where all files may have so many patterns, and files before them have some.
-#[tactic(auto, unfolding(crate::specs::Actions::sections_of), using(crate::proofs::FaultLemmas::within_rules))]
+#[tactic(auto, unfolding(crate::specs::Actions::limited_sections), using(crate::proofs::FaultLemmas::within_rules))]
 fn read_sections(
     alloc: Global,
     lines: &[Line],
     limit: usize,
     so_far: usize,
 ) -> Result<ActionFile, FileFault>
-    ensures sections { IfOk result (λ file. sections_of limit so_far lines.now ≡ Ok (map seen_section file.sections)) }
-    ensures refused { IfErr result (IsReported (sections_of limit so_far lines.now)) }
+    ensures sections { IfOk result (λ file. limited_sections limit so_far lines.now ≡ Ok (map seen_section file.sections)) }
+    ensures refused { IfErr result (IsReported (limited_sections limit so_far lines.now)) }
 {
     let file = match ActionFile::read(alloc, lines) {
         Ok(file) => file,

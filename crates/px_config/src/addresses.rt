@@ -1,9 +1,9 @@
 // Where connections are taken.
 ghost use Rattle.std.specs.Prelude.{◌≡◌};
 ghost use Rattle.std.specs.List.{slice_split};
-ghost use Rattle.px_action_files.specs.Faults.{result_map};
-ghost use Rattle.px_config.specs.Addresses.{address_of, are_numbers, are_small, bracketed, by_name, is_dot, is_local_address, is_local_name, is_small, port_behind, with_port};
+ghost use Rattle.px_config.specs.Addresses.{address_of, are_numbers, are_small, bracketed_address, address_by_name, is_dot, is_local_address, is_local_name, is_small, address_port, address_with_port};
 ghost use Rattle.px_config.specs.Seen.{seen_host};
+ghost use Rattle.px_base.specs.Results.{result_map};
 
 use crate::faults::{BAD_VALUE, NOT_LOOPBACK};
 use px_base::{cut, place, read_decimal, read_port};
@@ -42,7 +42,7 @@ pub(crate) fn read_address(value: &[u8]) -> Result<HostPort<'_>, u8>
 
 /// The address of what stands behind an opening bracket.
 fn bracketed(text: &[u8]) -> Result<HostPort<'_>, u8>
-    ensures { result_map seen_host result ≡ bracketed text.now }
+    ensures { result_map seen_host result ≡ bracketed_address text.now }
 {
     match place(text, b']') {
         Some(at) => {
@@ -55,7 +55,7 @@ fn bracketed(text: &[u8]) -> Result<HostPort<'_>, u8>
 
 /// The address of a host that goes to the first colon.
 fn by_name(text: &[u8]) -> Result<HostPort<'_>, u8>
-    ensures { result_map seen_host result ≡ by_name text.now }
+    ensures { result_map seen_host result ≡ address_by_name text.now }
 {
     match place(text, b':') {
         Some(at) => {
@@ -68,7 +68,7 @@ fn by_name(text: &[u8]) -> Result<HostPort<'_>, u8>
 
 /// A value of another form is refused before a host that other machines reach.
 fn with_port(host: &[u8], is_local: bool, port: Option<u16>) -> Result<HostPort<'_>, u8>
-    ensures { result_map seen_host result ≡ with_port host.now is_local port }
+    ensures { result_map seen_host result ≡ address_with_port host.now is_local port }
 {
     match port {
         Some(port) => if is_local {
@@ -82,7 +82,7 @@ fn with_port(host: &[u8], is_local: bool, port: Option<u16>) -> Result<HostPort<
 
 /// The port of what stands behind a host: a colon and a port, or nothing.
 fn port_behind(behind: &[u8]) -> Option<u16>
-    ensures { result ≡ port_behind behind.now }
+    ensures { result ≡ address_port behind.now }
 {
     match behind.split_first() {
         Some((first, rest)) => if *first == b':' {

@@ -2,7 +2,7 @@
 ghost use Rattle.std.specs.Prelude.{◌≡◌, All, Ok, IfErr, IfOk, option_copied};
 ghost use Rattle.px_base.specs.Contents.{FitsLimit};
 ghost use Rattle.px_action_files.specs.Faults.{IsReported};
-ghost use Rattle.px_config.specs.Faults.{IsOf};
+ghost use Rattle.px_config.specs.Faults.{IsRefusalOf};
 ghost use Rattle.px_config.specs.Parts.{content_lines, file_lines, seen_text_fault};
 ghost use Rattle.px_config.specs.Sets.{FitsItem};
 
@@ -16,7 +16,7 @@ use std::alloc::Global;
 
 /// A fault in a file, with the file's name.
 pub(crate) fn fault_in(alloc: Global, file: &[u8], fault: FileFault) -> LoadFault
-    ensures { IsOf file.now fault result }
+    ensures { IsRefusalOf file.now fault result }
 {
     match fault {
         FileFault::At { line, number } => match Text::from_bytes(alloc, file) {

@@ -2,9 +2,10 @@
 ghost use Rattle.std.specs.Prelude.{◌≡◌, ◌<◌, length, IfSome, OnOk, option_copied};
 ghost use Rattle.std.specs.List.{position};
 ghost use Rattle.px_base.specs.Blanks.{is_blank};
-ghost use Rattle.px_config.specs.Directives.{name_in, nonempty, value_given, value_in, with_value};
+ghost use Rattle.px_config.specs.Directives.{name_in, value_given, value_in, with_value};
 ghost use Rattle.px_config.specs.Mains.{directive_of, row_of};
 ghost use Rattle.px_config.specs.Names.{or_else};
+ghost use Rattle.px_base.specs.Lists.{nonempty};
 
 use px_base::{List, Mem, Text, is_blank, same_without_case, trim};
 use std::alloc::Global;

@@ -1,7 +1,7 @@
 // The main file, whose lines are read once.
 ghost use Rattle.std.specs.Prelude.{◌≡◌, IfOk, OnOk, codes, option_copied, take, unwrap_or};
 ghost use Rattle.px_config.specs.MainFiles.{nothing_named, places_with, with_named};
-ghost use Rattle.px_config.specs.Names.{folder_of, joined, or_else, places_of};
+ghost use Rattle.px_config.specs.Names.{folder_of, joined_path, or_else, places_of};
 
 use crate::directives::{add_value, keep_value, split_directive};
 use crate::names::{FILES_OF_A_KIND, Places, bytes_of, folder_of, joined};
@@ -121,7 +121,7 @@ fn folder_or(alloc: Global, folder: Option<Text>, main: &[u8]) -> Result<Option<
 
 /// The folder of templates, or `templates` in confdir.
 fn templates_or(alloc: Global, templdir: Option<Text>, confdir: Option<&[u8]>) -> Result<Text, Mem>
-    ensures { IfOk result (λ folder. folder ≡ unwrap_or templdir (joined (option_copied confdir.entry) (codes "templates"))) }
+    ensures { IfOk result (λ folder. folder ≡ unwrap_or templdir (joined_path (option_copied confdir.entry) (codes "templates"))) }
 {
     match templdir {
         Some(folder) => Ok(folder),

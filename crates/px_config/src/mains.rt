@@ -5,7 +5,7 @@ ghost use Rattle.std.specs.List.{list_any};
 ghost use Rattle.std.specs.Str.{bytes_eq};
 ghost use Rattle.px_base.specs.Numbers.{decimal};
 ghost use Rattle.px_decide.specs.Forwards.{forward_line, socks_line};
-ghost use Rattle.px_config.specs.Mains.{address_or, directive_of, main_of, nothing_set, one_more, parts_of, row_of, seen_fault, switch, with_address, with_directive, with_forward, with_line, with_note, adds_forward, adds_tag, listens};
+ghost use Rattle.px_config.specs.Mains.{address_or, directive_of, main_of, nothing_set, one_more, main_parts, row_of, seen_fault, switch, with_address, with_directive, with_forward, with_line, with_note, adds_forward, adds_tag, listens};
 
 use crate::addresses::{DEFAULT_PORT, read_address};
 use crate::directives::{Directive, split_directive};
@@ -184,7 +184,7 @@ impl Main {
 
     /// What the lines give.
     pub(crate) fn into_parts(self, alloc: Global) -> Result<MainParts, Mem>
-        ensures { IfOk result (λ parts. parts ≡ parts_of self) }
+        ensures { IfOk result (λ parts. parts ≡ main_parts self) }
     {
         let Main {
             listen,

@@ -1,7 +1,7 @@
 // Where the files of a configuration stand.
 ghost use Rattle.std.specs.Prelude.{◌≡◌, ◌++◌, ◌∷◌, IfOk, map, option_copied};
 ghost use Rattle.px_templates.specs.Pages.{page_name};
-ghost use Rattle.px_config.specs.Names.{folder_of, full_name, image_names, is_rooted, joined, page_names, template_names};
+ghost use Rattle.px_config.specs.Names.{folder_of, full_name, image_names, is_rooted, joined_path, page_names, template_names};
 
 use px_base::{List, Mem, Text};
 use px_templates::{PAGES, Page};
@@ -87,7 +87,7 @@ pub(crate) fn full_name(alloc: Global, folder: Option<&[u8]>, name: &[u8]) -> Re
 
 /// A folder and a name, joined by a slash.
 pub(crate) fn joined(alloc: Global, folder: Option<&[u8]>, name: &[u8]) -> Result<Text, Mem>
-    ensures { IfOk result (λ full. full ≡ joined (option_copied folder.entry) name.now) }
+    ensures { IfOk result (λ full. full ≡ joined_path (option_copied folder.entry) name.now) }
 {
     let Some(folder) = folder else {
         return Text::from_bytes(alloc, name);

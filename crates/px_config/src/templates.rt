@@ -2,7 +2,7 @@
 ghost use Rattle.std.specs.Prelude.{◌≡◌, [], Ok, Some, IfErr, IfOk, OnOk, length, option_copied};
 ghost use Rattle.px_action_files.specs.Faults.{IsReported};
 ghost use Rattle.px_config.specs.Faults.{IsFault};
-ghost use Rattle.px_config.specs.Pages.{all_fit, found_text, include_of, includes_of, is_over, page_of, page_text, pages_of, seen_template_fault, template_of, text_in};
+ghost use Rattle.px_config.specs.Pages.{all_fit, found_text, include_of, includes_of, is_over, page_of, template_text, pages_of, seen_template_fault, template_of, text_in};
 ghost use Rattle.px_config.specs.Names.{full_name};
 ghost use Rattle.px_config.specs.Sets.{content_in};
 
@@ -202,7 +202,7 @@ fn page_text<'s>(
     folder: &[u8],
     page: Page,
 ) -> Result<&'s [u8], Mem>
-    ensures { IfOk result (λ text. text.now ≡ page_text items.now folder.now page) }
+    ensures { IfOk result (λ text. text.now ≡ template_text items.now folder.now page) }
 {
     match text_in(alloc, items, folder, page.name().as_bytes())? {
         Some(text) => Ok(text),

@@ -4,7 +4,7 @@ ghost use Rattle.std.specs.Prelude.{◌≡◌, IfOk};
 use crate::configs::Config;
 use px_base::Mem;
 use px_filter_files::WarmFilters;
-use px_merge::Warm as WarmSections;
+use px_merge::WarmSections;
 use std::alloc::Global;
 
 /// The sections and the filters of a configuration, with what they keep from search to search. What searches is made at the

@@ -10,10 +10,10 @@ use Rattle.std.proofs.lemmas.Str.Parse.{IsNumeralModel, IsDigitsTest, numerals_b
 use Rattle.px_base.specs.Numbers.{all_digits, is_digit, with_digits}
 use Rattle.px_base.specs.Numbers.{decimal as decimal_of}
 use Rattle.px_base.specs.Ports.{port}
-use Rattle.px_actions.specs.Hops.{NextHop, direct, parent, by_name, bracketed, host_and_port, is_address_byte, is_bracket, is_colon, is_host_byte, is_made_of, next_hop, parent_of, port_behind}
-use Rattle.px_base.specs.DialNames.{Server, begins_with, is_slash}
-use Rattle.px_socks.specs.Printed.{HasNone, IsPrintable, IsReadAs, printed}
-use Rattle.px_decide.specs.Servers.{dial_name, lacks_port, named_server, server_by}
+use Rattle.px_actions.specs.Hops.{NextHop, direct, parent, hop_by_name, bracketed_hop, host_and_port, is_hop_address_byte, is_closing_bracket, is_colon, is_host_byte, is_made_of, next_hop, parent_hop, hop_port}
+use Rattle.px_base.specs.DialNames.{Server, begins_with_byte, is_slash}
+use Rattle.px_socks.specs.Printed.{HasNone, IsPrintable, IsDialNameOf, printed}
+use Rattle.px_decide.specs.Servers.{dial_name, word_lacks_port, named_server, server_by}
 
 -- ---- ports
 
@@ -62,7 +62,7 @@ port_back n is =
     let nonzero : (n == 0) ≡ false = ne_eqb n 0 (λ e. omega arith) in
     rw (value, filled, all, fits, nonzero) refl
 
-port_behind-within : (behind : List ℕ) (p : ℕ) → port_behind behind ≡ Some p → IsPort p
+port_behind-within : (behind : List ℕ) (p : ℕ) → hop_port behind ≡ Some p → IsPort p
 port_behind-within [] p is = let e : 8000 ≡ p = cc is in (omega (arith, e), omega (arith, e))
 port_behind-within (b ∷ rest) p is = by (b == byte ":") is
   where
@@ -87,7 +87,7 @@ digits_none : (ds : List ℕ) → all_digits ds ≡ true → HasNone is_slash ds
 digits_none [] all = tt
 digits_none (d ∷ ds) all = let q = and_parts (is_digit d) (all_digits ds) all in (not_byte is_digit (byte "/") refl d q.0, digits_none ds q.1)
 
-unopened : (host : List ℕ) → HasNone (λ b. b == byte "[") host → begins_with (byte "[") host ≡ false
+unopened : (host : List ℕ) → HasNone (λ b. b == byte "[") host → begins_with_byte (byte "[") host ≡ false
 unopened [] none = refl
 unopened (b ∷ bs) none = none.0
 
@@ -95,7 +95,7 @@ unopened (b ∷ bs) none = none.0
 record IsClean (host : List ℕ) : Type 0 where
   no_slash : HasNone is_slash host
   no_bracket : HasNone (λ b. b == byte "]") host
-  not_opened : begins_with (byte "[") host ≡ false
+  not_opened : begins_with_byte (byte "[") host ≡ false
 
 clean : (p : ℕ → Bool) (host : List ℕ) → p (byte "/") ≡ false → p (byte "]") ≡ false → p (byte "[") ≡ false → list_all p host ≡ true → IsClean host
 clean p host slash bracket opening all = record {
@@ -108,9 +108,9 @@ named_clean : (host : List ℕ) → list_all is_host_byte host ≡ true → IsCl
 unfolding is_host_byte
 named_clean host all = clean is_host_byte host refl refl refl all
 
-address_clean : (host : List ℕ) → list_all is_address_byte host ≡ true → IsClean host
-unfolding is_address_byte
-address_clean host all = clean is_address_byte host refl refl refl all
+address_clean : (host : List ℕ) → list_all is_hop_address_byte host ≡ true → IsClean host
+unfolding is_hop_address_byte
+address_clean host all = clean is_hop_address_byte host refl refl refl all
 
 -- ---- words
 
@@ -120,28 +120,28 @@ IsGood word direct = word ≡ codes "."
 IsGood word (parent host p) = IsClean host × IsPort p
 
 parent_good : (word : List ℕ) (p : ℕ → Bool) (host behind : List ℕ) (hop : NextHop) → ((bs : List ℕ) → list_all p bs ≡ true → IsClean bs) →
-    parent_of p host behind ≡ Some hop → IsGood word hop
-parent_good word p host behind hop cleans is = by (is_made_of p host) refl (port_behind behind) refl is
+    parent_hop p host behind ≡ Some hop → IsGood word hop
+parent_good word p host behind hop cleans is = by (is_made_of p host) refl (hop_port behind) refl is
   where
-    by : (b : Bool) → is_made_of p host ≡ b → (o : Option ℕ) → port_behind behind ≡ o → (if b then option_map (λ q. parent host q) o else None) ≡ Some hop → IsGood word hop
+    by : (b : Bool) → is_made_of p host ≡ b → (o : Option ℕ) → hop_port behind ≡ o → (if b then option_map (λ q. parent host q) o else None) ≡ Some hop → IsGood word hop
     by false made o behind_is is = absurd (cc is)
     by true made None behind_is is = absurd (cc is)
     by true made (Some q) behind_is is =
         let e : parent host q ≡ hop = cc is in
         subst (IsGood word) e (cleans host (and_parts (not (length host == 0)) (list_all p host) made).1, port_behind-within behind q behind_is)
 
-bracketed_good : (word text : List ℕ) (hop : NextHop) → bracketed text ≡ Some hop → IsGood word hop
-bracketed_good word text hop is = by (nat_lt (position_or_len is_bracket text) (length text)) is
+bracketed_good : (word text : List ℕ) (hop : NextHop) → bracketed_hop text ≡ Some hop → IsGood word hop
+bracketed_good word text hop is = by (nat_lt (position_or_len is_closing_bracket text) (length text)) is
   where
-    by : (b : Bool) → (if b then parent_of is_address_byte (before_first is_bracket text) (after_first is_bracket text) else None) ≡ Some hop → IsGood word hop
+    by : (b : Bool) → (if b then parent_hop is_hop_address_byte (before_first is_closing_bracket text) (after_first is_closing_bracket text) else None) ≡ Some hop → IsGood word hop
     by false is = absurd (cc is)
-    by true is = parent_good word is_address_byte (before_first is_bracket text) (after_first is_bracket text) hop address_clean is
+    by true is = parent_good word is_hop_address_byte (before_first is_closing_bracket text) (after_first is_closing_bracket text) hop address_clean is
 
 authority_good : (word text : List ℕ) (hop : NextHop) → host_and_port text ≡ Some hop → IsGood word hop
 authority_good word [] hop is = absurd (cc is)
 authority_good word (b ∷ rest) hop is = by (b == byte "[") is
   where
-    by : (c : Bool) → (if c then bracketed rest else by_name (b ∷ rest)) ≡ Some hop → IsGood word hop
+    by : (c : Bool) → (if c then bracketed_hop rest else hop_by_name (b ∷ rest)) ≡ Some hop → IsGood word hop
     by true is = bracketed_good word rest hop is
     by false is = parent_good word is_host_byte (before_first is_colon (b ∷ rest)) (drop (position_or_len is_colon (b ∷ rest)) (b ∷ rest)) hop named_clean is
 
@@ -164,7 +164,7 @@ dot_clean word is = subst IsClean (sym is) record { no_slash = (refl, tt); no_br
 
 server_good : (word : List ℕ) (hop : NextHop) → IsGood word hop → IsGoodServer (server_by word hop)
 server_good word direct is = record { host = dot_clean word is; port = (omega arith, omega arith) }
-server_good word (parent host p) is = record { host = is.0; port = by (lacks_port word host) }
+server_good word (parent host p) is = record { host = is.0; port = by (word_lacks_port word host) }
   where
     by : (b : Bool) → IsPort (if b then 1080 else p)
     by true = (omega arith, omega arith)
@@ -178,8 +178,8 @@ named_good word s is = by (next_hop word) refl is
     by None hop_is is = absurd (cc is)
     by (Some hop) hop_is is = let e : server_by word hop ≡ s = cc is in subst IsGoodServer e (server_good word hop (hop_good word hop hop_is))
 
-pub is_read : ((host digits target : List ℕ) (p : ℕ) → IsPrintable host digits → port digits ≡ Some p → IsReadAs (printed host digits target) host p target) →
-    (word target : List ℕ) (s : Server) → named_server word ≡ Some s → IsReadAs (dial_name s target) s.host s.port target
+pub is_read : ((host digits target : List ℕ) (p : ℕ) → IsPrintable host digits → port digits ≡ Some p → IsDialNameOf (printed host digits target) host p target) →
+    (word target : List ℕ) (s : Server) → named_server word ≡ Some s → IsDialNameOf (dial_name s target) s.host s.port target
 is_read law word target s is =
     let good = named_good word s is in
     let fits = good.port.1 in

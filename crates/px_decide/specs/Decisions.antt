@@ -10,7 +10,7 @@ use Rattle.px_actions.specs.declared.settings.Setting.{Setting}
 use Rattle.px_subst.specs.declared.words.Vars.{Vars}
 use Rattle.px_decide.specs.declared.decisions.Decision.{Decision}
 use Rattle.px_decide.specs.declared.decisions.Decision.TheVariants as decision
-use Rattle.px_decide.specs.Targets.{target_of, target_text}
+use Rattle.px_decide.specs.Targets.{target_of_redirects, target_text}
 
 -- what a blocked image becomes: one of two images, or a redirect to the value
 abbrev pub image_decision : List ℕ → Decision
@@ -39,7 +39,7 @@ tunnel_decision set port = if may_connect set port then decision.Pass else decis
 
 -- what becomes of any other request that isn't blocked
 abbrev pub redirect_decision : Url → List Setting → Vars → Decision
-redirect_decision url set vars = option_map_or (λ target. decision.Redirect (target_text target)) (target_of url set vars) decision.Pass
+redirect_decision url set vars = option_map_or (λ target. decision.Redirect (target_text target)) (target_of_redirects url set vars) decision.Pass
 
 -- block comes first, then what concerns tunnels alone, then redirects
 unfoldable pub decision_of : Url → Bool → List Setting → Vars → Decision

@@ -23,12 +23,12 @@ abbrev pub is_word : List ℕ → Bool
 is_word text = not (length text == 0 || list_any is_blank text)
 
 -- what stands before the first white space of a text, and what stands behind it without white space around that
-abbrev pub parted : List ℕ → List ℕ × List ℕ
-parted text = (before_first is_blank text, trimmed (after_first is_blank text))
+abbrev pub parted_text : List ℕ → List ℕ × List ℕ
+parted_text text = (before_first is_blank text, trimmed (after_first is_blank text))
 
 -- the first word of a value, and what stands behind it
 unfoldable pub first_word : List ℕ → List ℕ × List ℕ
-first_word value = parted (drop (prefix_len is_blank value) value)
+first_word value = parted_text (drop (prefix_len is_blank value) value)
 
 -- a word, and what stands behind it where that is one word too
 abbrev pub two : List ℕ × List ℕ → Option (List ℕ × List ℕ)
@@ -36,7 +36,7 @@ two words = if is_word words.1 then Some words else None
 
 -- the two words of a text without white space at its front
 abbrev pub words_of : List ℕ → Option (List ℕ × List ℕ)
-words_of text = two (parted text)
+words_of text = two (parted_text text)
 
 -- the two words of a value, if it has just two
 unfoldable pub two_words : List ℕ → Option (List ℕ × List ℕ)
@@ -82,10 +82,10 @@ abbrev pub has_socks : List Line → Bool
 has_socks lines = list_any (λ (line : Line). is_some line.server) lines
 
 -- the number under which a refusal is printed
-abbrev pub number_of : ForwardFault → ℕ
-number_of fault.Bad = 29
-number_of (fault.Pattern number) = number
-number_of fault.Mem = 0
+abbrev pub forward_fault_number : ForwardFault → ℕ
+forward_fault_number fault.Bad = 29
+forward_fault_number (fault.Pattern number) = number
+forward_fault_number fault.Mem = 0
 
 -- the refusal is the value's, or want of memory, which has no cause there
 abbrev pub IsForwardRefusal : Result Line ForwardFault → ForwardFault → Type 0

@@ -35,8 +35,8 @@ leading_away printed target = if length target == 0 || bytes_eq target printed t
 -- ---- redirect
 
 -- a value is a job where it is `s` and a byte that isn't a letter or a digit
-abbrev pub is_job : List ℕ → Bool
-is_job value = (slice_index value 0 == byte "s" && nat_lt 1 (length value)) && not (is_ascii_alphanumeric (slice_index value 1))
+abbrev pub is_job_value : List ℕ → Bool
+is_job_value value = (slice_index value 0 == byte "s" && nat_lt 1 (length value)) && not (is_ascii_alphanumeric (slice_index value 1))
 
 -- what a job makes of the printed URL; one that isn't read, or that hits nothing, gives nothing
 abbrev pub job_target : Vars → List ℕ → Result JobParts JobFault → Option (List ℕ)
@@ -45,7 +45,7 @@ job_target vars printed (Err fault) = None
 
 -- a value that isn't a job is the target itself
 unfoldable pub value_target : Vars → List ℕ → List ℕ → Option (List ℕ)
-value_target vars printed value = if is_job value then job_target vars printed (job_of value) else Some value
+value_target vars printed value = if is_job_value value then job_target vars printed (job_of value) else Some value
 
 -- ---- fast-redirects
 
@@ -71,5 +71,5 @@ abbrev pub fast_target : List ℕ → List ℕ → List Setting → Option (List
 fast_target printed path set = option_and_then (λ mode. option_and_then (leading_away printed) (last_url (searched_path mode path))) (value set FastRedirects)
 
 -- the target of `redirect`, or else of `fast-redirects`, if there is one
-unfoldable pub target_of : Url → List Setting → Vars → Option (List ℕ)
-target_of url set vars = option_or (redirect_target (shown_url url) set vars) (fast_target (shown_url url) url.path set)
+unfoldable pub target_of_redirects : Url → List Setting → Vars → Option (List ℕ)
+target_of_redirects url set vars = option_or (redirect_target (shown_url url) set vars) (fast_target (shown_url url) url.path set)

@@ -16,12 +16,12 @@ pub enum ForwardFault {
 }
 
 impl ForwardFault {
-    ghost use Rattle.px_decide.specs.Forwards.{number_of};
+    ghost use Rattle.px_decide.specs.Forwards.{forward_fault_number};
 
     /// The number under which the refusal is printed; `Bad` is a bad value of a directive. Want of memory has none.
     pub fn number(self) -> u8
         requires { self ≢ ForwardFault.Mem }
-        ensures { result ≡ number_of self }
+        ensures { result ≡ forward_fault_number self }
     {
         match self {
             ForwardFault::Bad => 29,

@@ -4,7 +4,7 @@ ghost use Rattle.std.specs.List.{list_any};
 ghost use Rattle.px_patterns.specs.Patterns.{url_pattern};
 ghost use Rattle.px_actions.specs.Hops.{next_hop, seen_hop};
 ghost use Rattle.px_decide.specs.Forwards.{AddsLine, IsForwardRefusal, forward_line, has_socks, socks_line, with_hop, with_pattern, with_server};
-ghost use Rattle.px_decide.specs.Lines.{fault_of, keeps_server, line_of, next_of};
+ghost use Rattle.px_decide.specs.Lines.{forward_fault_of, keeps_server, forward_line_of, next_of};
 ghost use Rattle.px_decide.specs.Servers.{kept_server, named_server};
 
 use crate::faults::ForwardFault;
@@ -18,7 +18,7 @@ use std::marker::Model;
 
 /// Where a line sends requests.
 #[derive(Drop)]
-pub(crate) enum Next {
+pub(crate) enum ForwardNext {
     /// To the origin itself.
     Direct,
     /// To a parent.
@@ -31,7 +31,7 @@ pub(crate) struct ForwardLine {
     pub(crate) pattern: UrlPattern,
     /// The SOCKS server through which requests are sent, if they are sent through one.
     pub(crate) server: Option<KeptServer>,
-    pub(crate) next: Next,
+    pub(crate) next: ForwardNext,
 }
 
 /// Forward lines of both kinds, seen as the list of them.
@@ -44,11 +44,11 @@ pub struct Forwards {
 impl Model for Forwards {
     ghost use Rattle.std.specs.Prelude.{List, map};
     ghost use Rattle.px_decide.specs.Forwards.{Line};
-    ghost use Rattle.px_decide.specs.Lines.{line_of};
+    ghost use Rattle.px_decide.specs.Lines.{forward_line_of};
 
     ghost Value = { List Line };
 
-    ghost view = { λ f. map line_of f.lines };
+    ghost view = { λ f. map forward_line_of f.lines };
 }
 
 impl Forwards {
@@ -96,7 +96,7 @@ impl Forwards {
     }
 
     pub(crate) fn lines(&self) -> &[ForwardLine]
-        ensures { map line_of result.now ≡ self.now }
+        ensures { map forward_line_of result.now ≡ self.now }
     {
         self.lines.as_slice()
     }
@@ -110,14 +110,14 @@ fn any_server(lines: &[ForwardLine]) -> bool
 
 #[tactic(auto, using(crate::proofs::ServerLemmas::servers))]
 fn have_socks(lines: &[ForwardLine]) -> bool
-    ensures { result ≡ has_socks (map line_of lines.now) }
+    ensures { result ≡ has_socks (map forward_line_of lines.now) }
 {
     any_server(lines)
 }
 
 #[tactic(auto, unfolding(crate::specs::Forwards::forward_line))]
 fn read_line(alloc: Global, value: &str) -> Result<ForwardLine, ForwardFault>
-    ensures line { IfOk result (λ line. forward_line value.now ≡ Ok (line_of line)) }
+    ensures line { IfOk result (λ line. forward_line value.now ≡ Ok (forward_line_of line)) }
     ensures refused { IfErr result (IsForwardRefusal (forward_line value.now)) }
 {
     match two_words(value) {
@@ -128,7 +128,7 @@ fn read_line(alloc: Global, value: &str) -> Result<ForwardLine, ForwardFault>
 
 /// The line of two words.
 fn read_words(alloc: Global, pattern: &str, parent: &[u8]) -> Result<ForwardLine, ForwardFault>
-    ensures line { IfOk result (λ line. with_hop None pattern.now (next_hop parent.now) ≡ Ok (line_of line)) }
+    ensures line { IfOk result (λ line. with_hop None pattern.now (next_hop parent.now) ≡ Ok (forward_line_of line)) }
     ensures refused { IfErr result (IsForwardRefusal (with_hop None pattern.now (next_hop parent.now))) }
 {
     match read_hop(parent) {
@@ -139,7 +139,7 @@ fn read_words(alloc: Global, pattern: &str, parent: &[u8]) -> Result<ForwardLine
 
 #[tactic(auto, unfolding(crate::specs::Forwards::socks_line))]
 fn read_socks_line(alloc: Global, value: &str) -> Result<ForwardLine, ForwardFault>
-    ensures line { IfOk result (λ line. socks_line value.now ≡ Ok (line_of line)) }
+    ensures line { IfOk result (λ line. socks_line value.now ≡ Ok (forward_line_of line)) }
     ensures refused { IfErr result (IsForwardRefusal (socks_line value.now)) }
 {
     match three_words(value) {
@@ -155,7 +155,7 @@ fn read_socks_words(
     server: &[u8],
     parent: &[u8],
 ) -> Result<ForwardLine, ForwardFault>
-    ensures line { IfOk result (λ line. with_server pattern.now parent.now (named_server server.now) ≡ Ok (line_of line)) }
+    ensures line { IfOk result (λ line. with_server pattern.now parent.now (named_server server.now) ≡ Ok (forward_line_of line)) }
     ensures refused { IfErr result (IsForwardRefusal (with_server pattern.now parent.now (named_server server.now))) }
 {
     match read_server(server) {
@@ -172,7 +172,7 @@ fn line_through(
     port: u16,
     parent: &[u8],
 ) -> Result<ForwardLine, ForwardFault>
-    ensures line { IfOk result (λ line. with_hop (Some (record { host = host.now; port = port })) pattern.now (next_hop parent.now) ≡ Ok (line_of line)) }
+    ensures line { IfOk result (λ line. with_hop (Some (record { host = host.now; port = port })) pattern.now (next_hop parent.now) ≡ Ok (forward_line_of line)) }
     ensures refused { IfErr result (IsForwardRefusal (with_hop (Some (record { host = host.now; port = port })) pattern.now (next_hop parent.now))) }
 {
     match read_hop(parent) {
@@ -191,14 +191,14 @@ fn line_with(
     server: Option<KeptServer>,
     hop: Hop,
 ) -> Result<ForwardLine, ForwardFault>
-    ensures line { IfOk result (λ line. with_pattern (option_map kept_server server) (seen_hop hop.entry) (url_pattern pattern.now) ≡ Ok (line_of line)) }
+    ensures line { IfOk result (λ line. with_pattern (option_map kept_server server) (seen_hop hop.entry) (url_pattern pattern.now) ≡ Ok (forward_line_of line)) }
     ensures refused { IfErr result (IsForwardRefusal (with_pattern (option_map kept_server server) (seen_hop hop.entry) (url_pattern pattern.now))) }
 {
     match UrlPattern::read(alloc, pattern) {
         Ok(pattern) => Ok(ForwardLine {
             pattern,
             server,
-            next: Next::of(alloc, hop)?,
+            next: ForwardNext::of(alloc, hop)?,
         }),
         Err(fault) => Err(pattern_fault(fault)),
     }
@@ -206,7 +206,7 @@ fn line_with(
 
 /// The refusal of a line whose pattern is refused so.
 fn pattern_fault(fault: PatternFault) -> ForwardFault
-    ensures { result ≡ fault_of fault }
+    ensures { result ≡ forward_fault_of fault }
 {
     match fault {
         PatternFault::HasProtocol => ForwardFault::Pattern(fault.number()),
@@ -219,13 +219,13 @@ fn pattern_fault(fault: PatternFault) -> ForwardFault
     }
 }
 
-impl Next {
-    fn of(alloc: Global, hop: Hop) -> Result<Next, Mem>
+impl ForwardNext {
+    fn of(alloc: Global, hop: Hop) -> Result<ForwardNext, Mem>
         ensures { IfOk result (λ next. next_of next ≡ seen_hop hop.entry) }
     {
         match hop {
-            Hop::Direct => Ok(Next::Direct),
-            Hop::Parent { host, port } => Ok(Next::Parent {
+            Hop::Direct => Ok(ForwardNext::Direct),
+            Hop::Parent { host, port } => Ok(ForwardNext::Parent {
                 host: Text::from_bytes(alloc, host)?,
                 port,
             }),

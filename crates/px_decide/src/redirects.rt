@@ -2,8 +2,8 @@
 ghost use Rattle.std.specs.Prelude.{◌≡◌, ◌≢◌, IfOk, IsTrue, None, Ok, OnOk, option_and_then};
 ghost use Rattle.std.specs.Result.{result_ok};
 ghost use Rattle.px_actions.specs.Kinds.{entry_of};
-ghost use Rattle.px_actions.specs.Rules.{keeps};
-ghost use Rattle.px_decide.specs.Targets.{fast_target, is_job, job_target, last_url, leading_away, redirect_target, searched_path, target_of, value_target};
+ghost use Rattle.px_actions.specs.Rules.{keeps_rule};
+ghost use Rattle.px_decide.specs.Targets.{fast_target, is_job_value, job_target, last_url, leading_away, redirect_target, searched_path, target_of_redirects, value_target};
 ghost use Rattle.px_subst.specs.Jobs.{job_of};
 
 use crate::targets::{decoded, last_url};
@@ -14,14 +14,14 @@ use px_subst::{Job, JobFault, Vars};
 use std::alloc::Global;
 
 /// Where a request is redirected to, if it is.
-#[tactic(auto, unfolding(crate::specs::Targets::target_of))]
+#[tactic(auto, unfolding(crate::specs::Targets::target_of_redirects))]
 pub(crate) fn target(
     alloc: Global,
     url: &Url,
     set: &ActionSet,
     vars: &Vars,
 ) -> Result<Option<Text>, Mem>
-    ensures { IfOk result (λ target. target ≡ target_of url.now set.now vars.now) }
+    ensures { IfOk result (λ target. target ≡ target_of_redirects url.now set.now vars.now) }
 {
     if set.value(Kind::Redirect).is_none() && set.value(Kind::FastRedirects).is_none() {
         return Ok(None);
@@ -114,7 +114,7 @@ fn value_target(
     value: &[u8],
     vars: &Vars,
 ) -> Result<Option<Text>, Mem>
-    requires { IsTrue (keeps (entry_of Kind.Redirect).rule value.now) }
+    requires { IsTrue (keeps_rule (entry_of Kind.Redirect).rule value.now) }
     ensures { IfOk result (λ target. target ≡ value_target vars.now printed.now value.now) }
 {
     if is_job(value) {
@@ -126,7 +126,7 @@ fn value_target(
 
 /// Whether a value of `redirect` is a job: `s` and a byte that isn't a letter or a digit.
 fn is_job(value: &[u8]) -> bool
-    ensures { result ≡ is_job value.now }
+    ensures { result ≡ is_job_value value.now }
 {
     value.len() > 1 && value[0] == b's' && !value[1].is_ascii_alphanumeric()
 }

@@ -2,11 +2,11 @@
 ghost use Rattle.std.specs.Prelude.{◌≡◌, ◌<◌, IfOk, Some, false, map, option_map, true};
 ghost use Rattle.px_patterns.specs.Patterns.{url_matches};
 ghost use Rattle.px_actions.specs.Hops.{seen_hop};
-ghost use Rattle.px_decide.specs.Lines.{line_of, next_of};
+ghost use Rattle.px_decide.specs.Lines.{forward_line_of, next_of};
 ghost use Rattle.px_decide.specs.Routes.{last_line, route_by, route_by_line, route_by_lines, route_of, through};
 ghost use Rattle.px_decide.specs.Servers.{kept_server};
 
-use crate::forwards::{ForwardLine, Forwards, Next};
+use crate::forwards::{ForwardLine, ForwardNext, Forwards};
 use crate::routes::Route;
 use crate::servers::{KeptServer, dial_name};
 use px_actions::{ActionSet, Hop, Kind, override_hop};
@@ -40,7 +40,7 @@ fn route_by_hop(alloc: Global, url: &Url, hop: Hop) -> Result<Route, Mem>
 }
 
 fn route_by_lines(alloc: Global, url: &Url, lines: &[ForwardLine]) -> Result<Route, Mem>
-    ensures { IfOk result (λ route. route ≡ route_by_lines url.now (map line_of lines.now)) }
+    ensures { IfOk result (λ route. route ≡ route_by_lines url.now (map forward_line_of lines.now)) }
 {
     counted_route::<Brand>(alloc, url, lines, Blank::new(1))
 }
@@ -55,7 +55,7 @@ fn counted_route<L: Ledger>(
     requires name { blank.name ≡ L.name }
     requires parts { blank.parts ≡ L.parts }
     requires some { 0 < L.parts }
-    ensures { IfOk result (λ route. route ≡ route_by_lines url.now (map line_of lines.now)) }
+    ensures { IfOk result (λ route. route ≡ route_by_lines url.now (map forward_line_of lines.now)) }
 {
     match last_line::<L>(alloc, url, lines, blank)? {
         Some(line) => route_by_line(alloc, url, line),
@@ -64,7 +64,7 @@ fn counted_route<L: Ledger>(
 }
 
 fn route_by_line(alloc: Global, url: &Url, line: &ForwardLine) -> Result<Route, Mem>
-    ensures { IfOk result (λ route. route ≡ route_by_line url.now (line_of line.now)) }
+    ensures { IfOk result (λ route. route ≡ route_by_line url.now (forward_line_of line.now)) }
 {
     let route = route_by_next(alloc, url, &line.next)?;
     match &line.server {
@@ -85,12 +85,12 @@ fn through(alloc: Global, server: &KeptServer, route: Route) -> Result<Route, Me
     })
 }
 
-fn route_by_next(alloc: Global, url: &Url, next: &Next) -> Result<Route, Mem>
+fn route_by_next(alloc: Global, url: &Url, next: &ForwardNext) -> Result<Route, Mem>
     ensures { IfOk result (λ route. route ≡ route_by url.now (next_of next.now)) }
 {
     match next {
-        Next::Direct => origin(alloc, url),
-        Next::Parent { host, port } => parent(alloc, host.as_bytes(), *port),
+        ForwardNext::Direct => origin(alloc, url),
+        ForwardNext::Parent { host, port } => parent(alloc, host.as_bytes(), *port),
     }
 }
 
@@ -104,7 +104,7 @@ fn last_line<'l, L: Ledger>(
     requires name { blank.name ≡ L.name }
     requires parts { blank.parts ≡ L.parts }
     requires some { 0 < L.parts }
-    ensures { IfOk result (λ line. option_map (λ l. line_of l.now) line ≡ last_line url.now (map line_of lines.now)) }
+    ensures { IfOk result (λ line. option_map (λ l. forward_line_of l.now) line ≡ last_line url.now (map forward_line_of lines.now)) }
 {
     let mut steps: Steps<L> = Steps::begin(blank);
     let mut at = lines.len();

@@ -1,8 +1,9 @@
 // SOCKS servers of forward lines, and the hosts under which targets behind them are dialled.
 ghost use Rattle.std.specs.Prelude.{◌≡◌, ◌∷◌, [], ◌++◌, IfOk, OnOk, option_map};
 ghost use Rattle.std.specs.List.{list_any};
-ghost use Rattle.px_socks.specs.Printed.{has_colon, shown};
-ghost use Rattle.px_decide.specs.Servers.{dial_name, is_colon, kept_server, lacks_port, named_server};
+ghost use Rattle.px_socks.specs.Printed.{has_colon, printed_host};
+ghost use Rattle.px_decide.specs.Servers.{dial_name, kept_server, word_lacks_port, named_server};
+ghost use Rattle.px_actions.specs.Hops.{is_colon};
 
 use itoa::Buffer;
 use px_actions::{Hop, read_hop};
@@ -36,7 +37,7 @@ impl KeptServer {
 
 /// Whether a word that names that host has no port.
 fn lacks_port(word: &[u8], host: &[u8]) -> bool
-    ensures { result ≡ lacks_port word.now host.now }
+    ensures { result ≡ word_lacks_port word.now host.now }
 {
     word == host || word.ends_with(b"]")
 }
@@ -75,7 +76,7 @@ fn has_colon(host: &[u8]) -> bool
 
 /// Adds a host, in brackets where it holds a colon.
 fn push_host(name: &mut Text, host: &[u8]) -> Result<(), Mem>
-    ensures { OnOk result (name.new ≡ name.old ++ shown host.now) }
+    ensures { OnOk result (name.new ≡ name.old ++ printed_host host.now) }
 {
     if has_colon(host) {
         name.push(b'[')?;

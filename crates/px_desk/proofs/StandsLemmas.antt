@@ -8,14 +8,14 @@ use Rattle.std.proofs.lemmas.List.Edits.{length-remove}
 use mathlib.Core.List.{IsPrefix}
 use Rattle.px_doors.specs.Conns.{ConnState, PartedState}
 use Rattle.px_base.proofs.SinkLemmas.{sink_goes_on}
-use Rattle.px_doors.specs.Doors.{DoorsState, DoorsGoesOn, Comes, Ends, Stays, Parts, left}
+use Rattle.px_doors.specs.Doors.{DoorsState, DoorsGoesOn, ConnComes, DoorsEnd, Stays, Parts, left}
 use Rattle.px_desk.specs.Reloads.{Reloads}
 use Rattle.px_desk.specs.Counts.{with_reload}
-use Rattle.px_desk.specs.Sessions.{IsNth, IsServed}
+use Rattle.px_desk.specs.Sessions.{IsNth, IsConnServed}
 use Rattle.px_desk.specs.Sets.{set_of, Spells}
-use Rattle.px_desk.specs.Turns.{Shelf, shelf, Turn, after, IsTurn, none, shelf_after, with_turn}
+use Rattle.px_desk.specs.Turns.{Shelf, shelf, Turn, shelf_after_turn, IsTurn, none, shelf_after, with_turn}
 use Rattle.px_desk.specs.Desks.{HandedState, HandsOut}
-use Rattle.px_desk.specs.Facts.{IsClosed, Begun, Made, Now, Stands, ConnsStand, ListStands, HandedStand, IsHanded, Loses, times, once_below}
+use Rattle.px_desk.specs.Facts.{IsClosed, DoorsBegun, Made, Now, DeskStands, ConnsStand, ListStands, HandedStand, IsHanded, Loses, times, once_below}
 use Rattle.px_config.specs.declared.configs.Config.{Config}
 use Rattle.px_config.specs.declared.sets.FileSet.{FileSet}
 use Rattle.px_desk.specs.declared.desks.ServeEnd.{ServeEnd}
@@ -33,7 +33,7 @@ prefix_trans : {X : Type 0} (a b c : List X) → IsPrefix a b → IsPrefix b c �
 prefix_trans a b c p q = (p.0 ++ q.0, sym (append_assoc a p.0 q.0) ∙ (ap (λ xs. xs ++ q.0) p.1 ∙ q.1))
 
 -- a session that was served from a list was served from what that list begins
-pub served_more : (tells : Bool) (conns : List ConnState) (v w : List Config) (p : PartedState) → IsPrefix v w → IsServed tells conns v p → IsServed tells conns w p
+pub served_more : (tells : Bool) (conns : List ConnState) (v w : List Config) (p : PartedState) → IsPrefix v w → IsConnServed tells conns v p → IsConnServed tells conns w p
 served_more tells conns v w p more is = record {
   conn = is.conn;
   is_nth = is.is_nth;
@@ -68,8 +68,8 @@ list_stands made old new first turns r t k by came count =
       later = λ later. rw len (later_more made.files old.loader.files new.loader.files (length turns) by.turn (was_later later) (k.later later));
       first_spells = k.first_spells;
       are_turns = λ tells later. turns_more made.files made.main 0 start turns t (length turns) (omega arith) (k.are_turns tells later)
-          (subst (λ s. IsTurn s (fold after start turns) t) (set tells later) (subst (λ s. IsTurn (set_of new.loader.main new.loader.files.contents) s t) k.shelf_is (came.is_turn (now_tells tells))));
-      shelf_is = came.after_is ∙ (ap (λ s. after s t) k.shelf_is ∙ sym (fold-append after start turns (t ∷ [])));
+          (subst (λ s. IsTurn s (fold shelf_after_turn start turns) t) (set tells later) (subst (λ s. IsTurn (set_of new.loader.main new.loader.files.contents) s t) k.shelf_is (came.is_turn (now_tells tells))));
+      shelf_is = came.after_is ∙ (ap (λ s. shelf_after_turn s t) k.shelf_is ∙ sym (fold-append shelf_after_turn start turns (t ∷ [])));
       published = rw count (came.published old.counts k.published);
       counted = count ∙ (came.counts old.counts ∙ (ap (λ c. with_turn c t) k.counted ∙ sym (fold-append with_turn none turns (t ∷ []))));
       faults = rw count (came.faults made.files.read_faults old.counts by.turn.go_on.read_faults_later k.faults);
@@ -91,7 +91,7 @@ handed_now loaded first turns t list rem o number handed is =
       last = rw whole (sym handed ∙ ap (λ (s : Shelf). length s.list) is);
     }
 
-conns_stand : (made : Made) (old new : Now) (o : Out) (c : ConnState) → ConnsStand made old → DoorsGoesOn old.doors new.doors → new.doors.listens_at ≡ old.doors.listens_at → Comes old.doors new.doors c
+conns_stand : (made : Made) (old new : Now) (o : Out) (c : ConnState) → ConnsStand made old → DoorsGoesOn old.doors new.doors → new.doors.listens_at ≡ old.doors.listens_at → ConnComes old.doors new.doors c
     → new.out ≡ old.out ++ o ∷ [] → o.number ≡ old.doors.accepted → IsPrefix old.loader.list new.loader.list → ConnsStand made new
 conns_stand made old new o c k goes listens comes out number more =
     let was : IsTrue new.doors.tells → IsTrue old.doors.tells = λ tells. subst IsTrue goes.tells_same tells in
@@ -106,9 +106,9 @@ conns_stand made old new o c k goes listens comes out number more =
     }
 
 stands_after : (made : Made) (old new : Now) (r : Reload) (c : ConnState) (o : Out)
-    → Stands made old → Reloads old.loader new.loader r → DoorsGoesOn old.doors new.doors → new.doors.listens_at ≡ old.doors.listens_at → Comes old.doors new.doors c
+    → DeskStands made old → Reloads old.loader new.loader r → DoorsGoesOn old.doors new.doors → new.doors.listens_at ≡ old.doors.listens_at → ConnComes old.doors new.doors c
     → new.out ≡ old.out ++ o ∷ [] → new.counts ≡ with_reload old.counts r → o.number ≡ old.doors.accepted → length new.loader.list ≡ o.handed + 1 → old.doors.accepted < made.most
-    → Stands made new
+    → DeskStands made new
 stands_after made old new r c o k by goes listens comes out count number handed room =
     let t = (came old.loader new.loader r by.gives).0 in
     let came = (came old.loader new.loader r by.gives).1 in
@@ -134,12 +134,12 @@ stands_after made old new r c o k by goes listens comes out count number handed 
 
 -- the same, of a desk whose pair is its publisher's
 pub hands_out : (made : Made) (old new : Now) (r : Reload) (c : ConnState) (o : Out)
-    → Stands made old → Reloads old.loader new.loader r → DoorsGoesOn old.doors new.doors → new.doors.listens_at ≡ old.doors.listens_at → Comes old.doors new.doors c
+    → DeskStands made old → Reloads old.loader new.loader r → DoorsGoesOn old.doors new.doors → new.doors.listens_at ≡ old.doors.listens_at → ConnComes old.doors new.doors c
     → new.out ≡ old.out ++ o ∷ [] → new.counts ≡ with_reload old.counts r → o.number ≡ old.doors.accepted → length new.loader.list ≡ o.handed + 1 → old.doors.accepted < made.most
-    → Stands (record made { pair = new.loader.pair }) new
+    → DeskStands (record made { pair = new.loader.pair }) new
 hands_out made old new r c o k by goes listens comes out count number handed room =
     let stands = stands_after made old new r c o k by goes listens comes out count number handed room in
-    subst (λ q. Stands (record made { pair = q }) new) (sym stands.list.pair_same) stands
+    subst (λ q. DeskStands (record made { pair = q }) new) (sym stands.list.pair_same) stands
 
 list_same : (made : Made) (old new : Now) (first : Config) (turns : List Turn) → new.loader ≡ old.loader → new.counts ≡ old.counts → ListStands made old first turns → ListStands made new first turns
 list_same made old new first turns loader counts k =
@@ -162,8 +162,8 @@ list_same made old new first turns loader counts k =
     }
 
 -- doors that give no connection keep it too
-pub stays_closed : (made : Made) (old new : Now) → Stands made old → DoorsGoesOn old.doors new.doors → new.doors.listens_at ≡ old.doors.listens_at → Stays old.doors new.doors
-    → new.loader ≡ old.loader → new.out ≡ old.out → new.counts ≡ old.counts → Stands made new
+pub stays_closed : (made : Made) (old new : Now) → DeskStands made old → DoorsGoesOn old.doors new.doors → new.doors.listens_at ≡ old.doors.listens_at → Stays old.doors new.doors
+    → new.loader ≡ old.loader → new.out ≡ old.out → new.counts ≡ old.counts → DeskStands made new
 stays_closed made old new k goes listens stays loader out counts =
     let was : IsTrue new.doors.tells → IsTrue old.doors.tells = λ tells. subst IsTrue goes.tells_same tells in
     let conns : ConnsStand made new = record {
@@ -191,9 +191,9 @@ stays_closed made old new k goes listens stays loader out counts =
 
 -- ---- a connection that is taken back
 
-module _ (made : Made) (old new : Now) (o : Out) (p : PartedState) (k : Stands made old) (loses : Loses o old.out new.out)
+module _ (made : Made) (old new : Now) (o : Out) (p : PartedState) (k : DeskStands made old) (loses : Loses o old.out new.out)
     (goes : DoorsGoesOn old.doors new.doors) (listens : new.doors.listens_at ≡ old.doors.listens_at) (parts : Parts old.doors new.doors p) (number : p.number ≡ o.number) (handed : p.handed ≡ o.handed)
-    (served : IsServed made.doors.tells made.doors.conns old.loader.list p) (loader : new.loader ≡ old.loader) (counts : new.counts ≡ old.counts) where
+    (served : IsConnServed made.doors.tells made.doors.conns old.loader.list p) (loader : new.loader ≡ old.loader) (counts : new.counts ≡ old.counts) where
   was : IsTrue new.doors.tells → IsTrue old.doors.tells
   was tells = subst IsTrue goes.tells_same tells
 
@@ -210,8 +210,8 @@ module _ (made : Made) (old new : Now) (o : Out) (p : PartedState) (k : Stands m
     none_lost = λ tells. rw (parts.accepted_same, parts.added (was tells), loses.gone)
         (omega (arith, length-append old.doors.parted (p ∷ []), length-remove old.out loses.at loses.below, k.conns.none_lost (was tells)));
     parted_served = λ tells. rw (parts.added (was tells), loader)
-        (All-append (IsServed made.doors.tells made.doors.conns old.loader.list) old.doors.parted (p ∷ []) (k.conns.parted_served (was tells))
-        (all_one (IsServed made.doors.tells made.doors.conns old.loader.list) p served));
+        (All-append (IsConnServed made.doors.tells made.doors.conns old.loader.list) old.doors.parted (p ∷ []) (k.conns.parted_served (was tells))
+        (all_one (IsConnServed made.doors.tells made.doors.conns old.loader.list) p served));
   }
 
   here : IsHanded made.loaded k.first k.turns p.number p.handed
@@ -225,7 +225,7 @@ module _ (made : Made) (old new : Now) (o : Out) (p : PartedState) (k : Stands m
         (all_one (λ (q : PartedState). IsHanded made.loaded k.first k.turns q.number q.handed) p here));
   }
 
-  pub parts_back : Stands made new
+  pub parts_back : DeskStands made new
   parts_back = record {
     first = k.first;
     turns = k.turns;
@@ -242,15 +242,15 @@ module _ (made : Made) (old new : Now) (o : Out) (p : PartedState) (k : Stands m
 nothing_below : (n : ℕ) → 0 ≡ once_below n 0
 nothing_below n = grind (arith, nat_tests)
 
-pub begins : (made : Made) (now : Now) (first : Config) → Begun now.doors → Spells now.loader.remembered first
+pub begins : (made : Made) (now : Now) (first : Config) → DoorsBegun now.doors → Spells now.loader.remembered first
     → made.files ≡ now.loader.files → made.doors ≡ now.doors → made.err ≡ now.loader.err → made.main ≡ now.loader.main → made.loaded ≡ now.loader.remembered → made.pair ≡ now.loader.pair
-    → now.loader.list ≡ first ∷ [] → now.out ≡ [] → now.counts ≡ none → Stands made now
+    → now.loader.list ≡ first ∷ [] → now.out ≡ [] → now.counts ≡ none → DeskStands made now
 begins made now first begun spells files doors err main loaded pair list out counts =
     let from : Made = record { files = now.loader.files; doors = now.doors; err = now.loader.err; main = now.loader.main; loaded = now.loader.remembered; pair = now.loader.pair; most = made.most } in
     let at : Now = record { loader = record { files = now.loader.files; err = now.loader.err; main = now.loader.main; remembered = now.loader.remembered; list = first ∷ []; pair = now.loader.pair }; doors = now.doors; out = []; counts = none } in
     let same_made : from ≡ made = rw (files, doors, err, main, loaded, pair) refl in
     let same_now : at ≡ now = rw (list, out, counts) refl in
-    subst (λ m. Stands m now) same_made (subst (Stands from) same_now (record {
+    subst (λ m. DeskStands m now) same_made (subst (DeskStands from) same_now (record {
       first = first;
       turns = [];
       one_each = sym begun.none_accepted;
@@ -287,7 +287,7 @@ begins made now first begun spells files doors err main loaded pair list out cou
     }))
 
 -- the connection that came is the next of the doors at the making
-pub is_nth : (made old new : DoorsState) (n : ℕ) (c : ConnState) → DoorsGoesOn made old → Comes old new c → n ≡ old.accepted → IsNth made.tells made.conns n c
+pub is_nth : (made old new : DoorsState) (n : ℕ) (c : ConnState) → DoorsGoesOn made old → ConnComes old new c → n ≡ old.accepted → IsNth made.tells made.conns n c
 is_nth made old new n c goes comes number = record {
   fresh = comes.fresh;
   mark = rw number comes.mark;
@@ -300,7 +300,7 @@ hands_out_as made now new h v w same is = subst (λ u. HandsOut (made u) (now u)
 
 -- ---- why a desk is closed
 
-pub ends_close : (made : DoorsState) (most : ℕ) (old new : DoorsState) → old.faults ≡ made.faults → new.faults ≡ old.faults → DoorsGoesOn old new → Ends old new → IsClosed made most new (Some end.End)
+pub ends_close : (made : DoorsState) (most : ℕ) (old new : DoorsState) → old.faults ≡ made.faults → new.faults ≡ old.faults → DoorsGoesOn old new → DoorsEnd old new → IsClosed made most new (Some end.End)
 ends_close made most old new was calm goes ends = (calm ∙ was, inr (subst IsTrue (sym goes.tells_same) ends.told, rw (goes.conns_same, ends.stays.accepted_same) ends.none_left))
 
 pub still_closed : (made : DoorsState) (most : ℕ) (old new : DoorsState) (closing : Option ServeEnd) → DoorsGoesOn old new → new.accepted ≡ old.accepted → new.faults ≡ old.faults → IsClosed made most old closing → IsClosed made most new closing

@@ -10,7 +10,7 @@ use Rattle.px_base.specs.Moments.{ClockState}
 use Rattle.px_doors.specs.Conns.{ConnState, PartedState, conn_as}
 use Rattle.px_doors.specs.Doors.{DoorsState, Parts}
 use Rattle.px_desk.specs.Sessions.{IsNth}
-use Rattle.px_desk.specs.Facts.{Made, Now, Loses, Stands}
+use Rattle.px_desk.specs.Facts.{Made, Now, Loses, DeskStands}
 use Rattle.px_desk.specs.Reloads.{Reloads}
 use Rattle.px_desk.specs.Sets.{Spells}
 use Rattle.px_desk.specs.Counts.{with_reload}
@@ -20,8 +20,8 @@ use Rattle.px_desk.specs.declared.reloads.Reload.{Reload}
 use Rattle.px_config.specs.declared.sets.FileSet.{FileSet}
 use Rattle.px_desk.specs.declared.reloads.ReloadCounts.{ReloadCounts}
 use Rattle.px_desk.specs.declared.desks.ServeEnd.{ServeEnd}
-use Rattle.px_desk.specs.declared.desks.Next.{Next}
-use Rattle.px_desk.specs.declared.desks.Next.TheVariants as next
+use Rattle.px_desk.specs.declared.desks.DeskNext.{DeskNext}
+use Rattle.px_desk.specs.declared.desks.DeskNext.TheVariants as next
 
 -- the objects themselves, and not their states: a state that holds a function has no code
 pub record DeskState (F A E : Type 0) : Type 0 where
@@ -74,7 +74,7 @@ pub record HandedState : Type 0 where
   pub conn : ConnState
 
 -- the connection that is handed out, if any
-abbrev pub handed_as : {S O D T : Type 0} → (S → SourceState) → (O → SinkState) → (D → DialerState) → (T → ClockState) → Next S O D T → Option HandedState
+abbrev pub handed_as : {S O D T : Type 0} → (S → SourceState) → (O → SinkState) → (D → DialerState) → (T → ClockState) → DeskNext S O D T → Option HandedState
 handed_as ins outs dials times (next.Conn h) = Some (record { number = h.number; reload = h.reload; told = told h.receipt; pair = receipt_pair h.receipt; conn = conn_as ins outs dials times h.conn })
 handed_as ins outs dials times (next.Closed e) = None
 
@@ -99,7 +99,7 @@ pub record StaysBut (old new : Now) : Type 0 where
   pub parted_same : IsTrue old.doors.tells → new.doors.parted ≡ old.doors.parted
 
 -- an answer that is no connection is kept
-abbrev pub ClosesBy : {S O D T : Type 0} → Next S O D T → Option ServeEnd → Type 0
+abbrev pub ClosesBy : {S O D T : Type 0} → DeskNext S O D T → Option ServeEnd → Type 0
 ClosesBy (next.Conn h) closing = closing ≡ None
 ClosesBy (next.Closed e) closing = closing ≡ Some e
 
@@ -111,14 +111,14 @@ pub record TakesBack (old new : Now) (p : PartedState) : Type 0 where
   pub counts_same : new.counts ≡ old.counts
 
 -- the list's one entry is a spelling of the set
-abbrev pub BeginsWith : FileSet → List Config → Type 0
-BeginsWith set list = (first : Config) × (list ≡ first ∷ []) × Spells set first
+abbrev pub BeginsWithSpelling : FileSet → List Config → Type 0
+BeginsWithSpelling set list = (first : Config) × (list ≡ first ∷ []) × Spells set first
 
 -- the facts hold of what is handed back, with no number out, for the set that was remembered and the list that was published
 pub record StandsAfter (made : Made) (files : FilesState) (doors : DoorsState) (err : SinkState) (counts : ReloadCounts) : Type 0 where
   pub remembered : FileSet
   pub list : List Config
-  pub stands : Stands made (record {
+  pub stands : DeskStands made (record {
     loader = record { files = files; err = err; main = made.main; remembered = remembered; list = list; pair = made.pair };
     doors = doors;
     out = [];

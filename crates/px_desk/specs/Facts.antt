@@ -7,7 +7,7 @@ use Rattle.px_desk.specs.Sets.{Spells, IsFaulty}
 use Rattle.px_desk.specs.Reloads.{LoaderState}
 use Rattle.px_doors.specs.Doors.{DoorsState, DoorsGoesOn, left}
 use Rattle.px_doors.specs.Conns.{PartedState}
-use Rattle.px_desk.specs.Sessions.{IsServed}
+use Rattle.px_desk.specs.Sessions.{IsConnServed}
 use Rattle.px_base.specs.Sinks.{SinkState, SinkGoesOn}
 use Rattle.px_desk.specs.Turns.{Turn, AreTurns, contents_after, none, shelf, shelf_after, with_turn}
 use Rattle.px_config.specs.declared.configs.Config.{Config}
@@ -58,7 +58,7 @@ pub record Loses (o : Out) (old new : List Out) : Type 0 where
   pub gone : new ≡ remove old at
 
 -- doors that have accepted and parted nothing
-pub record Begun (d : DoorsState) : Type 0 where
+pub record DoorsBegun (d : DoorsState) : Type 0 where
   pub none_accepted : d.accepted ≡ 0
   pub none_parted : IsTrue d.tells → d.parted ≡ []
 
@@ -67,14 +67,14 @@ pub record ConnsStand (made : Made) (now : Now) : Type 0 where
   -- the doors are those that the desk was made with, and listen nowhere else
   pub goes_on : DoorsGoesOn made.doors now.doors
   pub listens_same : now.doors.listens_at ≡ made.doors.listens_at
-  pub begun : Begun made.doors
+  pub begun : DoorsBegun made.doors
   -- the numbers that are out are below the number of accepted connections, none twice
   pub out_once : (n : ℕ) → times n now.out ≤ once_below n now.doors.accepted
   -- and those that were parted are all the others, each once
   pub parted_once : IsTrue now.doors.tells → (n : ℕ) → times n now.out + times_parted n now.doors.parted ≡ once_below n now.doors.accepted
   pub none_lost : IsTrue now.doors.tells → length now.out + length now.doors.parted ≡ now.doors.accepted
   -- each was the connection of its number, and was served by entries of the published list
-  pub parted_served : IsTrue now.doors.tells → All (IsServed made.doors.tells made.doors.conns now.loader.list) now.doors.parted
+  pub parted_served : IsTrue now.doors.tells → All (IsConnServed made.doors.tells made.doors.conns now.loader.list) now.doors.parted
 
 -- a number was handed out with the last entry that the list has after its own turn
 pub record IsHanded (loaded : FileSet) (first : Config) (turns : List Turn) (number handed : ℕ) : Type 0 where
@@ -114,7 +114,7 @@ pub record HandedStand (made : Made) (now : Now) (first : Config) (turns : List 
 abbrev pub total : ReloadCounts → ℕ
 total c = c.same + c.published + c.kept + c.read_faults + c.wanting
 
-pub record Stands (made : Made) (now : Now) : Type 0 where
+pub record DeskStands (made : Made) (now : Now) : Type 0 where
   pub first : Config
   -- what came of each turn, the turn of each accepted connection
   pub turns : List Turn

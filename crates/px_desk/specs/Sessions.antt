@@ -46,7 +46,7 @@ pub record IsNth (tells : Bool) (conns : List ConnState) (n : ℕ) (c : ConnStat
   pub nth : IsTrue tells → slice_get conns n ≡ Some c
 
 -- the connection of its number was served
-pub record IsServed (tells : Bool) (conns : List ConnState) (list : List Config) (p : PartedState) : Type 0 where
+pub record IsConnServed (tells : Bool) (conns : List ConnState) (list : List Config) (p : PartedState) : Type 0 where
   pub conn : ConnState
   pub is_nth : IsNth tells conns p.number conn
   pub served : ServesConn list conn p

@@ -4,12 +4,12 @@ ghost use Rattle.px_base.specs.Contents.{FilesState};
 ghost use Rattle.px_publish.specs.Published.{published, pair_of, told, receipt_pair, seen_by, reader_pair};
 ghost use Rattle.px_publish.specs.Views.{GoesOn};
 ghost use Rattle.px_doors.specs.Conns.{parted_as};
-ghost use Rattle.px_desk.specs.Sessions.{IsServed};
+ghost use Rattle.px_desk.specs.Sessions.{IsConnServed};
 ghost use Rattle.px_desk.specs.Reloads.{loader_as};
-ghost use Rattle.px_desk.specs.Facts.{Stands, Begun, Closes, IsOut, total};
+ghost use Rattle.px_desk.specs.Facts.{DeskStands, DoorsBegun, Closes, IsOut, total};
 ghost use Rattle.px_desk.specs.Counts.{with_reload};
 ghost use Rattle.px_desk.specs.Turns.{none};
-ghost use Rattle.px_desk.specs.declared.desks.Next.TheVariants.{Closed};
+ghost use Rattle.px_desk.specs.declared.desks.DeskNext.TheVariants.{Closed};
 ghost use Rattle.px_desk.specs.declared.desks.ServeEnd.TheVariants.{DoorsFailed, NoMemory};
 ghost use Rattle.px_base.specs.Causes.{Rose};
 
@@ -36,7 +36,7 @@ pub enum ServeEnd {
 }
 
 /// A connection that is handed out, and what its reload gave.
-pub struct Handed<S, O, D, T> {
+pub struct HandedConn<S, O, D, T> {
     pub number: u64,
     pub reload: Reload,
     pub receipt: Receipt<Config>,
@@ -44,14 +44,14 @@ pub struct Handed<S, O, D, T> {
 }
 
 /// What a desk gives.
-pub enum Next<S, O, D, T> {
-    Conn(Handed<S, O, D, T>),
+pub enum DeskNext<S, O, D, T> {
+    Conn(HandedConn<S, O, D, T>),
     Closed(ServeEnd),
 }
 
 /// What a desk is made of.
 #[derive(Drop)]
-pub struct Parts<F, A, E> {
+pub struct DeskParts<F, A, E> {
     pub files: F,
     pub doors: A,
     pub err: E,
@@ -60,13 +60,13 @@ pub struct Parts<F, A, E> {
 /// Memory was wanting for a desk.
 #[derive(Drop)]
 pub struct NoDesk<F, A, E> {
-    pub parts: Parts<F, A, E>,
+    pub parts: DeskParts<F, A, E>,
 }
 
 /// What is handed back of a desk.
 #[derive(Drop)]
-pub struct Served<F, A, E> {
-    pub parts: Parts<F, A, E>,
+pub struct ServedDesk<F, A, E> {
+    pub parts: DeskParts<F, A, E>,
     pub counts: ReloadCounts,
     pub end: ServeEnd,
 }
@@ -93,7 +93,7 @@ impl<F: Files, A: Doors, E: Sink> Model for Desk<F, A, E> {
     ghost use Rattle.std.specs.Prelude.{◌≡◌, Some, string_bytes};
     ghost use Rattle.px_base.specs.Causes.{Rose};
     ghost use Rattle.px_publish.specs.Published.{published, pair_of};
-    ghost use Rattle.px_desk.specs.Facts.{Stands, IsClosed};
+    ghost use Rattle.px_desk.specs.Facts.{DeskStands, IsClosed};
     ghost use Rattle.px_desk.specs.Reloads.{loader_as};
     ghost use Rattle.px_desk.specs.Desks.{DeskState};
     ghost use Rattle.px_desk.specs.declared.desks.ServeEnd.TheVariants.{DoorsFailed};
@@ -120,7 +120,7 @@ impl<F: Files, A: Doors, E: Sink> Model for Desk<F, A, E> {
     } };
 
     ghost invariant = { λ s.
-        Stands
+        DeskStands
         (record { files = F.state s.made_files.value; doors = A.state s.made_doors.value; err = E.state s.made_err.value; main = string_bytes s.made_main.value; loaded = s.loaded.value; pair = pair_of s.loader.publisher; most = s.most })
         (record { loader = loader_as F.state E.state s.loader; doors = A.state s.doors; out = s.out.items; counts = s.counts })
         × (s.accepted ≡ (A.state s.doors).accepted)
@@ -144,19 +144,19 @@ fn counted(counts: ReloadCounts, reload: &Reload) -> ReloadCounts
 }
 
 // Closes for good.
-fn closed<S, O, D, T>(closing: &mut Option<ServeEnd>, end: ServeEnd) -> Next<S, O, D, T>
+fn closed<S, O, D, T>(closing: &mut Option<ServeEnd>, end: ServeEnd) -> DeskNext<S, O, D, T>
     ensures closed { result ≡ Closed end }
     ensures closing { closing.new ≡ Some end }
 {
     *closing = Some(end);
-    Next::Closed(end)
+    DeskNext::Closed(end)
 }
 
 impl<F: Files, A: Doors, E: Sink> Desk<F, A, E> {
-    ghost use Rattle.px_desk.specs.Desks.{made_of, now_of, handed_as, HandsOut, StaysBut, ClosesBy, TakesBack, BeginsWith};
+    ghost use Rattle.px_desk.specs.Desks.{made_of, now_of, handed_as, HandsOut, StaysBut, ClosesBy, TakesBack, BeginsWithSpelling};
 
     /// Takes the next connection, and reloads with it.
-    pub fn next<R: Wait>(&mut self, rt: &R) -> Next<A::In, A::Out, A::Dial, A::Time>
+    pub fn next<R: Wait>(&mut self, rt: &R) -> DeskNext<A::In, A::Out, A::Dial, A::Time>
         ensures made { made_of F.state A.state E.state self.new ≡ made_of F.state A.state E.state self.old }
         ensures conn { IfSome (handed_as A.In.state A.Out.state A.Dial.state A.Time.state result) (λ h. HandsOut (made_of F.state A.state E.state self.old) (now_of F.state A.state E.state self.old) (now_of F.state A.state E.state self.new) h) }
         ensures closed { IfNone (handed_as A.In.state A.Out.state A.Dial.state A.Time.state result) (StaysBut (now_of F.state A.state E.state self.old) (now_of F.state A.state E.state self.new)) }
@@ -165,7 +165,7 @@ impl<F: Files, A: Doors, E: Sink> Desk<F, A, E> {
         ensures closing { ClosesBy result self.new.closing }
     {
         if let Some(closing) = self.closing {
-            return Next::Closed(closing);
+            return DeskNext::Closed(closing);
         }
         let Ok(first) = self.loader.publisher.receipt() else {
             return closed(&mut self.closing, ServeEnd::NoMemory);
@@ -184,7 +184,7 @@ impl<F: Files, A: Doors, E: Sink> Desk<F, A, E> {
                 let handed = receipt.snapshot().number;
                 self.out.push_reserved(Out { number, handed });
                 self.counts = counted(self.counts, &reload);
-                Next::Conn(Handed {
+                DeskNext::Conn(HandedConn {
                     number,
                     reload,
                     receipt,
@@ -211,7 +211,7 @@ impl<F: Files, A: Doors, E: Sink> Desk<F, A, E> {
     /// Takes a connection back.
     pub fn part(&mut self, parted: Parted<A::In, A::Out, A::Dial, A::Time>)
         requires out { IsOut (record { number = parted.number; handed = parted.handed }) self.old.out }
-        requires served { IsServed (A.state self.old.made_doors).tells (A.state self.old.made_doors).conns self.old.list (parted_as A.In.state A.Out.state A.Dial.state A.Time.state parted) }
+        requires served { IsConnServed (A.state self.old.made_doors).tells (A.state self.old.made_doors).conns self.old.list (parted_as A.In.state A.Out.state A.Dial.state A.Time.state parted) }
         ensures made { made_of F.state A.state E.state self.new ≡ made_of F.state A.state E.state self.old }
         ensures parts { TakesBack (now_of F.state A.state E.state self.old) (now_of F.state A.state E.state self.new) (parted_as A.In.state A.Out.state A.Dial.state A.Time.state parted) }
         ensures closing { self.new.closing ≡ self.old.closing }
@@ -236,14 +236,14 @@ impl<F: Files, A: Doors, E: Sink> Desk<F, A, E> {
     pub fn new<R: Wait>(
         rt: &R,
         alloc: Global,
-        parts: Parts<F, A, E>,
+        parts: DeskParts<F, A, E>,
         main: &str,
         loaded: FileSet,
         publisher: Publisher<Config>,
         most: u64,
     ) -> Result<Desk<F, A, E>, NoDesk<F, A, E>>
-        requires begun { Begun (A.state parts.doors) }
-        requires first { BeginsWith loaded (published publisher) }
+        requires begun { DoorsBegun (A.state parts.doors) }
+        requires first { BeginsWithSpelling loaded (published publisher) }
         ensures made { IfOk result (λ d. made_of F.state A.state E.state d ≡ record { files = F.state parts.files; doors = A.state parts.doors; err = E.state parts.err; main = main.now; loaded = loaded; pair = pair_of publisher; most = most }) }
         ensures now { IfOk result (λ d. now_of F.state A.state E.state d ≡ record { loader = record { files = F.state parts.files; err = E.state parts.err; main = main.now; remembered = loaded; list = published publisher; pair = pair_of publisher }; doors = A.state parts.doors; out = []; counts = none }) }
         ensures open { IfOk result (λ d. d.closing ≡ None) }
@@ -253,7 +253,7 @@ impl<F: Files, A: Doors, E: Sink> Desk<F, A, E> {
             drop(publisher.end(rt));
             return Err(NoDesk { parts });
         };
-        let Parts { files, doors, err } = parts;
+        let DeskParts { files, doors, err } = parts;
         Ok(Desk {
             made_files: Snapshot::of(&files),
             made_doors: Snapshot::of(&doors),
@@ -278,11 +278,11 @@ impl<F: Files, A: Doors, E: Sink> Desk<F, A, E> {
     }
 
     /// The parts with the counts and the answer that ended it. It may wait for readers to leave.
-    pub fn into_parts<R: Wait>(self, rt: &R) -> Served<F, A, E>
+    pub fn into_parts<R: Wait>(self, rt: &R) -> ServedDesk<F, A, E>
         ensures parts { result.parts ≡ record { files = self.files; doors = self.doors; err = self.err } }
         ensures counts { result.counts ≡ self.counts }
         ensures end { MatchOption self.closing (result.end ≡ NoMemory) (λ e. result.end ≡ e) }
-        ensures stands { Stands (made_of F.state A.state E.state self) (now_of F.state A.state E.state self) }
+        ensures stands { DeskStands (made_of F.state A.state E.state self) (now_of F.state A.state E.state self) }
         ensures closes { Closes (A.state self.made_doors) self.most (A.state self.doors) result.end }
     {
         let Desk {
@@ -300,8 +300,8 @@ impl<F: Files, A: Doors, E: Sink> Desk<F, A, E> {
             loaded: _,
         } = self;
         let (files, err) = loader.end(rt);
-        Served {
-            parts: Parts { files, doors, err },
+        ServedDesk {
+            parts: DeskParts { files, doors, err },
             counts,
             end: closing.unwrap_or(ServeEnd::NoMemory),
         }

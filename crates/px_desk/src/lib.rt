@@ -9,7 +9,7 @@ mod outs;
 mod reloads;
 mod sets;
 
-pub use desks::{Desk, Handed, Next, NoDesk, Parts, ServeEnd, Served};
+pub use desks::{Desk, DeskNext, DeskParts, HandedConn, NoDesk, ServeEnd, ServedDesk};
 pub use laws::sessions_use_the_list;
 pub use outs::Out;
 pub use reloads::{Reload, ReloadCounts};

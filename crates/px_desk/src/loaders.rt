@@ -8,7 +8,7 @@ ghost use Rattle.px_config.specs.Sets.{FitsItem};
 ghost use Rattle.px_publish.specs.Published.{published, pair_of, told, receipt_pair};
 ghost use Rattle.px_publish.specs.Views.{Pair};
 ghost use Rattle.px_desk.specs.Sets.{Spells, HasFault};
-ghost use Rattle.px_desk.specs.Reloads.{Gives, Keeps, Printed, Publishes, Shuns, Prints, PrintsFront, Reloads, TakesSet, Unreads, loader_as};
+ghost use Rattle.px_desk.specs.Reloads.{GivesReload, KeepsNewest, PrintsLineMaybe, Publishes, Shuns, PrintsLine, PrintsFront, Reloads, TakesSet, Unreads, loader_as};
 
 use crate::reloads::Reload;
 use crate::sets::same;
@@ -32,7 +32,7 @@ pub struct Loader<F: Files, E: Sink> {
 /// Prints a fault; a sink that fails changes nothing.
 fn print<E: Sink>(alloc: Global, err: &mut E, fault: &LoadFault) -> Result<(), Mem>
     requires { fault.now ≢ LoadFault.Mem }
-    ensures printed { Printed (E.state err.old) (E.state err.new) (fault_text fault.now) result }
+    ensures printed { PrintsLineMaybe (E.state err.old) (E.state err.new) (fault_text fault.now) result }
     ensures goes_on { SinkGoesOn (E.state err.old) (E.state err.new) }
 {
     let text = fault.print(alloc)?;

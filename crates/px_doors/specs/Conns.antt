@@ -58,6 +58,6 @@ marked mark c = record {
 }
 
 -- connections whose marks count up from n
-abbrev pub numbered : ℕ → List ConnState → List ConnState
-numbered n [] = []
-numbered n (c ∷ cs) = marked n c ∷ numbered (n + 1) cs
+abbrev pub numbered_conns : ℕ → List ConnState → List ConnState
+numbered_conns n [] = []
+numbered_conns n (c ∷ cs) = marked n c ∷ numbered_conns (n + 1) cs

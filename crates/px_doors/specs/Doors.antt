@@ -51,7 +51,7 @@ pub record Stays (old new : DoorsState) : Type 0 where
   pub parted_same : IsTrue old.tells → new.parted ≡ old.parted
 
 -- a connection came: the first of those left, fresh and with its place among all as its mark
-pub record Comes (old new : DoorsState) (c : ConnState) : Type 0 where
+pub record ConnComes (old new : DoorsState) (c : ConnState) : Type 0 where
   pub one_more : new.accepted ≡ old.accepted + 1
   pub first : IsTrue old.tells → left old ≡ c ∷ left new
   pub nth : IsTrue old.tells → slice_get old.conns old.accepted ≡ Some c
@@ -60,15 +60,15 @@ pub record Comes (old new : DoorsState) (c : ConnState) : Type 0 where
   pub mark : HasMark old.accepted c
 
 -- no connection came, since none was left; doors that don't tell their connections never end so
-pub record Ends (old new : DoorsState) : Type 0 where
+pub record DoorsEnd (old new : DoorsState) : Type 0 where
   pub stays : Stays old new
   pub told : IsTrue old.tells
   pub none_left : left old ≡ []
 
 -- what accept does
 abbrev pub Accepts : DoorsState → DoorsState → Result (Option ConnState) AcceptFault → Type 0
-Accepts old new (Ok (Some c)) = Comes old new c
-Accepts old new (Ok None) = Ends old new
+Accepts old new (Ok (Some c)) = ConnComes old new c
+Accepts old new (Ok None) = DoorsEnd old new
 Accepts old new (Err f) = Stays old new
 
 abbrev pub AcceptFaultCause : ℕ → ℕ → AcceptFault → Type 0

@@ -18,5 +18,5 @@ mem_conn c = conn_as tape_in.ghosts.state tape_out.ghosts.state mem_dialer.ghost
 abbrev pub mem_parted : Parted TapeIn TapeOut MemDialer FixedClock → PartedState
 mem_parted p = parted_as tape_in.ghosts.state tape_out.ghosts.state mem_dialer.ghosts.state fixed_clock.ghosts.state p
 
-abbrev pub AreFresh : List (Conn TapeIn TapeOut MemDialer FixedClock) → Type 0
-AreFresh cs = All (λ c. IsFreshConn (mem_conn c)) cs
+abbrev pub AreFreshConns : List (Conn TapeIn TapeOut MemDialer FixedClock) → Type 0
+AreFreshConns cs = All (λ c. IsFreshConn (mem_conn c)) cs

@@ -1,9 +1,9 @@
 // Doors in memory.
 ghost use Rattle.std.specs.Prelude.{◌≡◌, ◌==◌, ◌≤◌, ◌<◌, IfOk, IsTrue, MatchBool, false, drop, length, map, option_copied, slice_get, Some, true, vec_capacity, vec_len};
 ghost use Rattle.px_base.specs.Causes.{Rose};
-ghost use Rattle.px_doors.specs.Conns.{HasMark, IsFreshConn, numbered};
+ghost use Rattle.px_doors.specs.Conns.{HasMark, IsFreshConn, numbered_conns};
 ghost use Rattle.px_doors.specs.Doors.{DoorsGoesOn, Parts, fresh_doors};
-ghost use Rattle.px_doors.specs.MemConns.{AreFresh, mem_conn, mem_parted};
+ghost use Rattle.px_doors.specs.MemConns.{AreFreshConns, mem_conn, mem_parted};
 
 use crate::{AcceptFault, Conn, Doors, ListenAddress, Parted};
 use px_base::{Failed, FixedClock, List, Mem, MemDialer, TapeIn, TapeOut};
@@ -37,14 +37,14 @@ pub struct MemDoors {
     ghost rest: { waiting.items ≡ drop accepted all.value },
     ghost fewer: { vec_len parted ≤ accepted },
     ghost room: { accepted ≤ vec_capacity parted },
-    ghost fresh: { AreFresh waiting.items },
+    ghost fresh: { AreFreshConns waiting.items },
 }
 
 impl MemDoors {
     /// Doors before their first call.
     pub fn new(alloc: Global, conns: List<MemConn>, fails: &[u64]) -> Result<MemDoors, Mem>
-        requires fresh { AreFresh conns }
-        ensures { IfOk result (λ doors. ⟦<MemDoors as Doors>⟧.state doors ≡ fresh_doors (numbered 0 (map mem_conn conns)) (length fails.now == 0)) }
+        requires fresh { AreFreshConns conns }
+        ensures { IfOk result (λ doors. ⟦<MemDoors as Doors>⟧.state doors ≡ fresh_doors (numbered_conns 0 (map mem_conn conns)) (length fails.now == 0)) }
     {
         let failures = Failures {
             fails: fails.to_vec(alloc)?,
@@ -97,12 +97,12 @@ impl Failures {
 /// Takes the first connection, with that mark.
 fn take_first(waiting: &mut Vec<MemConn>, mark: u64) -> MemConn
     requires some { 0 < vec_len waiting.old }
-    requires fresh { AreFresh waiting.old.items }
+    requires fresh { AreFreshConns waiting.old.items }
     ensures left { waiting.new.items ≡ drop 1 waiting.old.items }
-    ensures first { slice_get (numbered mark (map mem_conn waiting.old.items)) 0 ≡ Some (mem_conn result) }
+    ensures first { slice_get (numbered_conns mark (map mem_conn waiting.old.items)) 0 ≡ Some (mem_conn result) }
     ensures mark { HasMark mark (mem_conn result) }
     ensures fresh { IsFreshConn (mem_conn result) }
-    ensures fresh_left { AreFresh waiting.new.items }
+    ensures fresh_left { AreFreshConns waiting.new.items }
 {
     let mut conn = waiting.remove(0);
     conn.client_in.set_mark(mark);
@@ -123,7 +123,7 @@ impl Doors for MemDoors {
     ghost state = { λ d. record {
       listens_at = d.listens_at;
       tells = true;
-      conns = numbered 0 (map mem_conn d.all.value);
+      conns = numbered_conns 0 (map mem_conn d.all.value);
       accepted = d.accepted;
       parted = map mem_parted d.parted.items;
       faults = d.failures.faults;

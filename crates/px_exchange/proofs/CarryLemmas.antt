@@ -6,11 +6,11 @@ use Rattle.std.proofs.Math.Seq.{take-append_seam, take-append-add}
 use Rattle.px_base.specs.Causes.{Rose}
 use Rattle.px_base.specs.Sources.{SourceState}
 use Rattle.px_base.specs.Sinks.{SinkState, AddsFront}
-use Rattle.px_ways.specs.Directions.{AddsSome, SinkCause, SourceCause, Takes}
-use Rattle.px_ways.specs.Ways.{carried_of, is_sink_failed, is_source_failed, is_wanting}
+use Rattle.px_ways.specs.Directions.{AddsSome, StopSinkCause, SourceCause, DirectionTakes}
+use Rattle.px_ways.specs.Ways.{carried_of, is_sink_failed, is_source_failed, is_stop_wanting}
 use Rattle.px_ways.specs.declared.directions.TheConstants.{DIRECTION_LIMIT}
-use Rattle.px_ways.specs.declared.directions.Stop.{Stop}
-use Rattle.px_ways.specs.declared.directions.Stop.TheVariants as stop
+use Rattle.px_ways.specs.declared.directions.DirectionStop.{DirectionStop}
+use Rattle.px_ways.specs.declared.directions.DirectionStop.TheVariants as stop
 use Rattle.px_templates.specs.declared.pages.Page.{Page}
 use Rattle.px_templates.specs.declared.pages.Page.TheVariants as page
 use Rattle.px_judging.specs.declared.judgements.TunnelPlan.{TunnelPlan}
@@ -55,7 +55,7 @@ front_behind front bytes taken taken' e = record {
 -- ---- one direction
 
 -- what was carried, whatever stopped it
-carried_some : (bytes taken taken' : List ℕ) (s : Stop) → Takes bytes taken taken' s → AddsSome DIRECTION_LIMIT bytes taken taken'
+carried_some : (bytes taken taken' : List ℕ) (s : DirectionStop) → DirectionTakes bytes taken taken' s → AddsSome DIRECTION_LIMIT bytes taken taken'
 carried_some bytes taken taken' stop.Whole e = record { count = DIRECTION_LIMIT; within = omega arith; added = e }
 carried_some bytes taken taken' stop.SourceFailed h = h
 carried_some bytes taken taken' stop.SinkFailed h = h
@@ -76,7 +76,7 @@ whole_out bytes taken taken' false e h = record { out = take DIRECTION_LIMIT byt
 whole_out bytes taken taken' true e h = absurd (cc)
 
 -- the client's bytes, whose sink is the link's
-there_out : (bytes : List ℕ) (l l' : SinkState) (s : Stop) → l.faults ≡ 0 → Takes bytes l.taken l'.taken s → SinkCause l l' s → is_wanting s ≡ false
+there_out : (bytes : List ℕ) (l l' : SinkState) (s : DirectionStop) → l.faults ≡ 0 → DirectionTakes bytes l.taken l'.taken s → StopSinkCause l l' s → is_stop_wanting s ≡ false
     → Carried_out (is_source_failed s || not (l'.faults == 0)) bytes l.taken l'.taken
 there_out bytes l l' stop.Whole none h cause w = whole_out bytes l.taken l'.taken (not (l'.faults == 0)) (failed_now false l.faults l'.faults none cause) h
 there_out bytes l l' stop.SourceFailed none h cause w = cut_out bytes l.taken l'.taken true refl h
@@ -84,7 +84,7 @@ there_out bytes l l' stop.SinkFailed none h cause w = cut_out bytes l.taken l'.t
 there_out bytes l l' stop.NoMemory none h cause w = absurd (cc)
 
 -- the link's bytes, whose sink is the client's
-back_out : (bytes taken taken' : List ℕ) (i i' : SourceState) (s : Stop) → i.faults ≡ 0 → Takes bytes taken taken' s → SourceCause i i' s → is_wanting s ≡ false
+back_out : (bytes taken taken' : List ℕ) (i i' : SourceState) (s : DirectionStop) → i.faults ≡ 0 → DirectionTakes bytes taken taken' s → SourceCause i i' s → is_stop_wanting s ≡ false
     → Carried_out (not (i'.faults == 0) || is_sink_failed s) bytes taken taken'
 back_out bytes taken taken' i i' stop.Whole none h cause w =
     whole_out bytes taken taken' (not (i'.faults == 0) || false) (ap (λ b. b || false) (failed_now false i.faults i'.faults none cause)) h
@@ -133,19 +133,19 @@ greeting_wanting page_due t stream taken taken' i l l' fresh sent cut =
     inr (refl, inr (record { sent = front_behind t.head stream [] l'.taken (sent_head t l l' fresh sent); returned = part_behind t.greeting i.offered taken taken' cut }))
 
 -- both directions were carried
-pub both_carried : (page_due : Page → Due) (t : TunnelPlan) (stream behind taken mid taken' : List ℕ) (i i' : SourceState) (l l' : SinkState) (there back : Stop)
+pub both_carried : (page_due : Page → Due) (t : TunnelPlan) (stream behind taken mid taken' : List ℕ) (i i' : SourceState) (l l' : SinkState) (there back : DirectionStop)
     → mid ≡ taken ++ t.greeting → l.taken ≡ t.head → l.faults ≡ 0 → i.faults ≡ 0 → i.left ≡ i.offered → i'.offered ≡ i.offered
-    → Takes stream l.taken l'.taken there → SinkCause l l' there → Takes i.left mid taken' back → SourceCause i i' back
+    → DirectionTakes stream l.taken l'.taken there → StopSinkCause l l' there → DirectionTakes i.left mid taken' back → SourceCause i i' back
     → TunnelTalksOver page_due t (record { stream = stream; behind = behind }) taken taken' (talked.Ended (carried_so (carried_of there back))) (link_seen i' l')
-both_carried page_due t stream behind taken mid taken' i i' l l' there back greeted sent calm_out calm_in fresh same takes_there cause_there takes_back cause_back = by (is_wanting there || is_wanting back) refl
+both_carried page_due t stream behind taken mid taken' i i' l l' there back greeted sent calm_out calm_in fresh same takes_there cause_there takes_back cause_back = by (is_stop_wanting there || is_stop_wanting back) refl
   where
     offered : i.left ≡ i'.offered
     offered = fresh ∙ sym same
 
-    returns : Takes i'.offered mid taken' back
+    returns : DirectionTakes i'.offered mid taken' back
     returns = rw offered at takes_back
 
-    by : (b : Bool) → is_wanting there || is_wanting back ≡ b
+    by : (b : Bool) → is_stop_wanting there || is_stop_wanting back ≡ b
         → TunnelTalksOver page_due t (record { stream = stream; behind = behind }) taken taken' (talked.Ended (carried_so (carried_of there back))) (link_seen i' l')
     by true e =
         let some = carried_some stream l.taken l'.taken there takes_there in
@@ -158,7 +158,7 @@ both_carried page_due t stream behind taken mid taken' i i' l l' there back gree
           }),
         )
     by false e =
-        let parts = or_parts (is_wanting there) (is_wanting back) e in
+        let parts = or_parts (is_stop_wanting there) (is_stop_wanting back) e in
         let out = there_out stream l l' there calm_out takes_there cause_there parts.0 in
         let in_ = back_out i'.offered mid taken' i i' back calm_in returns cause_back parts.1 in
         inl (inl (record {

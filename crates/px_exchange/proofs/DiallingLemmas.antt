@@ -11,7 +11,7 @@ use Rattle.px_base.specs.Dials.{DialerState, DialerGoesOn, Met, offers, nameless
 use Rattle.px_base.specs.declared.dials.DialOutcome.{DialOutcome}
 use Rattle.px_decide.specs.declared.routes.Route.{Route}
 use Rattle.px_exchange.specs.Forwarding.{link_seen}
-use Rattle.px_exchange.specs.Dialling.{DialsOnce, Comes}
+use Rattle.px_exchange.specs.Dialling.{DialsOnce, DialComes}
 
 -- the last dial is open
 pub open-last : (mark : ℕ) (d : Dial) (ds : List Dial) → is_open_at mark d.outcome ≡ true → is_open mark (ds ++ d ∷ []) ≡ true
@@ -43,7 +43,7 @@ steady {n = n} b c m e kept none told = calm n ((kept (e ∙ told)).1 ∙ none)
 -- what came over the link is what was to come
 comes : (m : Met) (i i' : SourceState) (o o' : SinkState)
     → agrees m (Ok (record { link_in = i; link_out = o })) → IsFresh (record { link_in = i; link_out = o }) → SourceGoesOn i i' → (IsTrue o.steady → o'.faults ≡ o.faults)
-    → Comes m (outcome.Link (link_seen i' o'))
+    → DialComes m (outcome.Link (link_seen i' o'))
 comes (offers bytes reads writes) i i' o o' a fresh on_in calm_out = (
   on_in.offered_same ∙ a.0,
   λ told. steady i.steady reads i.faults a.1 on_in.steady_kept fresh.no_read_failed told,

@@ -12,7 +12,7 @@ use Rattle.px_pumps.specs.declared.notes.Conclusion.{Conclusion}
 use Rattle.px_pumps.specs.declared.talks.Talked.{Talked}
 use Rattle.px_pumps.specs.declared.talks.Talked.TheVariants as talked
 use Rattle.px_exchange.specs.Dialling.{DialsOnce}
-use Rattle.px_exchange.specs.Forwarding.{Says, concluded, no_memory, talked_so, tunnelled, wanted}
+use Rattle.px_exchange.specs.Forwarding.{Says, concluded, no_memory, talked_so, tunnelled, says_wanting}
 use Rattle.px_exchange.specs.Replies.{ReturnsSome}
 
 -- what is said of an end in one sense is said in another
@@ -33,7 +33,7 @@ either P Q = record {
 abbrev pub wanting : List ℕ → Conclusion → Says
 wanting taken' x = record { due = λ mid d. AddsPrefix mid taken' d.bytes × (x ≡ broken after.NoMemory); stopped = λ mid a. ⊥; carried = λ mid a. ⊥ }
 
-wanting_wanted : (taken' : List ℕ) (x : Conclusion) → Also (wanting taken' x) (wanted taken')
+wanting_wanted : (taken' : List ℕ) (x : Conclusion) → Also (wanting taken' x) (says_wanting taken')
 wanting_wanted taken' x = record { due = λ mid d h. h.0; stopped = λ mid a h. absurd h; carried = λ mid a h. absurd h }
 
 -- A relation by how it is said to end, and the same with memory wanting.
@@ -41,7 +41,7 @@ pub record ByEnd (R : Says → DialOutcome → Type 0) (W : List ℕ → DialOut
   pub also : (P Q : Says) (o : DialOutcome) → Also P Q → R P o → R Q o
   pub one_of : (P Q : Says) (o : DialOutcome) → R (either P Q) o → R P o ⊎ R Q o
   pub wants_memory : (taken' : List ℕ) (x : Conclusion) (o : DialOutcome) → R (wanting taken' x) o → x ≡ broken after.NoMemory
-  pub wants : (taken' : List ℕ) (o : DialOutcome) → R (wanted taken') o → W taken' o
+  pub wants : (taken' : List ℕ) (o : DialOutcome) → R (says_wanting taken') o → W taken' o
 
 -- what follows a talk, the rest being returned
 rest_over : (page_due : Page → Due) (R : Says → DialOutcome → Type 0) (W : List ℕ → DialOutcome → Type 0) → ByEnd R W
@@ -53,7 +53,7 @@ rest_over : (page_due : Page → Due) (R : Says → DialOutcome → Type 0) (W :
 rest_over page_due R W by mid taken' t x o returns ended (inl says) =
     elim (by.one_of (concluded taken' x) (wanting taken' x) o (by.also (talked_so page_due mid t) (either (concluded taken' x) (wanting taken' x)) o also says)) [
       | inl whole ↦ inl whole
-      | inr wants ↦ inr (by.wants_memory taken' x o wants, by.wants taken' o (by.also (wanting taken' x) (wanted taken') o (wanting_wanted taken' x) wants))
+      | inr wants ↦ inr (by.wants_memory taken' x o wants, by.wants taken' o (by.also (wanting taken' x) (says_wanting taken') o (wanting_wanted taken' x) wants))
     ]
   where
     also : Also (talked_so page_due mid t) (either (concluded taken' x) (wanting taken' x))

@@ -11,10 +11,10 @@ use Rattle.px_pumps.specs.Answering.{Ask}
 use Rattle.px_pumps.specs.Returning.{broken}
 use Rattle.px_pumps.specs.declared.notes.After.TheVariants as after
 use Rattle.px_pumps.specs.declared.notes.Conclusion.{Conclusion}
-use Rattle.px_exchange.specs.Forwarding.{Client, Follows, Forwards, Says, WantsOver, wanted}
+use Rattle.px_exchange.specs.Forwarding.{Client, FollowsSending, Forwards, Says, WantsOver, says_wanting}
 use Rattle.px_exchange.proofs.EndLemmas.{Also, ByEnd, either, wanting}
 
-follows_also : (ask : Ask) (P Q : Says) (seen : LinkSeen) (mid : List ℕ) (how : Sent) → Also P Q → Follows ask P seen mid how → Follows ask Q seen mid how
+follows_also : (ask : Ask) (P Q : Says) (seen : LinkSeen) (mid : List ℕ) (how : Sent) → Also P Q → FollowsSending ask P seen mid how → FollowsSending ask Q seen mid how
 follows_also ask P Q seen mid sent.Whole f h = record { due = h.due; is_due = h.is_due; is_so = f.due mid h.due h.is_so }
 follows_also ask P Q seen mid sent.LinkFailed f h = f.due mid _ h
 follows_also ask P Q seen mid sent.Misframed f h = f.due mid _ h
@@ -31,7 +31,7 @@ forwards_also ask route m c P Q taken (outcome.Open mark offered) f h = absurd h
 forwards_also ask route m c P Q taken (outcome.Link seen) f h =
     record { how = h.how; mid = h.mid; sends = h.sends; by_link = h.by_link; follows = follows_also ask P Q seen h.mid h.how f h.follows }
 
-follows_either : (ask : Ask) (P Q : Says) (seen : LinkSeen) (mid : List ℕ) (how : Sent) → Follows ask (either P Q) seen mid how → Follows ask P seen mid how ⊎ Follows ask Q seen mid how
+follows_either : (ask : Ask) (P Q : Says) (seen : LinkSeen) (mid : List ℕ) (how : Sent) → FollowsSending ask (either P Q) seen mid how → FollowsSending ask P seen mid how ⊎ FollowsSending ask Q seen mid how
 follows_either ask P Q seen mid sent.Whole h = elim h.is_so [
   | inl p ↦ inl (record { due = h.due; is_due = h.is_due; is_so = p })
   | inr q ↦ inr (record { due = h.due; is_due = h.is_due; is_so = q })
@@ -53,7 +53,7 @@ forwards_either ask route m c P Q taken (outcome.Link seen) h = elim (follows_ei
   | inr q ↦ inr (record { how = h.how; mid = h.mid; sends = h.sends; by_link = h.by_link; follows = q })
 ]
 
-follows_wanting : (ask : Ask) (taken' mid : List ℕ) (x : Conclusion) (seen : LinkSeen) (how : Sent) → Follows ask (wanting taken' x) seen mid how → x ≡ broken after.NoMemory
+follows_wanting : (ask : Ask) (taken' mid : List ℕ) (x : Conclusion) (seen : LinkSeen) (how : Sent) → FollowsSending ask (wanting taken' x) seen mid how → x ≡ broken after.NoMemory
 follows_wanting ask taken' mid x seen sent.Whole h = h.is_so.1
 follows_wanting ask taken' mid x seen sent.LinkFailed h = h.1
 follows_wanting ask taken' mid x seen sent.Misframed h = h.1
@@ -69,7 +69,7 @@ forwards_wanting ask route m c taken taken' x outcome.NotReached h = h.1.1
 forwards_wanting ask route m c taken taken' x (outcome.Open mark offered) h = absurd h
 forwards_wanting ask route m c taken taken' x (outcome.Link seen) h = follows_wanting ask taken' h.mid x seen h.how h.follows
 
-wants_over : (ask : Ask) (route : Route) (m : Message) (c : Client) (taken taken' : List ℕ) (o : DialOutcome) → Forwards ask route m c (wanted taken') taken o → WantsOver ask route m c taken taken' o
+wants_over : (ask : Ask) (route : Route) (m : Message) (c : Client) (taken taken' : List ℕ) (o : DialOutcome) → Forwards ask route m c (says_wanting taken') taken o → WantsOver ask route m c taken taken' o
 wants_over ask route m c taken taken' outcome.NoName h = h
 wants_over ask route m c taken taken' outcome.NotReached h = h
 wants_over ask route m c taken taken' (outcome.Open mark offered) h = h

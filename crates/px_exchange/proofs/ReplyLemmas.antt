@@ -14,25 +14,25 @@ use Rattle.px_headers.specs.declared.client.ClientOut.{ClientOut}
 use Rattle.px_templates.specs.declared.pages.Page.{Page}
 use Rattle.px_judging.specs.Given.{Given}
 use Rattle.px_judging.specs.Judging.{Judged, by_decision, by_headers, by_method, by_rule, by_url, image_or_page, judged, tunnel_of}
-use Rattle.px_judging.specs.Requests.{body_read, is_connect, tagged, target_read, vars_of}
+use Rattle.px_judging.specs.Requests.{body_read, is_connect, tagged_request, target_read, vars_of}
 use Rattle.px_judging.specs.declared.judgements.Judgement.{Judgement}
 use Rattle.px_judging.specs.declared.judgements.Judgement.TheVariants as judgement
 use Rattle.px_judging.specs.declared.judgements.Plan.{Plan}
 use Rattle.px_judging.specs.declared.judgements.TunnelPlan.{TunnelPlan}
-use Rattle.px_judging.specs.declared.readings.Reading.{Reading}
-use Rattle.px_judging.specs.declared.readings.Reading.TheVariants.{Overlong, Malformed, TooManyFields, Head}
+use Rattle.px_judging.specs.declared.readings.HeadReading.{HeadReading}
+use Rattle.px_judging.specs.declared.readings.HeadReading.TheVariants.{Overlong, Malformed, TooManyFields, Head}
 use Rattle.px_judging.specs.declared.replies.LocalReply.{LocalReply}
 use Rattle.px_judging.specs.declared.replies.ReplyKind.{ReplyKind}
 use Rattle.px_judging.specs.declared.replies.ReplyKind.TheVariants as kind
 use Rattle.px_judging.specs.declared.requests.Request.{Request}
-use Rattle.px_judging.specs.declared.requests.Tags.{Tags}
+use Rattle.px_judging.specs.declared.requests.RequestTags.{RequestTags}
 use Rattle.px_pumps.specs.declared.notes.Conclusion.{Conclusion}
 use Rattle.px_pumps.specs.declared.notes.Ending.{Ending}
 use Rattle.px_pumps.specs.declared.notes.Ending.TheVariants as ending
 use Rattle.px_exchange.specs.Causes.{EndingCause}
 use Rattle.px_exchange.specs.Exchange.{Answers, ForwardsSome, TunnelsSome}
 use Rattle.px_exchange.specs.Forwarding.{Client}
-use Rattle.px_exchange.specs.Replies.{ReturnsSome, ending_of, local_due}
+use Rattle.px_exchange.specs.Replies.{ReturnsSome, reply_ending, local_due}
 
 -- a reply without a dial
 pub local_answers : (g : Given) (reply : LocalReply) (c : Client) (d : DialerState) (taken taken' : List ℕ) (x : Conclusion)
@@ -53,26 +53,26 @@ forward_answers g plan c old new taken taken' x j (inr wants) = inr (record { ju
 -- ---- no reply without a dial is a page that speaks of one
 
 abbrev IsQuiet : Judgement → Type 0
-IsQuiet (judgement.Local reply) = (old new : DialerState) → EndingCause old new (ending_of reply.kind)
+IsQuiet (judgement.Local reply) = (old new : DialerState) → EndingCause old new (reply_ending reply.kind)
 IsQuiet (judgement.Forward plan) = Unit {0}
 IsQuiet (judgement.Tunnel plan) = Unit {0}
 
-headers_quiet : (g : Given) (r : Request) (t : Tags) (o : Option ClientOut) → IsQuiet (by_headers g r t o)
+headers_quiet : (g : Given) (r : Request) (t : RequestTags) (o : Option ClientOut) → IsQuiet (by_headers g r t o)
 headers_quiet g r t (Some out) = tt
 headers_quiet g r t None = λ old new. tt
 
-method_quiet : (g : Given) (r : Request) (t : Tags) → IsQuiet (by_method g r t)
+method_quiet : (g : Given) (r : Request) (t : RequestTags) → IsQuiet (by_method g r t)
 method_quiet g r t = by (is_connect r.head)
   where
     by : (b : Bool) → IsQuiet (cond b (judgement.Tunnel (tunnel_of g r t)) (by_headers g r t (client_out t.set g.config.filters (vars_of g.peer r.url) r.url g.peer r.head)))
     by true = tt
     by false = headers_quiet g r t (client_out t.set g.config.filters (vars_of g.peer r.url) r.url g.peer r.head)
 
-image_quiet : (g : Given) (r : Request) (t : Tags) (image : Option (List ℕ)) (k : ReplyKind) → ((old new : DialerState) → EndingCause old new (ending_of k)) → IsQuiet (image_or_page g r t image k)
+image_quiet : (g : Given) (r : Request) (t : RequestTags) (image : Option (List ℕ)) (k : ReplyKind) → ((old new : DialerState) → EndingCause old new (reply_ending k)) → IsQuiet (image_or_page g r t image k)
 image_quiet g r t (Some bytes) k q = q
 image_quiet g r t None k q = λ old new. tt
 
-decision_quiet : (g : Given) (r : Request) (t : Tags) (d : Decision) → IsQuiet (by_decision g r t d)
+decision_quiet : (g : Given) (r : Request) (t : RequestTags) (d : Decision) → IsQuiet (by_decision g r t d)
 decision_quiet g r t decision.Pass = method_quiet g r t
 decision_quiet g r t (decision.Blocked reason) = λ old new. tt
 decision_quiet g r t decision.ImageBlank = image_quiet g r t g.config.image_blank kind.BlankImage (λ old new. tt)
@@ -83,7 +83,7 @@ decision_quiet g r t decision.ConnectDenied = λ old new. tt
 
 rule_quiet : (g : Given) (head : RequestHead) (url : Url) (rule : Result BodyRule BodyFault) → IsQuiet (by_rule g head url rule)
 rule_quiet g head url (Ok rule) =
-    let t = tagged g head url in
+    let t = tagged_request g head url in
     decision_quiet g (record { head = head; url = url; rule = rule }) t (decision_of url (is_connect head) t.set (vars_of g.peer url))
 rule_quiet g head url (Err fault) = λ old new. tt
 
@@ -91,7 +91,7 @@ url_quiet : (g : Given) (head : RequestHead) (url : Result Url UrlFault) → IsQ
 url_quiet g head (Ok url) = rule_quiet g head url (body_read head)
 url_quiet g head (Err fault) = λ old new. tt
 
-judged_quiet : (g : Given) (r : Reading) → IsQuiet (judged g r)
+judged_quiet : (g : Given) (r : HeadReading) → IsQuiet (judged g r)
 judged_quiet g Overlong = λ old new. tt
 judged_quiet g Malformed = λ old new. tt
 judged_quiet g TooManyFields = λ old new. tt
@@ -111,7 +111,7 @@ same_page old new ending.Tunnel e' same h = tt
 same_page old new ending.Broken e' same h = tt
 
 pub local_cause : (g : Given) (reply : LocalReply) (old new : DialerState) (e : Ending) → Judged g (judgement.Local reply)
-    → ((p : Page) → e ≡ ending.Page p → ending_of reply.kind ≡ ending.Page p) → EndingCause old new e
+    → ((p : Page) → e ≡ ending.Page p → reply_ending reply.kind ≡ ending.Page p) → EndingCause old new e
 local_cause g reply old new e j same =
     let quiet = subst (λ (x : Judgement). IsQuiet x) (sym j.is) (judged_quiet g j.reading) in
-    same_page old new e (ending_of reply.kind) same (quiet old new)
+    same_page old new e (reply_ending reply.kind) same (quiet old new)

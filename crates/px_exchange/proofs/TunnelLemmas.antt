@@ -10,12 +10,12 @@ use Rattle.px_pumps.specs.Returning.{broken}
 use Rattle.px_pumps.specs.declared.dues.Due.{Due}
 use Rattle.px_pumps.specs.declared.notes.After.TheVariants as after
 use Rattle.px_pumps.specs.declared.notes.Conclusion.{Conclusion}
-use Rattle.px_exchange.specs.Forwarding.{Client, Says, wanted}
-use Rattle.px_exchange.specs.Tunnels.{Carries, CutsGreeting, CutsHead, Tunnels, TunnelsOver, WantsTunnel, after_tunnel}
+use Rattle.px_exchange.specs.Forwarding.{Client, Says, says_wanting}
+use Rattle.px_exchange.specs.Tunnels.{CarriesTunnel, CutsGreeting, CutsHead, Tunnels, TunnelsOver, WantsTunnel, after_tunnel}
 use Rattle.px_exchange.proofs.EndLemmas.{Also, ByEnd, either, wanting}
 
-carries_in : (t : TunnelPlan) (c : Client) (P Q : Says) (taken : List ℕ) (seen : LinkSeen) (k : Carries t c P taken seen)
-    → Q.carried (taken ++ (t.greeting ++ k.back)) (after_tunnel k.client_read k.client_write) → Carries t c Q taken seen
+carries_in : (t : TunnelPlan) (c : Client) (P Q : Says) (taken : List ℕ) (seen : LinkSeen) (k : CarriesTunnel t c P taken seen)
+    → Q.carried (taken ++ (t.greeting ++ k.back)) (after_tunnel k.client_read k.client_write) → CarriesTunnel t c Q taken seen
 carries_in t c P Q taken seen k q =
     record { client_read = k.client_read; client_write = k.client_write; out = k.out; back = k.back; sent = k.sent; there = k.there; returned = k.returned; says_so = q }
 
@@ -71,7 +71,7 @@ tunnels_wanting page_due t c taken taken' x outcome.NotReached h = h.1.1
 tunnels_wanting page_due t c taken taken' x (outcome.Open mark offered) h = absurd h
 tunnels_wanting page_due t c taken taken' x (outcome.Link seen) h = over_wanting page_due t c taken taken' x seen h
 
-wants_tunnel : (page_due : Page → Due) (t : TunnelPlan) (c : Client) (taken taken' : List ℕ) (o : DialOutcome) → Tunnels page_due t c (wanted taken') taken o → WantsTunnel page_due t c taken taken' o
+wants_tunnel : (page_due : Page → Due) (t : TunnelPlan) (c : Client) (taken taken' : List ℕ) (o : DialOutcome) → Tunnels page_due t c (says_wanting taken') taken o → WantsTunnel page_due t c taken taken' o
 wants_tunnel page_due t c taken taken' outcome.NoName h = h
 wants_tunnel page_due t c taken taken' outcome.NotReached h = h
 wants_tunnel page_due t c taken taken' (outcome.Open mark offered) h = h

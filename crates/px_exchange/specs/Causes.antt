@@ -65,17 +65,17 @@ TalkLinkCause old new (talked.Page p) = LinkPageCause old new p
 TalkLinkCause old new (talked.Ended x) = IsAnswerEnding x.ending
 
 -- the client's source failed exactly where what comes after says so; without memory in a tunnel it may have
-abbrev pub ReadCause : SourceState → SourceState → After → Type 0
-ReadCause old new after.Keep = new.faults ≡ old.faults
-ReadCause old new after.Close = new.faults ≡ old.faults
-ReadCause old new after.Cut = new.faults ≡ old.faults
-ReadCause old new after.ReadFailed = Rose old.faults new.faults
-ReadCause old new after.WriteFailed = new.faults ≡ old.faults
-ReadCause old new after.NoMemory = Unit {0}
+abbrev pub ClientReadCause : SourceState → SourceState → After → Type 0
+ClientReadCause old new after.Keep = new.faults ≡ old.faults
+ClientReadCause old new after.Close = new.faults ≡ old.faults
+ClientReadCause old new after.Cut = new.faults ≡ old.faults
+ClientReadCause old new after.ReadFailed = Rose old.faults new.faults
+ClientReadCause old new after.WriteFailed = new.faults ≡ old.faults
+ClientReadCause old new after.NoMemory = Unit {0}
 
 abbrev pub TalkReadCause : SourceState → SourceState → Talked → Type 0
 TalkReadCause old new (talked.Page p) = new.faults ≡ old.faults
-TalkReadCause old new (talked.Ended x) = ReadCause old new x.after
+TalkReadCause old new (talked.Ended x) = ClientReadCause old new x.after
 
 -- the client's sink failed exactly where what comes after says so; in a tunnel it may have beside its source, or without memory
 abbrev pub WriteCauseAfter : SinkState → SinkState → Ending → After → Type 0
@@ -86,12 +86,12 @@ WriteCauseAfter old new e after.ReadFailed = e ≢ ending.Tunnel → new.faults 
 WriteCauseAfter old new e after.WriteFailed = Rose old.faults new.faults
 WriteCauseAfter old new e after.NoMemory = Unit {0}
 
-abbrev pub WriteCause : SinkState → SinkState → Conclusion → Type 0
-WriteCause old new x = WriteCauseAfter old new x.ending x.after
+abbrev pub ClientWriteCause : SinkState → SinkState → Conclusion → Type 0
+ClientWriteCause old new x = WriteCauseAfter old new x.ending x.after
 
 abbrev pub TalkWriteCause : SinkState → SinkState → Talked → Type 0
 TalkWriteCause old new (talked.Page p) = new.faults ≡ old.faults
-TalkWriteCause old new (talked.Ended x) = WriteCause old new x
+TalkWriteCause old new (talked.Ended x) = ClientWriteCause old new x
 
 -- the client's sink is as open as it was, save behind a tunnel
 abbrev pub StaysOpenAfter : SinkState → SinkState → Ending → After → Type 0
@@ -102,12 +102,12 @@ StaysOpenAfter old new e after.ReadFailed = e ≢ ending.Tunnel → new.finished
 StaysOpenAfter old new e after.WriteFailed = e ≢ ending.Tunnel → new.finished ≡ old.finished
 StaysOpenAfter old new e after.NoMemory = Unit {0}
 
-abbrev pub StaysOpen : SinkState → SinkState → Conclusion → Type 0
-StaysOpen old new x = StaysOpenAfter old new x.ending x.after
+abbrev pub ClientStaysOpen : SinkState → SinkState → Conclusion → Type 0
+ClientStaysOpen old new x = StaysOpenAfter old new x.ending x.after
 
 abbrev pub TalkStaysOpen : SinkState → SinkState → Talked → Type 0
 TalkStaysOpen old new (talked.Page p) = new.finished ≡ old.finished
-TalkStaysOpen old new (talked.Ended x) = StaysOpen old new x
+TalkStaysOpen old new (talked.Ended x) = ClientStaysOpen old new x
 
 -- a tunnel, or one that wasn't carried
 abbrev pub IsTunnelEnding : Ending → Type 0

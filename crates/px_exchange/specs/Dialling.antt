@@ -8,12 +8,12 @@ use Rattle.px_base.specs.declared.dials.DialOutcome.TheVariants as outcome
 use Rattle.px_decide.specs.declared.routes.Route.{Route}
 
 -- what came of a dial is what was to come of it; an end that fails no more hasn't failed
-abbrev pub Comes : Met → DialOutcome → Type 0
-Comes (offers bytes reads writes) (outcome.Link seen) = (seen.offered ≡ bytes) × (IsTrue reads → seen.read_failed ≡ false) × (IsTrue writes → seen.write_failed ≡ false)
-Comes nameless outcome.NoName = Unit {0}
-Comes unreached outcome.NotReached = Unit {0}
-Comes untold o = Unit {0}
-Comes m o = ⊥
+abbrev pub DialComes : Met → DialOutcome → Type 0
+DialComes (offers bytes reads writes) (outcome.Link seen) = (seen.offered ≡ bytes) × (IsTrue reads → seen.read_failed ≡ false) × (IsTrue writes → seen.write_failed ≡ false)
+DialComes nameless outcome.NoName = Unit {0}
+DialComes unreached outcome.NotReached = Unit {0}
+DialComes untold o = Unit {0}
+DialComes m o = ⊥
 
 -- each fault of a dial and of its link raised its own count
 abbrev pub OutcomeCause : DialerState → DialerState → DialOutcome → Type 0
@@ -30,7 +30,7 @@ pub record DialsOnce (route : Route) (Gives : DialOutcome → Type 0) (old new :
   pub to_host : dial.host ≡ route.host
   pub to_port : dial.port ≡ route.port
   pub gives : Gives dial.outcome
-  pub comes : IsTrue old.tells_coming → Comes (met old dial.host) dial.outcome
+  pub comes : IsTrue old.tells_coming → DialComes (met old dial.host) dial.outcome
   pub coming_left : IsTrue old.tells_coming → new.coming ≡ coming_behind old dial.host
   pub goes_on : DialerGoesOn old new
   pub cause : OutcomeCause old new dial.outcome

@@ -64,11 +64,11 @@ WantsReply config reply c old new taken taken' = (new ≡ old) × (c.behind ≡ 
 
 -- what was dialled and returned where memory was wanting: in judging, in a reply without a dial, for a request that is sent on or in
 -- a tunnel
-abbrev pub Wants : Config → Option Judgement → Client → DialerState → DialerState → List ℕ → List ℕ → Type 0
-Wants config None c old new taken taken' = (new ≡ old) × (c.behind ≡ c.stream) × (taken' ≡ taken)
-Wants config (Some (judgement.Local reply)) c old new taken taken' = WantsReply config reply c old new taken taken'
-Wants config (Some (judgement.Forward plan)) c old new taken taken' = WantsForward config plan c old new taken taken'
-Wants config (Some (judgement.Tunnel t)) c old new taken taken' = tunnel.Wants (tunnel_page_due config t) t c old new taken taken'
+abbrev pub WantsJudged : Config → Option Judgement → Client → DialerState → DialerState → List ℕ → List ℕ → Type 0
+WantsJudged config None c old new taken taken' = (new ≡ old) × (c.behind ≡ c.stream) × (taken' ≡ taken)
+WantsJudged config (Some (judgement.Local reply)) c old new taken taken' = WantsReply config reply c old new taken taken'
+WantsJudged config (Some (judgement.Forward plan)) c old new taken taken' = WantsForward config plan c old new taken taken'
+WantsJudged config (Some (judgement.Tunnel t)) c old new taken taken' = tunnel.WantsTunnelDial (tunnel_page_due config t) t c old new taken taken'
 
 -- what was judged, if memory was there for that
 abbrev pub JudgedMaybe : Given → Option Judgement → Type 0
@@ -76,15 +76,15 @@ JudgedMaybe g None = Unit {0}
 JudgedMaybe g (Some j) = Judged g j
 
 -- an exchange in which memory was wanting
-pub record GivesUp (g : Given) (c : Client) (old new : DialerState) (taken taken' : List ℕ) (x : Conclusion) : Type 0 where
+pub record GivesUpExchange (g : Given) (c : Client) (old new : DialerState) (taken taken' : List ℕ) (x : Conclusion) : Type 0 where
   pub judgement : Option Judgement
   pub judged : JudgedMaybe g judgement
-  pub wants : Wants g.config judgement c old new taken taken'
+  pub wants : WantsJudged g.config judgement c old new taken taken'
   pub concluded : x ≡ broken after.NoMemory
 
 -- one exchange, or one in which memory was wanting
 abbrev pub Answers : Given → Client → DialerState → DialerState → List ℕ → List ℕ → Conclusion → Type 0
-Answers g c old new taken taken' x = Exchanges g c old new taken taken' x ⊎ GivesUp g c old new taken taken' x
+Answers g c old new taken taken' x = Exchanges g c old new taken taken' x ⊎ GivesUpExchange g c old new taken taken' x
 
 -- what came of a request that is sent on, before a page is returned in place of an answer
 abbrev pub TalksOn : Ask → Route → Message → Client → DialerState → DialerState → List ℕ → List ℕ → Talked → Type 0
@@ -102,4 +102,4 @@ ForwardsSome config plan c old new taken taken' x =
 abbrev pub TunnelsSome : Config → TunnelPlan → Client → DialerState → DialerState → List ℕ → List ℕ → Conclusion → Type 0
 TunnelsSome config t c old new taken taken' x =
     DialsOnce t.route (Tunnels (tunnel_page_due config t) t c (concluded taken' x) taken) old new
-    ⊎ ((x ≡ broken after.NoMemory) × tunnel.Wants (tunnel_page_due config t) t c old new taken taken')
+    ⊎ ((x ≡ broken after.NoMemory) × tunnel.WantsTunnelDial (tunnel_page_due config t) t c old new taken taken')

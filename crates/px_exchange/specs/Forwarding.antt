@@ -51,14 +51,14 @@ pub record Says : Type 1 where
 
 -- What follows the sending of a request, by what came of that, the client's sink having taken `mid` behind it: what the answer
 -- becomes, the page of a link that failed or of a misframed body, or nothing more.
-abbrev pub Follows : Ask → Says → LinkSeen → List ℕ → Sent → Type 0
-Follows ask says seen mid sent.Whole = HasDue (Answered ask (answer_of seen) seen.read_failed) (says.due mid)
-Follows ask says seen mid sent.LinkFailed = says.due mid (ask.page_due page.SendFailed)
-Follows ask says seen mid sent.Misframed = says.due mid (ask.page_due page.InvalidRequest)
-Follows ask says seen mid sent.Cut = says.stopped mid after.Cut
-Follows ask says seen mid sent.ReadFailed = says.stopped mid after.ReadFailed
-Follows ask says seen mid sent.WriteFailed = says.stopped mid after.WriteFailed
-Follows ask says seen mid sent.NoMemory = ⊥
+abbrev pub FollowsSending : Ask → Says → LinkSeen → List ℕ → Sent → Type 0
+FollowsSending ask says seen mid sent.Whole = HasDue (Answered ask (answer_of seen) seen.read_failed) (says.due mid)
+FollowsSending ask says seen mid sent.LinkFailed = says.due mid (ask.page_due page.SendFailed)
+FollowsSending ask says seen mid sent.Misframed = says.due mid (ask.page_due page.InvalidRequest)
+FollowsSending ask says seen mid sent.Cut = says.stopped mid after.Cut
+FollowsSending ask says seen mid sent.ReadFailed = says.stopped mid after.ReadFailed
+FollowsSending ask says seen mid sent.WriteFailed = says.stopped mid after.WriteFailed
+FollowsSending ask says seen mid sent.NoMemory = ⊥
 
 -- what was sent over a link, and what followed
 pub record Talks (ask : Ask) (m : Message) (c : Client) (says : Says) (taken : List ℕ) (seen : LinkSeen) : Type 0 where
@@ -66,7 +66,7 @@ pub record Talks (ask : Ask) (m : Message) (c : Client) (says : Says) (taken : L
   pub mid : List ℕ
   pub sends : Sends m c.stream c.behind [] seen.sent taken mid how
   pub by_link : seen.write_failed ≡ is_link_failed how
-  pub follows : Follows ask says seen mid how
+  pub follows : FollowsSending ask says seen mid how
 
 -- what came of a request that wasn't sent on whole
 abbrev pub stopped : Sent → Option Talked
@@ -87,13 +87,13 @@ abbrev pub not_reached_page : Route → Page
 not_reached_page route = if route.parent then page.ForwardingFailed else page.ConnectFailed
 
 -- a refused dial: a page is due, and nothing is read of the client
-abbrev pub Refuses : Due → Client → Says → List ℕ → Type 0
-Refuses due c says taken = (c.behind ≡ c.stream) × says.due taken due
+abbrev pub RefusesDial : Due → Client → Says → List ℕ → Type 0
+RefusesDial due c says taken = (c.behind ≡ c.stream) × says.due taken due
 
 -- what came of a request that is sent on, by the outcome of its dial
 abbrev pub Forwards : Ask → Route → Message → Client → Says → List ℕ → DialOutcome → Type 0
-Forwards ask route m c says taken outcome.NoName = Refuses (ask.page_due (no_name_page route)) c says taken
-Forwards ask route m c says taken outcome.NotReached = Refuses (ask.page_due (not_reached_page route)) c says taken
+Forwards ask route m c says taken outcome.NoName = RefusesDial (ask.page_due (no_name_page route)) c says taken
+Forwards ask route m c says taken outcome.NotReached = RefusesDial (ask.page_due (not_reached_page route)) c says taken
 Forwards ask route m c says taken (outcome.Open mark offered) = ⊥
 Forwards ask route m c says taken (outcome.Link seen) = Talks ask m c says taken seen
 
@@ -120,8 +120,8 @@ talked_so page_due taken' t = record {
 }
 
 -- memory was wanting: a prefix of what is due was returned
-abbrev pub wanted : List ℕ → Says
-wanted taken' = record { due = λ mid due. AddsPrefix mid taken' due.bytes; stopped = λ mid a. ⊥; carried = λ mid a. ⊥ }
+abbrev pub says_wanting : List ℕ → Says
+says_wanting taken' = record { due = λ mid due. AddsPrefix mid taken' due.bytes; stopped = λ mid a. ⊥; carried = λ mid a. ⊥ }
 
 -- ---- want of memory
 
@@ -146,12 +146,12 @@ pub record StopsOver (m : Message) (c : Client) (taken taken' : List ℕ) (seen 
 
 -- memory was wanting over a link
 abbrev pub WantsOverLink : Ask → Message → Client → List ℕ → List ℕ → LinkSeen → Type 0
-WantsOverLink ask m c taken taken' seen = Talks ask m c (wanted taken') taken seen ⊎ StopsOver m c taken taken' seen
+WantsOverLink ask m c taken taken' seen = Talks ask m c (says_wanting taken') taken seen ⊎ StopsOver m c taken taken' seen
 
 -- memory was wanting behind a dial
 abbrev pub WantsOver : Ask → Route → Message → Client → List ℕ → List ℕ → DialOutcome → Type 0
-WantsOver ask route m c taken taken' outcome.NoName = Refuses (ask.page_due (no_name_page route)) c (wanted taken') taken
-WantsOver ask route m c taken taken' outcome.NotReached = Refuses (ask.page_due (not_reached_page route)) c (wanted taken') taken
+WantsOver ask route m c taken taken' outcome.NoName = RefusesDial (ask.page_due (no_name_page route)) c (says_wanting taken') taken
+WantsOver ask route m c taken taken' outcome.NotReached = RefusesDial (ask.page_due (not_reached_page route)) c (says_wanting taken') taken
 WantsOver ask route m c taken taken' (outcome.Open mark offered) = ⊥
 WantsOver ask route m c taken taken' (outcome.Link seen) = WantsOverLink ask m c taken taken' seen
 

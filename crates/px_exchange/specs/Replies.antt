@@ -19,16 +19,16 @@ use Rattle.px_pumps.specs.declared.notes.After.TheVariants as after
 use Rattle.px_pumps.specs.declared.notes.Conclusion.{Conclusion}
 
 -- what a reply of that kind is
-abbrev pub ending_of : ReplyKind → Ending
-ending_of (kind.Page p symbols) = ending.Page p
-ending_of kind.BlankImage = ending.Image
-ending_of kind.PatternImage = ending.Image
-ending_of kind.EmptyDocument = ending.Empty
-ending_of (kind.Redirect target) = ending.Redirect
+abbrev pub reply_ending : ReplyKind → Ending
+reply_ending (kind.Page p symbols) = ending.Page p
+reply_ending kind.BlankImage = ending.Image
+reply_ending kind.PatternImage = ending.Image
+reply_ending kind.EmptyDocument = ending.Empty
+reply_ending (kind.Redirect target) = ending.Redirect
 
 -- a reply as what is due
 abbrev pub local_due : Config → LocalReply → Due
-local_due config reply = record { bytes = reply_bytes config reply; ending = ending_of reply.kind; after = after_whole (not reply.close) }
+local_due config reply = record { bytes = reply_bytes config reply; ending = reply_ending reply.kind; after = after_whole (not reply.close) }
 
 -- the value of `error` on a page of a request that was sent on: its body was misframed
 abbrev pub error_of : Page → List ℕ
@@ -49,18 +49,18 @@ abbrev pub parent_text : Route → List ℕ
 parent_text route = route.host ++ codes ":" ++ decimal route.port
 
 -- the value of `parent`
-abbrev pub parent_of : Route → Page → List ℕ
-parent_of route page.Blocked = []
-parent_of route page.ConnectFailed = []
-parent_of route page.NoSuchDomain = []
-parent_of route page.ForwardingFailed = parent_text route
-parent_of route page.NoServerData = []
-parent_of route page.InvalidRequest = []
-parent_of route page.HeadTooLong = []
-parent_of route page.BadReply = []
-parent_of route page.SendFailed = []
-parent_of route page.ConnectDenied = []
-parent_of route page.BadRewrite = []
+abbrev pub parent_value : Route → Page → List ℕ
+parent_value route page.Blocked = []
+parent_value route page.ConnectFailed = []
+parent_value route page.NoSuchDomain = []
+parent_value route page.ForwardingFailed = parent_text route
+parent_value route page.NoServerData = []
+parent_value route page.InvalidRequest = []
+parent_value route page.HeadTooLong = []
+parent_value route page.BadReply = []
+parent_value route page.SendFailed = []
+parent_value route page.ConnectDenied = []
+parent_value route page.BadRewrite = []
 
 -- a page about a URL, behind which the connection closes
 abbrev pub url_page : Page → Url → List ℕ → List ℕ → Bool → LocalReply
@@ -68,7 +68,7 @@ url_page p url error parent bodiless = record { kind = kind.Page p (url_symbols 
 
 -- the page that is returned in place of the answer to a request that was sent on
 abbrev pub page_reply : Url → Route → Bool → Page → LocalReply
-page_reply url route bodiless p = url_page p url (error_of p) (parent_of route p) bodiless
+page_reply url route bodiless p = url_page p url (error_of p) (parent_value route p) bodiless
 
 -- the same as what is due
 abbrev pub page_due : Config → Url → Route → Bool → Page → Due

@@ -18,7 +18,7 @@ use Rattle.px_pumps.specs.declared.notes.After.TheVariants as after
 use Rattle.px_pumps.specs.declared.notes.Conclusion.{Conclusion}
 use Rattle.px_pumps.specs.declared.talks.Talked.{Talked}
 use Rattle.px_exchange.specs.Dialling.{DialsOnce}
-use Rattle.px_exchange.specs.Forwarding.{Client, IsUntouched, Refuses, Says, no_memory, no_name_page, not_reached_page, talked_so, tunnelled, wanted}
+use Rattle.px_exchange.specs.Forwarding.{Client, IsUntouched, RefusesDial, Says, no_memory, no_name_page, not_reached_page, talked_so, tunnelled, says_wanting}
 
 -- all that a direction carries of those bytes, or, where it was cut short, first ones of them
 abbrev pub CarriesSome : Bool → List ℕ → List ℕ → Type 0
@@ -34,7 +34,7 @@ abbrev pub carried_so : Carried → Conclusion
 carried_so c = if c.no_memory then broken after.NoMemory else tunnelled (after_tunnel c.client_read c.client_write)
 
 -- both directions were carried, behind the head that asks a parent for the tunnel and the greeting that tells the client of it
-pub record Carries (t : TunnelPlan) (c : Client) (says : Says) (taken : List ℕ) (seen : LinkSeen) : Type 0 where
+pub record CarriesTunnel (t : TunnelPlan) (c : Client) (says : Says) (taken : List ℕ) (seen : LinkSeen) : Type 0 where
   pub client_read : Bool
   pub client_write : Bool
   pub out : List ℕ
@@ -62,12 +62,12 @@ pub record CutsGreeting (t : TunnelPlan) (c : Client) (says : Says) (taken : Lis
 
 -- what went over the link of a tunnel
 abbrev pub TunnelsOver : (Page → Due) → TunnelPlan → Client → Says → List ℕ → LinkSeen → Type 0
-TunnelsOver page_due t c says taken seen = Carries t c says taken seen ⊎ (CutsHead page_due t c says taken seen ⊎ CutsGreeting t c says taken seen)
+TunnelsOver page_due t c says taken seen = CarriesTunnel t c says taken seen ⊎ (CutsHead page_due t c says taken seen ⊎ CutsGreeting t c says taken seen)
 
 -- what came of a tunnel, by the outcome of its dial
 abbrev pub Tunnels : (Page → Due) → TunnelPlan → Client → Says → List ℕ → DialOutcome → Type 0
-Tunnels page_due t c says taken outcome.NoName = Refuses (page_due (no_name_page t.route)) c says taken
-Tunnels page_due t c says taken outcome.NotReached = Refuses (page_due (not_reached_page t.route)) c says taken
+Tunnels page_due t c says taken outcome.NoName = RefusesDial (page_due (no_name_page t.route)) c says taken
+Tunnels page_due t c says taken outcome.NotReached = RefusesDial (page_due (not_reached_page t.route)) c says taken
 Tunnels page_due t c says taken (outcome.Open mark offered) = ⊥
 Tunnels page_due t c says taken (outcome.Link seen) = TunnelsOver page_due t c says taken seen
 
@@ -78,10 +78,10 @@ pub record StopsTunnel (t : TunnelPlan) (c : Client) (taken taken' : List ℕ) (
 
 -- memory was wanting behind the dial of a tunnel
 abbrev pub WantsTunnel : (Page → Due) → TunnelPlan → Client → List ℕ → List ℕ → DialOutcome → Type 0
-WantsTunnel page_due t c taken taken' outcome.NoName = Refuses (page_due (no_name_page t.route)) c (wanted taken') taken
-WantsTunnel page_due t c taken taken' outcome.NotReached = Refuses (page_due (not_reached_page t.route)) c (wanted taken') taken
+WantsTunnel page_due t c taken taken' outcome.NoName = RefusesDial (page_due (no_name_page t.route)) c (says_wanting taken') taken
+WantsTunnel page_due t c taken taken' outcome.NotReached = RefusesDial (page_due (not_reached_page t.route)) c (says_wanting taken') taken
 WantsTunnel page_due t c taken taken' (outcome.Open mark offered) = ⊥
-WantsTunnel page_due t c taken taken' (outcome.Link seen) = TunnelsOver page_due t c (wanted taken') taken seen ⊎ StopsTunnel t c taken taken' seen
+WantsTunnel page_due t c taken taken' (outcome.Link seen) = TunnelsOver page_due t c (says_wanting taken') taken seen ⊎ StopsTunnel t c taken taken' seen
 
 -- ---- talks
 
@@ -89,7 +89,7 @@ WantsTunnel page_due t c taken taken' (outcome.Link seen) = TunnelsOver page_due
 abbrev pub TunnelTalksOver : (Page → Due) → TunnelPlan → Client → List ℕ → List ℕ → Talked → LinkSeen → Type 0
 TunnelTalksOver page_due t c taken taken' talked seen =
     TunnelsOver page_due t c (talked_so page_due taken' talked) taken seen
-    ⊎ ((talked ≡ no_memory) × (TunnelsOver page_due t c (wanted taken') taken seen ⊎ StopsTunnel t c taken taken' seen))
+    ⊎ ((talked ≡ no_memory) × (TunnelsOver page_due t c (says_wanting taken') taken seen ⊎ StopsTunnel t c taken taken' seen))
 
 -- the same behind a dial
 abbrev pub TunnelTalks : (Page → Due) → TunnelPlan → Client → List ℕ → List ℕ → Talked → DialOutcome → Type 0
@@ -103,6 +103,6 @@ TunnelsOn page_due t c old new taken taken' talked =
     ⊎ ((talked ≡ no_memory) × IsUntouched c old new × (taken' ≡ taken))
 
 -- memory was wanting in the dial of a tunnel, or behind it
-abbrev pub Wants : (Page → Due) → TunnelPlan → Client → DialerState → DialerState → List ℕ → List ℕ → Type 0
-Wants page_due t c old new taken taken' =
+abbrev pub WantsTunnelDial : (Page → Due) → TunnelPlan → Client → DialerState → DialerState → List ℕ → List ℕ → Type 0
+WantsTunnelDial page_due t c old new taken taken' =
     (IsUntouched c old new × (taken' ≡ taken)) ⊎ DialsOnce t.route (WantsTunnel page_due t c taken taken') old new

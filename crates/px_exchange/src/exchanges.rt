@@ -6,7 +6,7 @@ ghost use Rattle.px_base.specs.Sources.{SourceGoesOn};
 ghost use Rattle.px_streams.specs.Feeds.{bytes_behind};
 ghost use Rattle.px_judging.specs.Judging.{Judged};
 ghost use Rattle.px_pumps.specs.Returning.{WriteCause as SinkCause};
-ghost use Rattle.px_exchange.specs.Causes.{EndingCause, ReadCause, StaysOpen, WriteCause};
+ghost use Rattle.px_exchange.specs.Causes.{EndingCause, ClientReadCause, ClientStaysOpen, ClientWriteCause};
 ghost use Rattle.px_exchange.specs.Exchange.{Answers, ForwardsSome, TunnelsSome};
 ghost use Rattle.px_exchange.specs.Replies.{ReturnsSome, page_due};
 
@@ -68,7 +68,7 @@ fn forward<S: Source, O: Sink, D: Dialer>(
         → ForwardsSome config.now plan
         (record { stream = ahead.old ++ (S.state client_in.old).left; behind = ahead.new ++ (S.state client_in.new).left })
         (D.state dialer.old) (D.state dialer.new) (O.state client_out.old).taken (O.state client_out.new).taken result }
-    ensures read_cause { ReadCause (S.state client_in.old) (S.state client_in.new) result.after }
+    ensures read_cause { ClientReadCause (S.state client_in.old) (S.state client_in.new) result.after }
     ensures write_cause { SinkCause (O.state client_out.old) (O.state client_out.new) result.after }
     ensures page_cause { EndingCause (D.state dialer.old) (D.state dialer.new) result.ending }
     ensures open { (O.state client_out.new).finished ≡ (O.state client_out.old).finished }
@@ -110,10 +110,10 @@ fn open_tunnel<R: Threads + Sync, S: Source, O: Sink, D: Dialer>(
         → TunnelsSome config.now plan.now
         (record { stream = ahead.old ++ (S.state client_in.old).left; behind = ahead.new ++ (S.state client_in.new).left })
         (D.state dialer.old) (D.state dialer.new) (O.state client_out.old).taken (O.state client_out.new).taken result }
-    ensures read_cause { ReadCause (S.state client_in.old) (S.state client_in.new) result.after }
-    ensures write_cause { WriteCause (O.state client_out.old) (O.state client_out.new) result }
+    ensures read_cause { ClientReadCause (S.state client_in.old) (S.state client_in.new) result.after }
+    ensures write_cause { ClientWriteCause (O.state client_out.old) (O.state client_out.new) result }
     ensures page_cause { EndingCause (D.state dialer.old) (D.state dialer.new) result.ending }
-    ensures open { StaysOpen (O.state client_out.old) (O.state client_out.new) result }
+    ensures open { ClientStaysOpen (O.state client_out.old) (O.state client_out.new) result }
     ensures in_goes_on { SourceGoesOn (S.state client_in.old) (S.state client_in.new) }
     ensures out_goes_on { SinkGoesOn (O.state client_out.old) (O.state client_out.new) }
     ensures goes_on { DialerGoesOn (D.state dialer.old) (D.state dialer.new) }
@@ -165,10 +165,10 @@ pub fn answer_request<R: Threads + Sync, S: Source, O: Sink, D: Dialer>(
         → Answers handed.now
         (record { stream = ahead.old ++ (S.state client_in.old).left; behind = ahead.new ++ (S.state client_in.new).left })
         (D.state dialer.old) (D.state dialer.new) (O.state client_out.old).taken (O.state client_out.new).taken result }
-    ensures read_cause { ReadCause (S.state client_in.old) (S.state client_in.new) result.after }
-    ensures write_cause { WriteCause (O.state client_out.old) (O.state client_out.new) result }
+    ensures read_cause { ClientReadCause (S.state client_in.old) (S.state client_in.new) result.after }
+    ensures write_cause { ClientWriteCause (O.state client_out.old) (O.state client_out.new) result }
     ensures page_cause { EndingCause (D.state dialer.old) (D.state dialer.new) result.ending }
-    ensures open { StaysOpen (O.state client_out.old) (O.state client_out.new) result }
+    ensures open { ClientStaysOpen (O.state client_out.old) (O.state client_out.new) result }
     ensures in_goes_on { SourceGoesOn (S.state client_in.old) (S.state client_in.new) }
     ensures out_goes_on { SinkGoesOn (O.state client_out.old) (O.state client_out.new) }
     ensures goes_on { DialerGoesOn (D.state dialer.old) (D.state dialer.new) }
@@ -215,10 +215,10 @@ pub fn answer_cold<R: Threads + Sync, S: Source, O: Sink, D: Dialer>(
         → Answers handed.now
         (record { stream = ahead.old ++ (S.state client_in.old).left; behind = ahead.new ++ (S.state client_in.new).left })
         (D.state dialer.old) (D.state dialer.new) (O.state client_out.old).taken (O.state client_out.new).taken result }
-    ensures read_cause { ReadCause (S.state client_in.old) (S.state client_in.new) result.after }
-    ensures write_cause { WriteCause (O.state client_out.old) (O.state client_out.new) result }
+    ensures read_cause { ClientReadCause (S.state client_in.old) (S.state client_in.new) result.after }
+    ensures write_cause { ClientWriteCause (O.state client_out.old) (O.state client_out.new) result }
     ensures page_cause { EndingCause (D.state dialer.old) (D.state dialer.new) result.ending }
-    ensures open { StaysOpen (O.state client_out.old) (O.state client_out.new) result }
+    ensures open { ClientStaysOpen (O.state client_out.old) (O.state client_out.new) result }
     ensures in_goes_on { SourceGoesOn (S.state client_in.old) (S.state client_in.new) }
     ensures out_goes_on { SinkGoesOn (O.state client_out.old) (O.state client_out.new) }
     ensures goes_on { DialerGoesOn (D.state dialer.old) (D.state dialer.new) }
@@ -254,10 +254,10 @@ pub fn exchange<R: Threads + Sync, S: Source, O: Sink, D: Dialer>(
         (D.state dialer.old) (D.state dialer.new) (O.state client_out.old).taken (O.state client_out.new).taken (record { ending = result.note.ending; after = result.after }) }
     ensures config { result.note.config ≡ snapshot.now.number }
     ensures moment { result.note.moment ≡ moment }
-    ensures read_cause { ReadCause client_in.old.source client_in.new.source result.after }
-    ensures write_cause { WriteCause (O.state client_out.old) (O.state client_out.new) (record { ending = result.note.ending; after = result.after }) }
+    ensures read_cause { ClientReadCause client_in.old.source client_in.new.source result.after }
+    ensures write_cause { ClientWriteCause (O.state client_out.old) (O.state client_out.new) (record { ending = result.note.ending; after = result.after }) }
     ensures page_cause { EndingCause (D.state dialer.old) (D.state dialer.new) result.note.ending }
-    ensures open { StaysOpen (O.state client_out.old) (O.state client_out.new) (record { ending = result.note.ending; after = result.after }) }
+    ensures open { ClientStaysOpen (O.state client_out.old) (O.state client_out.new) (record { ending = result.note.ending; after = result.after }) }
     ensures in_goes_on { SourceGoesOn client_in.old.source client_in.new.source }
     ensures out_goes_on { SinkGoesOn (O.state client_out.old) (O.state client_out.new) }
     ensures goes_on { DialerGoesOn (D.state dialer.old) (D.state dialer.new) }

@@ -2,7 +2,7 @@
 ghost use Rattle.std.specs.Prelude.{◌≡◌, ◌≢◌, IfOk, IsTrue};
 ghost use Rattle.px_base.specs.Sinks.{SinkGoesOn};
 ghost use Rattle.px_pumps.specs.Returning.{WriteCause};
-ghost use Rattle.px_exchange.specs.Replies.{ReturnsSome, ending_of, error_of, local_due, page_reply, parent_of, parent_text, url_page};
+ghost use Rattle.px_exchange.specs.Replies.{ReturnsSome, reply_ending, error_of, local_due, page_reply, parent_value, parent_text, url_page};
 
 use itoa::Buffer;
 use px_base::{Mem, Sink, SinkFault, Text, write_all};
@@ -16,7 +16,7 @@ use std::alloc::Global;
 
 /// What a reply of a kind is.
 fn ending_of(kind: &ReplyKind) -> Ending
-    ensures { result ≡ ending_of kind.now }
+    ensures { result ≡ reply_ending kind.now }
 {
     match kind {
         ReplyKind::Page { page, symbols: _ } => Ending::Page(*page),
@@ -37,7 +37,7 @@ pub fn return_reply<O: Sink>(
     ensures returns { IsTrue (O.state client_out.old).tells → ReturnsSome (local_due config.now reply.now) (O.state client_out.old).taken (O.state client_out.new).taken result }
     ensures cause { WriteCause (O.state client_out.old) (O.state client_out.new) result.after }
     ensures unread { result.after ≢ After.ReadFailed }
-    ensures page { (p : Page) → result.ending ≡ Ending.Page p → ending_of reply.now.kind ≡ Ending.Page p }
+    ensures page { (p : Page) → result.ending ≡ Ending.Page p → reply_ending reply.now.kind ≡ Ending.Page p }
     ensures open { (O.state client_out.new).finished ≡ (O.state client_out.old).finished }
     ensures goes_on { SinkGoesOn (O.state client_out.old) (O.state client_out.new) }
 {
@@ -76,7 +76,7 @@ fn parent_text(alloc: Global, route: &Route) -> Result<Text, Mem>
 
 /// The value of `parent` on a page of a request that was sent on.
 fn parent_of(alloc: Global, route: &Route, page: Page) -> Result<Text, Mem>
-    ensures { IfOk result (λ text. text ≡ parent_of route.now page) }
+    ensures { IfOk result (λ text. text ≡ parent_value route.now page) }
 {
     match page {
         Page::ForwardingFailed => parent_text(alloc, route),

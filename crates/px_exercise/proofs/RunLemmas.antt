@@ -15,14 +15,14 @@ use Rattle.px_config.specs.declared.configs.Config.{Config}
 use Rattle.px_publish.specs.Views.{Entry}
 use Rattle.px_exchange.specs.declared.notes.ExchangeNote.{ExchangeNote}
 use Rattle.px_serve.specs.Ends.{ReadEndCause, WriteEndCause}
-use Rattle.px_serve.specs.Histories.{Begun, Looks, Take, entry_of, moment_of}
+use Rattle.px_serve.specs.Histories.{Begun, Looks, Take, entry_used, moment_of}
 use Rattle.px_serve.specs.Sessions.{Caller, Objects, Serves}
 use Rattle.px_serve.specs.declared.ends.SessionEnd.{SessionEnd}
 use Rattle.px_serve.specs.declared.ends.SessionEnd.TheVariants as end
 use Rattle.px_generated.specs.Jobs.{draws_before, first_sessions, job_sessions, session_at}
 use Rattle.px_generated.specs.declared.sessions.JobSession.{JobSession}
 use Rattle.px_exercise.specs.Runs.{AreRuns, AreRunsOf, GivesOnly, HasRun, IsRun, UsesOnly, client, total_of}
-use Rattle.px_exercise.specs.declared.runs.Run.{Run}
+use Rattle.px_exercise.specs.declared.runs.SessionRun.{SessionRun}
 use Rattle.px_exercise.specs.declared.runs.Total.{Total}
 
 -- one item that comes again is all that is left
@@ -47,20 +47,20 @@ takes_one {E = E} value none coming coming' e begun only t =
     all_before_map (λ x. x ≡ e) value begun (subst (All (λ x. x ≡ e)) (sym t.taken) firsts)
 
 -- an exchange with that entry, at the moment 0
-uses_only : (config : Config) (b : Begun) → entry_of b ≡ record { number = 0; config = config } → b.moment ≡ 0 → UsesOnly config b
+uses_only : (config : Config) (b : Begun) → entry_used b ≡ record { number = 0; config = config } → b.moment ≡ 0 → UsesOnly config b
 uses_only config b e m = record { number_is = ap (λ (x : Entry Config). x.number) e; config_is = ap (λ (x : Entry Config). x.config) e; moment_is = m }
 
 -- exchanges took each look from what gives one configuration, and each moment from what gives 0
 all_use_only : (config : Config) (coming coming' : List (Entry Config)) (moments moments' : List ℕ) (begun : List Begun)
-    → GivesOnly config coming → moments ≡ 0 ∷ [] → Take entry_of (record { number = 0; config = config }) coming coming' begun → Take moment_of 0 moments moments' begun → All (UsesOnly config) begun
+    → GivesOnly config coming → moments ≡ 0 ∷ [] → Take entry_used (record { number = 0; config = config }) coming coming' begun → Take moment_of 0 moments moments' begun → All (UsesOnly config) begun
 all_use_only config coming coming' moments moments' begun only zeros entries taken =
     let entry : Entry Config = record { number = 0; config = config } in
-    let same = takes_one entry_of entry coming coming' entry begun only entries in
+    let same = takes_one entry_used entry coming coming' entry begun only entries in
     let at_zero = takes_one moment_of 0 moments moments' 0 begun zeros taken in
     λ k d h. uses_only config _ (same k d h) (at_zero k d h)
 
 -- what is left of what gives one value gives that value
-left_gives : (config : Config) (none : Entry Config) (coming coming' : List (Entry Config)) (begun : List Begun) → GivesOnly config coming → Take entry_of none coming coming' begun → GivesOnly config coming'
+left_gives : (config : Config) (none : Entry Config) (coming coming' : List (Entry Config)) (begun : List Begun) → GivesOnly config coming → Take entry_used none coming coming' begun → GivesOnly config coming'
 left_gives config none coming coming' begun only t =
     t.left ∙ ap (λ (xs : List (Entry Config)). behind_firsts xs (length begun)) only ∙ one_left (record { number = 0; config = config }) (length begun)
 
@@ -101,15 +101,15 @@ pub fixed_behind : {config : Config} {caller : Caller} {looks looks' : Looks} {i
 fixed_behind {config = config} {looks = looks} {looks' = looks'} serves tell only = left_gives config (record { number = 0; config = config }) looks.coming looks'.coming serves.begun only (serves.noted.entries tell (record { number = 0; config = config }))
 
 -- what came of one session more
-total_more : (runs : List Run) (run : Run) (total : Total) → total.notes ≡ (total_of runs).notes ++ run.notes → total.returned ≡ (total_of runs).returned + length run.taken
+total_more : (runs : List SessionRun) (run : SessionRun) (total : Total) → total.notes ≡ (total_of runs).notes ++ run.notes → total.returned ≡ (total_of runs).returned + length run.taken
     → total ≡ total_of (runs ++ run ∷ [])
 total_more runs run total n r =
-    let notes : total.notes ≡ flat_map (λ (x : Run). x.notes) (runs ++ run ∷ []) = n ∙ flat_map_more (λ (x : Run). x.notes) [] runs run in
-    let returned : total.returned ≡ sum_by (λ (x : Run). length x.taken) (runs ++ run ∷ []) = r ∙ sym (sum_by_push (λ (x : Run). length x.taken) runs run) in
+    let notes : total.notes ≡ flat_map (λ (x : SessionRun). x.notes) (runs ++ run ∷ []) = n ∙ flat_map_more (λ (x : SessionRun). x.notes) [] runs run in
+    let returned : total.returned ≡ sum_by (λ (x : SessionRun). length x.taken) (runs ++ run ∷ []) = r ∙ sym (sum_by_push (λ (x : SessionRun). length x.taken) runs run) in
     rw (← notes, ← returned) refl
 
 -- one more session was run
-runs_more : (config : Config) (sessions : List JobSession) (runs : List Run) (session : JobSession) (run : Run) → AreRuns config sessions runs → IsRun config session run
+runs_more : (config : Config) (sessions : List JobSession) (runs : List SessionRun) (session : JobSession) (run : SessionRun) → AreRuns config sessions runs → IsRun config session run
     → AreRuns config (sessions ++ session ∷ []) (runs ++ run ∷ [])
 runs_more config [] [] session run h ran = (ran, tt)
 runs_more config [] (r ∷ rs) session run h ran = absurd h
@@ -117,7 +117,7 @@ runs_more config (s ∷ ss) [] session run h ran = absurd h
 runs_more config (s ∷ ss) (r ∷ rs) session run h ran = (h.0, runs_more config ss rs session run h.1 ran)
 
 -- so it was behind the first sessions
-pub has_run_more : {config : Config} {number count : ℕ} {coming coming' : List (Entry Config)} {draws draws' : ℕ} {total : Total} (total' : Total) (session : JobSession) (run : Run)
+pub has_run_more : {config : Config} {number count : ℕ} {coming coming' : List (Entry Config)} {draws draws' : ℕ} {total : Total} (total' : Total) (session : JobSession) (run : SessionRun)
     → HasRun config number count coming draws total → session ≡ session_at count number
     → first_sessions (count + 1) number ≡ first_sessions count number ++ session_at count number ∷ []
     → IsRun config session run → GivesOnly config coming' → draws' ≡ draws_before (count + 1) number

@@ -22,18 +22,18 @@ is_passed ending.Passed = true
 is_passed e = false
 
 -- how many notes have such an ending
-abbrev pub count_of : (Ending → Bool) → List ExchangeNote → ℕ
-count_of is_such notes = count_by (λ n. is_such n.ending) notes
+abbrev pub ending_count : (Ending → Bool) → List ExchangeNote → ℕ
+ending_count is_such notes = count_by (λ n. is_such n.ending) notes
 
 -- a name and a number, ended by LF
-abbrev pub line : List ℕ → ℕ → List ℕ
-line name number = name ++ codes " " ++ decimal number ++ codes "\n"
+abbrev pub named_count : List ℕ → ℕ → List ℕ
+named_count name number = name ++ codes " " ++ decimal number ++ codes "\n"
 
 -- the five lines
 unfoldable pub lines : Total → List ℕ
 lines total =
-    line (codes "requests") (length total.notes)
-    ++ line (codes "blocked") (count_of is_blocked total.notes)
-    ++ line (codes "filtered") (count_of is_filtered total.notes)
-    ++ line (codes "passed") (count_of is_passed total.notes)
-    ++ line (codes "returned") total.returned
+    named_count (codes "requests") (length total.notes)
+    ++ named_count (codes "blocked") (ending_count is_blocked total.notes)
+    ++ named_count (codes "filtered") (ending_count is_filtered total.notes)
+    ++ named_count (codes "passed") (ending_count is_passed total.notes)
+    ++ named_count (codes "returned") total.returned

@@ -10,7 +10,7 @@ use Rattle.px_serve.specs.declared.ends.SessionEnd.{SessionEnd}
 use Rattle.px_serve.specs.declared.ends.SessionEnd.TheVariants as end
 use Rattle.px_generated.specs.Jobs.{draws_before, first_sessions, job_sessions}
 use Rattle.px_generated.specs.declared.sessions.JobSession.{JobSession}
-use Rattle.px_exercise.specs.declared.runs.Run.{Run}
+use Rattle.px_exercise.specs.declared.runs.SessionRun.{SessionRun}
 use Rattle.px_exercise.specs.declared.runs.Total.{Total}
 
 -- each look gives that configuration, with the number 0
@@ -29,7 +29,7 @@ client = record { tags = []; peer = codes "127.0.0.1" }
 
 -- a session over what its client sends, whose dials give its answers, with one configuration, and what came of it; memory sufficed,
 -- and neither the client's source nor its sink failed
-pub record IsRun (config : Config) (session : JobSession) (run : Run) : Type 0 where
+pub record IsRun (config : Config) (session : JobSession) (run : SessionRun) : Type 0 where
   pub begun : List Begun
   pub notes_are : run.notes ≡ map note_of begun
   pub uses : All (UsesOnly config) begun
@@ -42,11 +42,11 @@ pub record IsRun (config : Config) (session : JobSession) (run : Run) : Type 0 w
   pub no_write_failed : ended ≢ end.WriteFailed
 
 -- each session was run, in order
-abbrev pub AreRuns : Config → List JobSession → List Run → Type 0
+abbrev pub AreRuns : Config → List JobSession → List SessionRun → Type 0
 AreRuns config sessions runs = AllZip (IsRun config) sessions runs
 
 -- what came of sessions in all
-abbrev pub total_of : List Run → Total
+abbrev pub total_of : List SessionRun → Total
 total_of runs = record { notes = flat_map (λ r. r.notes) runs; returned = sum_by (λ r. length r.taken) runs }
 
 -- the first sessions of the job of a number were run, so many, and came to that total; what the looks behind them give, and where the
@@ -54,12 +54,12 @@ total_of runs = record { notes = flat_map (λ r. r.notes) runs; returned = sum_b
 pub record HasRun (config : Config) (number count : ℕ) (coming : List (Entry Config)) (draws : ℕ) (total : Total) : Type 0 where
   pub fixed : GivesOnly config coming
   pub drawn : draws ≡ draws_before count number
-  pub runs : List Run
+  pub runs : List SessionRun
   pub each : AreRuns config (first_sessions count number) runs
   pub total_is : total ≡ total_of runs
 
 -- all sessions of the job of a number were run, and came to that total
 pub record AreRunsOf (config : Config) (number : ℕ) (total : Total) : Type 0 where
-  pub runs : List Run
+  pub runs : List SessionRun
   pub each : AreRuns config (job_sessions number) runs
   pub total_is : total ≡ total_of runs

@@ -1,6 +1,6 @@
 // What the five lines count, and how they are spelled.
 ghost use Rattle.std.specs.Prelude.{◌≡◌, ◌++◌, IfOk, OnOk, codes};
-ghost use Rattle.px_exercise.specs.Counts.{count_of, is_blocked, is_filtered, is_passed, line, lines};
+ghost use Rattle.px_exercise.specs.Counts.{ending_count, is_blocked, is_filtered, is_passed, named_count, lines};
 
 use crate::runs::Total;
 use itoa::Buffer;
@@ -17,14 +17,14 @@ fn is_blocked(ending: Ending) -> bool
 
 /// How many exchanges were blocked.
 fn count_blocked(notes: &[ExchangeNote]) -> usize
-    ensures { result ≡ count_of is_blocked notes.now }
+    ensures { result ≡ ending_count is_blocked notes.now }
 {
     notes.iter().filter(|note| is_blocked(note.ending)).count()
 }
 
 /// How many answers were returned filtered.
 fn count_filtered(notes: &[ExchangeNote]) -> usize
-    ensures { result ≡ count_of is_filtered notes.now }
+    ensures { result ≡ ending_count is_filtered notes.now }
 {
     notes
         .iter()
@@ -34,7 +34,7 @@ fn count_filtered(notes: &[ExchangeNote]) -> usize
 
 /// How many answers were returned unfiltered with their bodies.
 fn count_passed(notes: &[ExchangeNote]) -> usize
-    ensures { result ≡ count_of is_passed notes.now }
+    ensures { result ≡ ending_count is_passed notes.now }
 {
     notes
         .iter()
@@ -44,7 +44,7 @@ fn count_passed(notes: &[ExchangeNote]) -> usize
 
 /// Adds a name and a number, ended by LF.
 fn push_line(out: &mut Text, name: &str, number: u128) -> Result<(), Mem>
-    ensures { OnOk result (out.new ≡ out.old ++ line name.now number) }
+    ensures { OnOk result (out.new ≡ out.old ++ named_count name.now number) }
 {
     out.push_all(name.as_bytes())?;
     out.push_all(b" ")?;

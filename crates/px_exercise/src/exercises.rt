@@ -10,7 +10,7 @@ use crate::counts::print_lines;
 use crate::runs::run_all;
 use px_base::{Files, List, Mem, MemFiles, Text};
 use px_config::{Config, LoadFault, load};
-use px_generated::{Job, MAIN_FILE};
+use px_generated::{GeneratedJob, MAIN_FILE};
 use px_ways::Way;
 use std::alloc::Global;
 use std::thread::Threads;
@@ -44,7 +44,7 @@ pub fn exercise<R: Threads + Sync>(
     ensures lines { IfOk result (Exercises number) }
     ensures refused { IfErr result (IsExerciseFault number) }
 {
-    let Job { files, draws } = Job::new(alloc, number)?;
+    let GeneratedJob { files, draws } = GeneratedJob::new(alloc, number)?;
     let config = load_files(alloc, files)?;
     let total = run_all(alloc, way, config, draws)?;
     Ok(print_lines(alloc, &total)?)

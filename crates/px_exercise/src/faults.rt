@@ -13,9 +13,9 @@ pub enum ExerciseFault {
 
 impl From<LoadFault> for ExerciseFault {
     ghost use Rattle.std.specs.Prelude.{◌≡◌};
-    ghost use Rattle.px_exercise.specs.Faults.{fault_of};
+    ghost use Rattle.px_exercise.specs.Faults.{exercise_fault_of};
 
-    ghost from_gives = { λ f e. e ≡ fault_of f };
+    ghost from_gives = { λ f e. e ≡ exercise_fault_of f };
 
     fn from(fault: LoadFault) -> Self {
         if matches!(&fault, LoadFault::Mem) {

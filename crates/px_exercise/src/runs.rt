@@ -23,7 +23,7 @@ const MOMENT: u64 = 0;
 
 /// What came of a session: the notes of its exchanges in order, and what its client's sink took.
 #[derive(Drop)]
-pub struct Run {
+pub struct SessionRun {
     pub notes: List<ExchangeNote>,
     pub taken: Text,
 }
@@ -47,7 +47,7 @@ impl Total {
     }
 
     /// Adds what came of a session. The number of bytes can't be too large for its type, however many a sink took.
-    fn add(&mut self, run: &Run) -> Result<(), Mem>
+    fn add(&mut self, run: &SessionRun) -> Result<(), Mem>
         requires room { self.old.returned + 2 ^ 64 ≤ 2 ^ 128 }
         ensures notes { OnOk result (self.new.notes ≡ self.old.notes ++ run.now.notes) }
         ensures returned { OnOk result (self.new.returned ≡ self.old.returned + length run.now.taken) }
@@ -92,7 +92,7 @@ fn run_session<R: Threads + Sync>(
     way: &Way<'_, R>,
     configs: &mut FixedConfig<Config>,
     session: JobSession,
-) -> Result<Run, Mem>
+) -> Result<SessionRun, Mem>
     ensures run { (config : Config) → GivesOnly config (⟦<FixedConfig<Config> as Configs>⟧.coming configs.old) → IfOk result (IsRun config session) }
     ensures fixed { (config : Config) → GivesOnly config (⟦<FixedConfig<Config> as Configs>⟧.coming configs.old) → OnOk result (GivesOnly config (⟦<FixedConfig<Config> as Configs>⟧.coming configs.new)) }
 {
@@ -118,7 +118,7 @@ fn run_session<R: Threads + Sync>(
     if served.end == SessionEnd::NoMemory {
         return Err(Mem);
     }
-    Ok(Run {
+    Ok(SessionRun {
         notes: served.exchanges,
         taken: client_out.into_taken(),
     })

@@ -3,14 +3,14 @@ use Rattle.std.specs.Prelude.{ℕ, List, ◌==◌, ◌≤◌, codes, if◌then�
 use Rattle.px_filter_files.specs.declared.faults.FilterFault.{FilterFault}
 use Rattle.px_filter_files.specs.declared.faults.FilterFault.TheVariants.{At, Mem}
 
-abbrev pub number_of : FilterFault → ℕ
-number_of (At line number) = number
-number_of Mem = 0
+abbrev pub filter_fault_number : FilterFault → ℕ
+filter_fault_number (At line number) = number
+filter_fault_number Mem = 0
 
-abbrev pub name_of : FilterFault → List ℕ
-name_of (At line number) =
+abbrev pub filter_fault_name : FilterFault → List ℕ
+filter_fault_name (At line number) =
     if number == 25 then codes "JobBeforeFilter" else if number == 26 then codes "NameMissing" else codes "NameTwice"
-name_of Mem = codes "Mem"
+filter_fault_name Mem = codes "Mem"
 
 -- the number is one of the table
 abbrev pub HasKnownNumber : FilterFault → Type 0

@@ -10,24 +10,24 @@ use Rattle.px_filter_files.specs.declared.faults.FilterFault.{FilterFault}
 use Rattle.px_filter_files.specs.declared.faults.FilterFault.TheVariants.{At}
 use Rattle.px_filter_files.specs.declared.files.NamedFilter.{NamedFilter}
 use Rattle.px_filter_files.specs.declared.files.FilterFile.{FilterFile}
-use Rattle.px_filter_files.specs.Headings.{HeadingParts, Key, heading_at, key_at, key_in, same_key, is_job}
+use Rattle.px_filter_files.specs.Headings.{HeadingParts, Key, heading_at, key_at, key_in, same_key, is_job_line}
 
 -- the lines up to the next one that begins a part
 abbrev pub own_lines : List Line → List Line
 own_lines [] = []
-own_lines (line ∷ rest) = if is_job line then line ∷ own_lines rest else []
+own_lines (line ∷ rest) = if is_job_line line then line ∷ own_lines rest else []
 
 -- the job of a line, where its text is UTF-8 and is read as one
-abbrev pub job_in : List ℕ → Option JobParts
-job_in text = if is_utf8 text then result_ok (job_of text) else None
+abbrev pub job_in_text : List ℕ → Option JobParts
+job_in_text text = if is_utf8 text then result_ok (job_of text) else None
 
 -- the jobs of lines; a line that is read as none is left out
 abbrev pub jobs_in : List Line → List JobParts
-jobs_in lines = filter_map (λ line. job_in line.text) lines
+jobs_in lines = filter_map (λ line. job_in_text line.text) lines
 
 -- the numbers of the lines that are left out
 abbrev pub skipped_in : List Line → List ℕ
-skipped_in lines = filter_map (λ line. if is_some (job_in line.text) then None else Some line.number) lines
+skipped_in lines = filter_map (λ line. if is_some (job_in_text line.text) then None else Some line.number) lines
 
 -- the filter that a line with this heading begins, with the jobs of the lines below
 abbrev pub filter_of : Option HeadingParts → ℕ → List Line → Option NamedFilter
@@ -53,8 +53,8 @@ abbrev pub keys_in : List Line → List Key
 keys_in lines = filter_map (λ line. key_at line.text) lines
 
 -- the key is among those of the filters that lines begin
-abbrev pub is_among : List Line → Key → Bool
-is_among lines key = list_any (same_key key) (keys_in lines)
+abbrev pub is_among_keys : List Line → Key → Bool
+is_among_keys lines key = list_any (same_key key) (keys_in lines)
 
 -- what is refused at a heading: a missing name, or a filter's key that is taken
 abbrev pub heading_refusal : (Key → Bool) → HeadingParts → Option ℕ
@@ -69,21 +69,21 @@ refusal_by taken begun heading = option_map_or (heading_refusal taken) heading (
 
 -- a part begins among the lines
 abbrev pub begins_part : List Line → Bool
-begins_part lines = list_any (λ line. not (is_job line)) lines
+begins_part lines = list_any (λ line. not (is_job_line line)) lines
 
 -- what is refused at a line: a job below no part, or a heading
 abbrev pub refusal_at : List Line → Line → Option ℕ
-refusal_at before line = refusal_by (is_among before) (begins_part before) (heading_at line.text)
+refusal_at before line = refusal_by (is_among_keys before) (begins_part before) (heading_at line.text)
 
 -- the first refusal among lines that follow others
-unfoldable pub first_fault : List Line → List Line → Option FilterFault
-first_fault before [] = None
-first_fault before (line ∷ rest) =
-    option_map_or (λ number. Some (At line.number number)) (refusal_at before line) (first_fault (before ++ line ∷ []) rest)
+unfoldable pub first_filter_fault : List Line → List Line → Option FilterFault
+first_filter_fault before [] = None
+first_filter_fault before (line ∷ rest) =
+    option_map_or (λ number. Some (At line.number number)) (refusal_at before line) (first_filter_fault (before ++ line ∷ []) rest)
 
 -- the filters and the skipped lines, or the first refusal
 unfoldable pub file_of : List Line → Result FilterFile FilterFault
-file_of lines = option_map_or Err (first_fault [] lines) (Ok (record { filters = filters_in lines; skipped = all_skipped lines }))
+file_of lines = option_map_or Err (first_filter_fault [] lines) (Ok (record { filters = filters_in lines; skipped = all_skipped lines }))
 
 abbrev pub key_of : NamedFilter → Key
 key_of f = record { kind = f.kind; name = f.name }

@@ -11,15 +11,15 @@ use Rattle.px_filter_files.specs.declared.kinds.Keyword.{Keyword}
 use Rattle.px_filter_files.specs.declared.kinds.Keyword.TheVariants as keyword
 
 -- the word with which a part begins
-abbrev pub word_of : Keyword → List ℕ
-word_of keyword.Filter = codes "FILTER:"
-word_of keyword.ClientHeaderFilter = codes "CLIENT-HEADER-FILTER:"
-word_of keyword.ServerHeaderFilter = codes "SERVER-HEADER-FILTER:"
-word_of keyword.ClientHeaderTagger = codes "CLIENT-HEADER-TAGGER:"
-word_of keyword.ServerHeaderTagger = codes "SERVER-HEADER-TAGGER:"
-word_of keyword.ExternalFilter = codes "EXTERNAL-FILTER:"
-word_of keyword.ClientBodyFilter = codes "CLIENT-BODY-FILTER:"
-word_of keyword.ClientBodyTagger = codes "CLIENT-BODY-TAGGER:"
+abbrev pub keyword_text : Keyword → List ℕ
+keyword_text keyword.Filter = codes "FILTER:"
+keyword_text keyword.ClientHeaderFilter = codes "CLIENT-HEADER-FILTER:"
+keyword_text keyword.ServerHeaderFilter = codes "SERVER-HEADER-FILTER:"
+keyword_text keyword.ClientHeaderTagger = codes "CLIENT-HEADER-TAGGER:"
+keyword_text keyword.ServerHeaderTagger = codes "SERVER-HEADER-TAGGER:"
+keyword_text keyword.ExternalFilter = codes "EXTERNAL-FILTER:"
+keyword_text keyword.ClientBodyFilter = codes "CLIENT-BODY-FILTER:"
+keyword_text keyword.ClientBodyTagger = codes "CLIENT-BODY-TAGGER:"
 
 abbrev pub keywords : List Keyword
 keywords =
@@ -39,12 +39,12 @@ kind_of keyword.ClientBodyTagger = None
 
 -- the keyword with which a line begins
 abbrev pub keyword_at : List ℕ → Option Keyword
-keyword_at text = find (λ k. starts_with nat_eq text (word_of k)) keywords
+keyword_at text = find (λ k. starts_with nat_eq text (keyword_text k)) keywords
 
 -- the name behind a keyword: up to white space, behind white space
-abbrev pub name_behind : Keyword → List ℕ → List ℕ
-name_behind k text =
-    let rest = drop (length (word_of k)) text in
+abbrev pub name_behind_keyword : Keyword → List ℕ → List ℕ
+name_behind_keyword k text =
+    let rest = drop (length (keyword_text k)) text in
     take_while (λ b. not (is_blank b)) (drop (prefix_len is_blank rest) rest)
 
 -- a line that begins a part: the kind of its filter, or None for a part whose lines aren't read, and a name
@@ -54,10 +54,10 @@ pub record HeadingParts : Type 0 where
 
 -- the heading that a line is; a line that is none is a job
 abbrev pub heading_at : List ℕ → Option HeadingParts
-heading_at text = option_map (λ k. record { kind = kind_of k; name = name_behind k text }) (keyword_at text)
+heading_at text = option_map (λ k. record { kind = kind_of k; name = name_behind_keyword k text }) (keyword_at text)
 
-abbrev pub is_job : Line → Bool
-is_job line = is_none (heading_at line.text)
+abbrev pub is_job_line : Line → Bool
+is_job_line line = is_none (heading_at line.text)
 
 -- a filter's kind and name
 pub record Key : Type 0 where

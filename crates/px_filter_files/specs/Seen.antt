@@ -5,7 +5,7 @@ use Rattle.std.specs.BTreeSet.{BTreeSet, contains_by}
 use Rattle.std.specs.Cmp.Lexicographic.{slice_cmp}
 use Rattle.std.specs.Option.{option_and_then, option_map_or}
 use Rattle.std.specs.Ordering.{nat_cmp, ordering_then}
-use Rattle.px_filter_files.specs.declared.kinds.Heading.{Heading}
+use Rattle.px_filter_files.specs.declared.kinds.FilterHeading.{FilterHeading}
 use Rattle.px_filter_files.specs.Headings.{HeadingParts, Key, key_in, rank, same_key}
 
 -- a filter of this kind and name is in the set, by the kind's rank
@@ -17,8 +17,8 @@ abbrev pub begins_filter : Option HeadingParts → Key → Bool
 begins_filter heading key = option_map_or (same_key key) (option_and_then key_in heading) false
 
 -- the heading's kind and name
-abbrev pub parts_seen : Heading → HeadingParts
+abbrev pub parts_seen : FilterHeading → HeadingParts
 parts_seen h = record { kind = h.kind; name = h.name.now }
 
-abbrev pub heading_seen : Option Heading → Option HeadingParts
+abbrev pub heading_seen : Option FilterHeading → Option HeadingParts
 heading_seen = option_map parts_seen

@@ -24,12 +24,12 @@ pub enum FilterFault {
 }
 
 impl FilterFault {
-    ghost use Rattle.px_filter_files.specs.Faults.{number_of, name_of};
+    ghost use Rattle.px_filter_files.specs.Faults.{filter_fault_number, filter_fault_name};
 
     /// The number of the refusal. Want of memory has none.
     pub fn number(self) -> u8
         requires { self ≢ FilterFault.Mem }
-        ensures { result ≡ number_of self }
+        ensures { result ≡ filter_fault_number self }
     {
         match self {
             FilterFault::At { line: _, number } => number,
@@ -39,7 +39,7 @@ impl FilterFault {
 
     /// The name of the refusal.
     pub fn name(self) -> &'static str
-        ensures { result.now ≡ name_of self }
+        ensures { result.now ≡ filter_fault_name self }
     {
         match self {
             FilterFault::At { line: _, number } => refusal_name(number),
@@ -62,9 +62,9 @@ fn refusal_name(number: u8) -> &'static str
 
 impl fmt::Display for FilterFault {
     ghost use Rattle.std.specs.Prelude.{Some};
-    ghost use Rattle.px_filter_files.specs.Faults.{name_of};
+    ghost use Rattle.px_filter_files.specs.Faults.{filter_fault_name};
 
-    ghost output = { λ fault. Some (name_of fault) };
+    ghost output = { λ fault. Some (filter_fault_name fault) };
 
     fn fmt<W: fmt::Write>(&self, f: &mut fmt::Formatter<W>) -> fmt::Result {
         let name = self.name();

@@ -3,11 +3,11 @@ ghost use Rattle.std.specs.Prelude.{◌≡◌, ◌≢◌, ◌||◌, ◌++◌, �
 ghost use Rattle.std.specs.Result.{result_ok};
 ghost use Rattle.px_subst.specs.Jobs.{job_of};
 ghost use Rattle.std.specs.Option.{option_and_then};
-ghost use Rattle.px_filter_files.specs.Headings.{Key, is_job, key_in};
-ghost use Rattle.px_filter_files.specs.FilterFiles.{job_in, jobs_in, skipped_in, own_lines, filter_of, refusal_by, heading_refusal};
+ghost use Rattle.px_filter_files.specs.Headings.{Key, is_job_line, key_in};
+ghost use Rattle.px_filter_files.specs.FilterFiles.{job_in_text, jobs_in, skipped_in, own_lines, filter_of, refusal_by, heading_refusal};
 
 use crate::faults::{FilterFault, JOB_BEFORE_FILTER, NAME_MISSING, NAME_TWICE};
-use crate::kinds::{FilterKind, Heading};
+use crate::kinds::{FilterHeading, FilterKind};
 use px_base::{List, Mem, Text, as_text};
 use px_subst::{Filter, Job, JobFault};
 use px_text::Line;
@@ -60,7 +60,7 @@ fn read_text(alloc: Global, text: &str) -> Result<Option<Job>, Mem>
 
 /// The job of a line, or None where it isn't read.
 fn read_job(alloc: Global, text: &[u8]) -> Result<Option<Job>, Mem>
-    ensures { IfOk result (λ job. job ≡ job_in text.now) }
+    ensures { IfOk result (λ job. job ≡ job_in_text text.now) }
 {
     match as_text(text) {
         Some(text) => read_text(alloc, text),
@@ -88,9 +88,9 @@ fn add_job(
 }
 
 fn is_job(line: &Line) -> bool
-    ensures { result ≡ is_job line.now }
+    ensures { result ≡ is_job_line line.now }
 {
-    Heading::at(line.text.as_bytes()).is_none()
+    FilterHeading::at(line.text.as_bytes()).is_none()
 }
 
 /// The filter of the lines up to the next that begins a part.
@@ -116,7 +116,7 @@ fn is_taken<'l>(seen: &BTreeSet<(u8, &'l [u8])>, kind: FilterKind, name: &'l [u8
 }
 
 /// The number of the refusal at a heading, if it is refused.
-fn heading_refusal<'l>(heading: &Heading<'l>, seen: &BTreeSet<(u8, &'l [u8])>) -> Option<u8>
+fn heading_refusal<'l>(heading: &FilterHeading<'l>, seen: &BTreeSet<(u8, &'l [u8])>) -> Option<u8>
     ensures number { result ≡ heading_refusal (has_seen seen.now) (parts_seen heading.now) }
     ensures known { IfSome result (λ number. (25 ≤ number) × (number ≤ 27)) }
 {
@@ -137,7 +137,7 @@ fn heading_refusal<'l>(heading: &Heading<'l>, seen: &BTreeSet<(u8, &'l [u8])>) -
 
 /// The number of the refusal at a line, by its heading. `begun` says whether a part begins before it.
 fn refusal<'l>(
-    heading: &Option<Heading<'l>>,
+    heading: &Option<FilterHeading<'l>>,
     seen: &BTreeSet<(u8, &'l [u8])>,
     begun: bool,
 ) -> Option<u8>
@@ -151,7 +151,7 @@ fn refusal<'l>(
 }
 
 /// The kind and the name of the filter that a line begins, by its heading.
-fn key_in<'l>(heading: &Option<Heading<'l>>) -> Option<(FilterKind, &'l [u8])>
+fn key_in<'l>(heading: &Option<FilterHeading<'l>>) -> Option<(FilterKind, &'l [u8])>
     ensures { option_map (λ key. record { kind = key.0; name = key.1.now }) result
         ≡ option_and_then key_in (heading_seen heading.now) }
 {
@@ -166,7 +166,7 @@ fn key_in<'l>(heading: &Option<Heading<'l>>) -> Option<(FilterKind, &'l [u8])>
 
 /// Notes the kind and the name of the filter that a line begins, if it begins one.
 fn add_key<'l>(
-    heading: &Option<Heading<'l>>,
+    heading: &Option<FilterHeading<'l>>,
     seen: &mut BTreeSet<(u8, &'l [u8])>,
 ) -> Result<(), Mem>
     ensures { OnOk result ((key : Key) → has_seen seen.new key
@@ -184,7 +184,7 @@ fn add_key<'l>(
 /// Adds the filter that a line begins, if it begins one, with the jobs of the lines below.
 fn add_filter(
     alloc: Global,
-    heading: &Option<Heading<'_>>,
+    heading: &Option<FilterHeading<'_>>,
     line: u32,
     below: &[Line],
     filters: &mut List<NamedFilter>,
@@ -222,7 +222,7 @@ impl FilterFile {
         let mut seen = BTreeSet::new(alloc);
         let mut begun = false;
         for (at, line) in lines.iter().enumerate() {
-            let heading = Heading::at(line.text.as_bytes());
+            let heading = FilterHeading::at(line.text.as_bytes());
             if let Some(number) = refusal(&heading, &seen, begun) {
                 return Err(FilterFault::At {
                     line: line.number,

@@ -2,7 +2,7 @@
 ghost use Rattle.std.specs.Prelude.{◌≡◌, ◌≤◌, ◌==◌, not, length, take_while, IfSome};
 ghost use Rattle.std.specs.List.{prefix_len};
 ghost use Rattle.px_base.specs.Blanks.{is_blank};
-ghost use Rattle.px_filter_files.specs.Headings.{word_of, kind_of, keyword_at, name_behind, rank};
+ghost use Rattle.px_filter_files.specs.Headings.{keyword_text, kind_of, keyword_at, name_behind_keyword, rank};
 
 use px_base::is_blank;
 
@@ -62,7 +62,7 @@ const KEYWORDS: [Keyword; 8] = [
 
 impl Keyword {
     fn word(self) -> &'static [u8]
-        ensures { result.now ≡ word_of self }
+        ensures { result.now ≡ keyword_text self }
     {
         match self {
             Keyword::Filter => b"FILTER:",
@@ -95,7 +95,7 @@ impl Keyword {
     /// The keyword with which a line begins. A line with none is a job.
     fn at(text: &[u8]) -> Option<Keyword>
         ensures keyword { result ≡ keyword_at text.now }
-        ensures within { IfSome result (λ keyword. length (word_of keyword) ≤ length text.now) }
+        ensures within { IfSome result (λ keyword. length (keyword_text keyword) ≤ length text.now) }
     {
         KEYWORDS
             .iter()
@@ -105,8 +105,8 @@ impl Keyword {
 
     /// The name behind the keyword, which may be empty.
     fn name(self, text: &[u8]) -> &[u8]
-        requires { length (word_of self) ≤ length text.now }
-        ensures { result.now ≡ name_behind self text.now }
+        requires { length (keyword_text self) ≤ length text.now }
+        ensures { result.now ≡ name_behind_keyword self text.now }
     {
         let rest = &text[self.word().len()..];
         let start = white_end(rest);
@@ -116,23 +116,23 @@ impl Keyword {
 
 /// A line that begins a part.
 #[derive(Clone, Copy)]
-pub(crate) struct Heading<'t> {
+pub(crate) struct FilterHeading<'t> {
     /// The kind of the filter that begins, or None for a part whose lines aren't read.
     pub(crate) kind: Option<FilterKind>,
     /// What stands behind the keyword up to white space. It may be empty, which is refused.
     pub(crate) name: &'t [u8],
 }
 
-impl<'t> Heading<'t> {
+impl<'t> FilterHeading<'t> {
     ghost use Rattle.px_filter_files.specs.Headings.{heading_at};
     ghost use Rattle.px_filter_files.specs.Seen.{heading_seen};
 
     /// The heading that a line is, or None for a job.
-    pub(crate) fn at(text: &'t [u8]) -> Option<Heading<'t>>
+    pub(crate) fn at(text: &'t [u8]) -> Option<FilterHeading<'t>>
         ensures { heading_seen result ≡ heading_at text.now }
     {
         match Keyword::at(text) {
-            Some(keyword) => Some(Heading {
+            Some(keyword) => Some(FilterHeading {
                 kind: keyword.kind(),
                 name: keyword.name(text),
             }),

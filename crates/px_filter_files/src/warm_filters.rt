@@ -8,7 +8,7 @@ use crate::files::NamedFilter;
 use crate::filters::Filters;
 use crate::kinds::FilterKind;
 use px_base::Mem;
-use px_subst::{Filter, KeptFilter, Outcome, Vars};
+use px_subst::{Filter, JobOutcome, KeptFilter, Vars};
 use std::alloc::Global;
 use std::marker::Model;
 
@@ -52,7 +52,7 @@ fn run_kept<'f>(
     kept: &mut Option<KeptFilter<'f>>,
     text: &[u8],
     vars: &Vars,
-) -> Result<Option<Outcome>, Mem>
+) -> Result<Option<JobOutcome>, Mem>
     requires { IfSome kept.old (λ jobs. jobs ≡ filter.now) }
     ensures value { IfOk result (λ found. unwrap_or found (unchanged text.now) ≡ run_filter filter.now vars.now text.now) }
     ensures hit { IfOk result (λ found. IfSome found (λ outcome. 0 < outcome.hits)) }
@@ -134,7 +134,7 @@ impl<'f> WarmFilters<'f> {
         at: usize,
         text: &[u8],
         vars: &Vars,
-    ) -> Result<Option<Outcome>, Mem>
+    ) -> Result<Option<JobOutcome>, Mem>
         requires { at < length self.old.filters }
         ensures value { IfOk result (λ found. unwrap_or found (unchanged text.now)
             ≡ run_filter (jobs_at self.old at) vars.now text.now) }
@@ -155,7 +155,7 @@ impl<'f> WarmFilters<'f> {
         name: &[u8],
         text: &[u8],
         vars: &Vars,
-    ) -> Result<Option<Outcome>, Mem>
+    ) -> Result<Option<JobOutcome>, Mem>
         ensures value { IfOk result (λ found. unwrap_or found (unchanged text.now)
             ≡ run_filter (jobs_of self.old (record { kind = kind; name = name.now })) vars.now text.now) }
         ensures hit { IfOk result (λ found. IfSome found (λ outcome. 0 < outcome.hits)) }

@@ -2,8 +2,8 @@
 use Rattle.std.proofs.Common.{◌≡◌, ◌≢◌, ℕ, zero, suc, ◌+◌, ◌-◌, ◌<◌, ◌≤◌, inl, Bool, true, false, ◌==◌, ◌&&◌, cond, nat_le, min, List, [], ◌∷◌, ◌++◌, length, take, IsTrue, refl, sym, ◌∙◌, ap, subst, arith, append_assoc, flat_map, length-append, length-take, eqb-true, eq-eqb}
 use Rattle.std.proofs.lemmas.List.{append-nil, take_all, take-take, length-take-le}
 use Rattle.std.proofs.lemmas.Bool.Decides.{nat_tests}
-use Rattle.px_framing.specs.declared.places.Place.{Place}
-use Rattle.px_framing.specs.declared.places.Place.TheVariants.{Size, Data, Gap, Trailers, Done, Wrong}
+use Rattle.px_framing.specs.declared.places.ChunkPlace.{ChunkPlace}
+use Rattle.px_framing.specs.declared.places.ChunkPlace.TheVariants.{Size, Data, Gap, Trailers, Done, Wrong}
 use Rattle.px_framing.specs.declared.places.State.{State}
 use Rattle.px_framing.specs.declared.places.State.TheVariants.{More, Whole, Cut, Misframed}
 use Rattle.px_framing.specs.declared.places.Verdict.{Verdict}
@@ -11,22 +11,24 @@ use Rattle.px_framing.specs.declared.places.Verdict.TheVariants as verdict
 use Rattle.px_framing.specs.declared.stages.Stage.TheVariants as stage
 use Rattle.px_framing.specs.declared.rules.BodyRule.{BodyRule}
 use Rattle.px_framing.specs.declared.rules.BodyRule.TheVariants as rule
-use Rattle.px_framing.specs.Lines.{crlf, may_stand, after, data_place, IsOpen, NoLine}
-use Rattle.px_framing.specs.Elements.{Element, print, data_of, Leads, AreWhole}
-use Rattle.px_framing.specs.Body.{Part, nothing, first_bytes, body_limit, Says, KeepsLimit, AreElements, IsBody, IsChunked, Body}
-use Rattle.px_framing.specs.Reading.{before, ends_in_cr, without_last, verdict_of, step, reads, goes_on, reads_on, capped, cut_state, state_at, stage_state, is_line, is_last, first, IsHeld, IsSettled, After, Reading}
+use Rattle.px_framing.specs.Lines.{may_stand, place_after_line, data_place, IsOpen, NoLine}
+use Rattle.px_framing.specs.Elements.{Element, print, data_of, ElementsLead, AreWhole}
+use Rattle.px_framing.specs.Body.{Part, nothing, first_bytes, body_limit, StateSays, KeepsLimit, AreElements, IsBody, IsChunked, Body}
+use Rattle.px_framing.specs.Reading.{before, ends_in_cr, verdict_of, step, reads, goes_on, reads_on, capped, cut_state, place_state, stage_state, is_line, is_last, first, IsHeld, IsSettled, ReaderAfter, Reading}
 use Rattle.px_framing.proofs.LineLemmas.{wrong_after_cr, wrong_cr, wrong_byte, open_cr}
 use Rattle.px_framing.proofs.MoveLemmas.{reads-byte, reads-line-byte}
 use Rattle.px_framing.proofs.HeldLemmas.{cr-front, cr-push, held-open, held-line-end}
 use Rattle.px_framing.proofs.StepLemmas.{nothing-left, reads-last, reads-none, le-yes}
 use Rattle.px_framing.proofs.ElementLemmas.{Ends, not_wrong, fewer, shorter, says_of, one_end, same_length, same_data}
+use Rattle.px_head.specs.Prints.{crlf}
+use Rattle.px_base.specs.Lists.{without_last}
 
 -- what the bytes are read to from a place: whole elements, and what is held back
-record Found (p : Place) (k bytes : List ℕ) (part : Part) : Type 0 where
+record Found (p : ChunkPlace) (k bytes : List ℕ) (part : Part) : Type 0 where
   elements : List Element
-  next : Place
+  next : ChunkPlace
   held : List ℕ
-  leads : Leads p elements next
+  leads : ElementsLead p elements next
   raw_is : part.raw ≡ flat_map print elements
   plain_is : part.plain ≡ flat_map data_of elements
   whole : k ++ take part.used bytes ≡ flat_map print elements ++ held
@@ -36,8 +38,8 @@ record Found (p : Place) (k bytes : List ℕ) (part : Part) : Type 0 where
 
 -- ---- what a verdict says
 
-wrong-at : (p : Place) (k : List ℕ) (b : ℕ) (cr lf stands last grown : Bool) → IsOpen p k → ends_in_cr k ≡ cr → (b == 10) ≡ lf → may_stand p (without_last k) ≡ stands → (b == 13) ≡ last → may_stand p (k ++ b ∷ []) ≡ grown
-    → verdict.Wrong ≡ cond cr (cond (lf && stands) (verdict.Line (after p (without_last k))) verdict.Wrong) (cond last (cond (may_stand p k) verdict.Open verdict.Wrong) (cond grown verdict.Open verdict.Wrong)) → NoLine p (k ++ b ∷ [])
+wrong-at : (p : ChunkPlace) (k : List ℕ) (b : ℕ) (cr lf stands last grown : Bool) → IsOpen p k → ends_in_cr k ≡ cr → (b == 10) ≡ lf → may_stand p (without_last k) ≡ stands → (b == 13) ≡ last → may_stand p (k ++ b ∷ []) ≡ grown
+    → verdict.Wrong ≡ cond cr (cond (lf && stands) (verdict.Line (place_after_line p (without_last k))) verdict.Wrong) (cond last (cond (may_stand p k) verdict.Open verdict.Wrong) (cond grown verdict.Open verdict.Wrong)) → NoLine p (k ++ b ∷ [])
 wrong-at p k b true true true last grown o c l s r g v = absurd (cc)
 wrong-at p k b true true false last grown o c l s r g v =
     let yes_ = open_cr p (without_last k) (subst (IsOpen p) (cr-front k c) o) in
@@ -51,19 +53,19 @@ wrong-at p k b false lf stands false false o c l s r g v =
     wrong_byte p k b (λ yes_. let both : true ≡ false = sym yes_ ∙ g in cc) (λ e. let both : true ≡ false = sym (eq-eqb b 13 e) ∙ r in cc)
     (λ t e. let both : true ≡ false = sym (cr-push t 13) ∙ ap ends_in_cr (sym e) ∙ c in cc)
 
-no-line : (p : Place) (k : List ℕ) (b : ℕ) → IsOpen p k → verdict.Wrong ≡ verdict_of p k b → NoLine p (k ++ b ∷ [])
+no-line : (p : ChunkPlace) (k : List ℕ) (b : ℕ) → IsOpen p k → verdict.Wrong ≡ verdict_of p k b → NoLine p (k ++ b ∷ [])
 unfolding verdict_of
 no-line p k b o v = wrong-at p k b (ends_in_cr k) (b == 10) (may_stand p (without_last k)) (b == 13) (may_stand p (k ++ b ∷ [])) o refl refl refl refl refl v
 
 -- the line that a byte ends
-record IsEnd (p n : Place) (k : List ℕ) (b : ℕ) : Type 0 where
+record IsEnd (p n : ChunkPlace) (k : List ℕ) (b : ℕ) : Type 0 where
   text : List ℕ
   line : k ++ b ∷ [] ≡ text ++ crlf
   stands : IsTrue (may_stand p text)
-  leads : n ≡ after p text
+  leads : n ≡ place_after_line p text
 
-end-at : (p n : Place) (k : List ℕ) (b : ℕ) (cr lf stands last grown : Bool) → ends_in_cr k ≡ cr → (b == 10) ≡ lf → may_stand p (without_last k) ≡ stands
-    → verdict.Line n ≡ cond cr (cond (lf && stands) (verdict.Line (after p (without_last k))) verdict.Wrong) (cond last (cond (may_stand p k) verdict.Open verdict.Wrong) (cond grown verdict.Open verdict.Wrong)) → IsEnd p n k b
+end-at : (p n : ChunkPlace) (k : List ℕ) (b : ℕ) (cr lf stands last grown : Bool) → ends_in_cr k ≡ cr → (b == 10) ≡ lf → may_stand p (without_last k) ≡ stands
+    → verdict.Line n ≡ cond cr (cond (lf && stands) (verdict.Line (place_after_line p (without_last k))) verdict.Wrong) (cond last (cond (may_stand p k) verdict.Open verdict.Wrong) (cond grown verdict.Open verdict.Wrong)) → IsEnd p n k b
 end-at p n k b true true true last grown c l s v = record {
   text = without_last k;
   line = ap (λ (w : List ℕ). w ++ b ∷ []) (cr-front k c) ∙ ap (λ x. (without_last k ++ 13 ∷ []) ++ x ∷ []) (eqb-true b 10 l) ∙ append_assoc (without_last k) (13 ∷ []) (10 ∷ []);
@@ -74,19 +76,19 @@ end-at p n k b true true false last grown c l s v = absurd (cc)
 end-at p n k b true false stands last grown c l s v = absurd (cc)
 end-at p n k b false lf stands true grown c l s v = absurd (open-or-wrong (may_stand p k) n v)
   where
-    open-or-wrong : (y : Bool) (m : Place) → verdict.Line m ≡ cond y verdict.Open verdict.Wrong → ⊥
+    open-or-wrong : (y : Bool) (m : ChunkPlace) → verdict.Line m ≡ cond y verdict.Open verdict.Wrong → ⊥
     open-or-wrong true m e = cc
     open-or-wrong false m e = cc
 end-at p n k b false lf stands false true c l s v = absurd (cc)
 end-at p n k b false lf stands false false c l s v = absurd (cc)
 
-end-of : (p n : Place) (k : List ℕ) (b : ℕ) → verdict.Line n ≡ verdict_of p k b → IsEnd p n k b
+end-of : (p n : ChunkPlace) (k : List ℕ) (b : ℕ) → verdict.Line n ≡ verdict_of p k b → IsEnd p n k b
 unfolding verdict_of
 end-of p n k b v = end-at p n k b (ends_in_cr k) (b == 10) (may_stand p (without_last k)) (b == 13) (may_stand p (k ++ b ∷ [])) refl refl refl v
 
 -- ---- from a place
 
-held-ends : (p : Place) (k : List ℕ) → IsHeld p k → p ≢ Wrong → Ends (state_at p) p k
+held-ends : (p : ChunkPlace) (k : List ℕ) → IsHeld p k → p ≢ Wrong → Ends (place_state p) p k
 held-ends Size k h w = (h, (λ e. cc), (λ e. cc), w)
 held-ends (Data n) k h w = (inl h.1, (λ e. cc), (λ e. let z : n ≡ 0 = cc in let s = h.0 in omega arith), w)
 held-ends Gap k h w = (h, (λ e. cc), (λ e. cc), w)
@@ -94,7 +96,7 @@ held-ends (Trailers n) k h w = (h, (λ e. cc), (λ e. cc), w)
 held-ends Done k h w = (refl, h)
 held-ends Wrong k h w = absurd (w refl)
 
-found-none : (p : Place) (k bytes : List ℕ) → IsHeld p k → p ≢ Wrong → (state_at p ≡ More → bytes ≡ []) → Found p k bytes (nothing (state_at p))
+found-none : (p : ChunkPlace) (k bytes : List ℕ) → IsHeld p k → p ≢ Wrong → (place_state p ≡ More → bytes ≡ []) → Found p k bytes (nothing (place_state p))
 found-none p k bytes h w all = record {
   elements = [];
   next = p;
@@ -130,7 +132,7 @@ found-byte n k b bs part some none f =
 take-more : (k : List ℕ) (x : ℕ) (xs : List ℕ) (m : ℕ) → k ++ take (1 + m) (x ∷ xs) ≡ (k ++ x ∷ []) ++ take m xs
 take-more k x xs m = ap (λ j. k ++ take j (x ∷ xs)) (let s : 1 + m ≡ suc m = omega arith in s) ∙ sym (append_assoc k (x ∷ []) (take m xs))
 
-found-open : (p : Place) (k : List ℕ) (b : ℕ) (bs : List ℕ) (part : Part) → Found p (k ++ b ∷ []) bs part → Found p k (b ∷ bs) (before [] [] 1 part)
+found-open : (p : ChunkPlace) (k : List ℕ) (b : ℕ) (bs : List ℕ) (part : Part) → Found p (k ++ b ∷ []) bs part → Found p k (b ∷ bs) (before [] [] 1 part)
 found-open p k b bs part f = record {
   elements = f.elements;
   next = f.next;
@@ -144,7 +146,7 @@ found-open p k b bs part f = record {
   ends = f.ends;
 }
 
-found-line : (p n : Place) (k : List ℕ) (b : ℕ) (bs : List ℕ) (part : Part) → IsEnd p n k b → Found n [] bs part → Found p k (b ∷ bs) (before (k ++ b ∷ []) [] 1 part)
+found-line : (p n : ChunkPlace) (k : List ℕ) (b : ℕ) (bs : List ℕ) (part : Part) → IsEnd p n k b → Found n [] bs part → Found p k (b ∷ bs) (before (k ++ b ∷ []) [] 1 part)
 found-line p n k b bs part e f = record {
   elements = Element.line e.text ∷ f.elements;
   next = f.next;
@@ -158,7 +160,7 @@ found-line p n k b bs part e f = record {
   ends = f.ends;
 }
 
-found-wrong : (p : Place) (k : List ℕ) (b : ℕ) (bs : List ℕ) → is_line p ≡ true → IsOpen p k → NoLine p (k ++ b ∷ []) → Found p k (b ∷ bs) (before [] [] 1 (nothing Misframed))
+found-wrong : (p : ChunkPlace) (k : List ℕ) (b : ℕ) (bs : List ℕ) → is_line p ≡ true → IsOpen p k → NoLine p (k ++ b ∷ []) → Found p k (b ∷ bs) (before [] [] 1 (nothing Misframed))
 found-wrong p k b bs l o none = record {
   elements = [];
   next = p;
@@ -173,8 +175,8 @@ found-wrong p k b bs l o none = record {
 }
 
 -- a verdict leads on
-module _ (bs : List ℕ) (on : (p : Place) (k : List ℕ) → IsHeld p k → p ≢ Wrong → Found p k bs (reads p k bs)) where
-  by-verdict : (p : Place) (k : List ℕ) (b : ℕ) (v : Verdict) → is_line p ≡ true → IsOpen p k → p ≢ Wrong → v ≡ verdict_of p k b → Found p k (b ∷ bs) (reads p k (b ∷ bs))
+module _ (bs : List ℕ) (on : (p : ChunkPlace) (k : List ℕ) → IsHeld p k → p ≢ Wrong → Found p k bs (reads p k bs)) where
+  by-verdict : (p : ChunkPlace) (k : List ℕ) (b : ℕ) (v : Verdict) → is_line p ≡ true → IsOpen p k → p ≢ Wrong → v ≡ verdict_of p k b → Found p k (b ∷ bs) (reads p k (b ∷ bs))
   by-verdict p k b verdict.Open l o w v =
       let held : IsHeld p (k ++ b ∷ []) = held-open p k (k ++ b ∷ []) b l v refl in
       subst (Found p k (b ∷ bs)) (sym (reads-line-byte p k b bs verdict.Open l (sym v))) (found-open p k b bs (reads p (k ++ b ∷ []) bs) (on p (k ++ b ∷ []) held w))
@@ -186,7 +188,7 @@ module _ (bs : List ℕ) (on : (p : Place) (k : List ℕ) → IsHeld p k → p �
   by-verdict p k b verdict.Wrong l o w v =
       subst (Found p k (b ∷ bs)) (sym (reads-line-byte p k b bs verdict.Wrong l (sym v) ∙ ap (before [] [] 1) (reads-last Wrong [] bs refl))) (found-wrong p k b bs l o (no-line p k b o v))
 
-  by-byte : (p : Place) (k : List ℕ) (b : ℕ) → IsHeld p k → p ≢ Wrong → Found p k (b ∷ bs) (reads p k (b ∷ bs))
+  by-byte : (p : ChunkPlace) (k : List ℕ) (b : ℕ) → IsHeld p k → p ≢ Wrong → Found p k (b ∷ bs) (reads p k (b ∷ bs))
   by-byte Size k b h w = by-verdict Size k b (verdict_of Size k b) refl h w refl
   by-byte (Data n) k b h w =
       let next : IsHeld (data_place (n - 1)) [] = data-held (n - 1) in
@@ -205,12 +207,12 @@ module _ (bs : List ℕ) (on : (p : Place) (k : List ℕ) → IsHeld p k → p �
   by-byte Done k b h w = subst (Found Done k (b ∷ bs)) (sym (reads-last Done k (b ∷ bs) refl)) (found-none Done k (b ∷ bs) h w (λ e. absurd (cc)))
   by-byte Wrong k b h w = absurd (w refl)
 
-found : (bs : List ℕ) (p : Place) (k : List ℕ) → IsHeld p k → p ≢ Wrong → Found p k bs (reads p k bs)
+found : (bs : List ℕ) (p : ChunkPlace) (k : List ℕ) → IsHeld p k → p ≢ Wrong → Found p k bs (reads p k bs)
 found [] p k h w = subst (Found p k []) (sym (reads-none p k)) (found-none p k [] h w (λ e. refl))
 found (b ∷ bs) p k h w = by-byte bs (λ q j. found bs q j) p k b h w
 
 -- what is read from a place are whole elements and their data
-pub whole-from : (bs : List ℕ) (p : Place) (k : List ℕ) → IsHeld p k → p ≢ Wrong → AreWhole p (reads p k bs).raw (reads p k bs).plain
+pub whole-from : (bs : List ℕ) (p : ChunkPlace) (k : List ℕ) → IsHeld p k → p ≢ Wrong → AreWhole p (reads p k bs).raw (reads p k bs).plain
 whole-from bs p k h w = let f = found bs p k h w in record { elements = f.elements; next = f.next; leads = f.leads; bytes_are = f.raw_is; data_is = f.plain_is }
 
 -- ---- whole bytes
@@ -224,7 +226,7 @@ limit-at Whole bytes used full f w a n = omega arith
 limit-at Cut bytes used full f w a n = absurd (n refl)
 limit-at Misframed bytes used full f w a n = omega arith
 
-ends-at : (s : State) (full : Bool) (p : Place) (held : List ℕ) → Ends s p held → Ends (cut_state s full) p held
+ends-at : (s : State) (full : Bool) (p : ChunkPlace) (held : List ℕ) → Ends s p held → Ends (cut_state s full) p held
 ends-at More true p held o = o
 ends-at More false p held o = o
 ends-at Whole full p held o = o
@@ -238,11 +240,11 @@ more-at Whole full e = absurd (cc)
 more-at Cut full e = absurd (cc)
 more-at Misframed full e = absurd (cc)
 
-never-cut : (bs : List ℕ) (p : Place) (k : List ℕ) → (reads p k bs).state ≢ Cut
+never-cut : (bs : List ℕ) (p : ChunkPlace) (k : List ℕ) → (reads p k bs).state ≢ Cut
 unfolding reads
 never-cut [] p k e = never-at p e
   where
-    never-at : (q : Place) → state_at q ≢ Cut
+    never-at : (q : ChunkPlace) → place_state q ≢ Cut
     never-at Size e = cc
     never-at (Data n) e = cc
     never-at Gap e = cc
@@ -251,7 +253,7 @@ never-cut [] p k e = never-at p e
     never-at Wrong e = cc
 never-cut (b ∷ bs) p k e = cut-at (is_last p) (step p k b).raw (step p k b).plain p (reads (step p k b).next (step p k b).kept bs) (never-cut bs (step p k b).next (step p k b).kept) e
   where
-    never-at : (q : Place) → state_at q ≢ Cut
+    never-at : (q : ChunkPlace) → place_state q ≢ Cut
     never-at Size e = cc
     never-at (Data n) e = cc
     never-at Gap e = cc
@@ -259,7 +261,7 @@ never-cut (b ∷ bs) p k e = cut-at (is_last p) (step p k b).raw (step p k b).pl
     never-at Done e = cc
     never-at Wrong e = cc
 
-    cut-at : (c : Bool) (r q : List ℕ) (m : Place) (part : Part) → part.state ≢ Cut → (cond c (nothing (state_at m)) (before r q 1 part)).state ≡ Cut → ⊥
+    cut-at : (c : Bool) (r q : List ℕ) (m : ChunkPlace) (part : Part) → part.state ≢ Cut → (cond c (nothing (place_state m)) (before r q 1 part)).state ≡ Cut → ⊥
     cut-at true r q m part n e = never-at m e
     cut-at false r q m part n e = n e
 
@@ -307,7 +309,7 @@ whole rule.Chunked bytes =
 whole rule.ToClose bytes = refl
 
 -- after any pieces, what was put out and how the body stands is what is said of the bytes
-pub body-of : (r : BodyRule) (bytes raw plain : List ℕ) (used : ℕ) (reader : Reading) (state : State) → After r bytes raw plain used reader → IsSettled reader → state ≡ stage_state reader.stage
+pub body-of : (r : BodyRule) (bytes raw plain : List ℕ) (used : ℕ) (reader : Reading) (state : State) → ReaderAfter r bytes raw plain used reader → IsSettled reader → state ≡ stage_state reader.stage
     → Body r bytes (record { raw = raw; plain = plain; used = used; state = state })
 body-of r bytes raw plain used reader state after settled is =
     let put : goes_on (first r) bytes ≡ before raw plain used (nothing (stage_state reader.stage)) =
@@ -318,7 +320,7 @@ body-of r bytes raw plain used reader state after settled is =
     subst (Body r bytes) (put ∙ part) (whole r bytes)
 
 -- however bytes are cut, they are read to one part
-pub cuts-agree : (q : BodyRule) (bytes raw raw' plain plain' : List ℕ) (count count' : ℕ) (r r' : Reading) → After q bytes raw plain count r → After q bytes raw' plain' count' r' → IsSettled r → IsSettled r'
+pub cuts-agree : (q : BodyRule) (bytes raw raw' plain plain' : List ℕ) (count count' : ℕ) (r r' : Reading) → ReaderAfter q bytes raw plain count r → ReaderAfter q bytes raw' plain' count' r' → IsSettled r → IsSettled r'
     → (raw ≡ raw') × (plain ≡ plain') × (count ≡ count') × (stage_state r.stage ≡ stage_state r'.stage)
 cuts-agree q bytes raw raw' plain plain' count count' r r' x y a b =
     let one : before raw plain count (nothing (stage_state r.stage)) ≡ before raw' plain' count' (nothing (stage_state r'.stage)) =
@@ -337,7 +339,7 @@ none-held raw (x ∷ held) h = absurd (omega (arith, length-append raw (x ∷ he
 -- a whole chunked body is whole elements from its start
 pub whole-raw : (bytes : List ℕ) (p : Part) → IsChunked bytes p → p.state ≡ Whole → p.used ≡ length bytes → AreWhole Size bytes p.plain
 whole-raw bytes p x e n =
-    let body = subst (λ (s : State). Says s bytes p.used) e x.says in
+    let body = subst (λ (s : State). StateSays s bytes p.used) e x.says in
     let all : take p.used bytes ≡ bytes = take_all p.used bytes (omega arith) in
     let most : length (take p.used bytes) ≤ length p.raw = x.longest (take p.used bytes) body.0 [] Done body.1 (sym (append-nil (take p.used bytes))) in
     let none : x.held ≡ [] = none-held p.raw x.held (subst (λ (w : List ℕ). length w ≤ length p.raw) x.front most) in
@@ -347,7 +349,7 @@ whole-raw bytes p x e n =
 -- the raw bytes of a whole chunked body are one
 pub raw-whole : (bytes : List ℕ) (p : Part) → IsChunked bytes p → p.state ≡ Whole → IsChunked p.raw (record p { used = length p.raw })
 raw-whole bytes p x e =
-    let body = subst (λ (s : State). Says s bytes p.used) e x.says in
+    let body = subst (λ (s : State). StateSays s bytes p.used) e x.says in
     let all : length (take p.used bytes) ≤ length p.raw = x.longest (take p.used bytes) body.0 [] Done body.1 (sym (append-nil (take p.used bytes))) in
     let none : x.held ≡ [] = none-held p.raw x.held (subst (λ (w : List ℕ). length w ≤ length p.raw) x.front all) in
     let taken : take p.used bytes ≡ p.raw = x.front ∙ ap (λ (w : List ℕ). p.raw ++ w) none ∙ append-nil p.raw in
@@ -360,7 +362,7 @@ raw-whole bytes p x e =
       front = same ∙ sym (append-nil p.raw);
       elements = x.elements;
       longest = λ r d rest place a f. omega (arith, ap length (sym same ∙ f), length-append r rest);
-      says = subst (λ (s : State). Says s p.raw (length p.raw)) (sym e) (subst (λ (w : List ℕ). IsBody w) (taken ∙ sym same) body);
+      says = subst (λ (s : State). StateSays s p.raw (length p.raw)) (sym e) (subst (λ (w : List ℕ). IsBody w) (taken ∙ sym same) body);
       limit = subst (KeepsLimit p.state) count x.limit;
     }
 

@@ -4,15 +4,16 @@ use Rattle.std.specs.List.{position, position_or_len, copy_within}
 use Rattle.std.proofs.lemmas.List.{append-nil, take_at, drop_all, drop-drop, length-drop}
 use Rattle.std.proofs.lemmas.List.Edits.{take-paste, drop-paste}
 use Rattle.std.proofs.Math.Seq.{drop-append_seam, paste}
-use Rattle.px_framing.specs.declared.places.Place.{Place}
-use Rattle.px_framing.specs.declared.places.Place.TheVariants.{Size, Data, Gap, Trailers, Done, Wrong}
-use Rattle.px_framing.specs.declared.lines.Line.{Line}
-use Rattle.px_framing.specs.Lines.{crlf, may_stand, after, data_place}
-use Rattle.px_framing.specs.Elements.{Element, print, data_of, Leads, AreWhole}
+use Rattle.px_framing.specs.declared.places.ChunkPlace.{ChunkPlace}
+use Rattle.px_framing.specs.declared.places.ChunkPlace.TheVariants.{Size, Data, Gap, Trailers, Done, Wrong}
+use Rattle.px_framing.specs.declared.lines.WholeLine.{WholeLine}
+use Rattle.px_framing.specs.Lines.{may_stand, place_after_line, data_place}
+use Rattle.px_framing.specs.Elements.{Element, print, data_of, ElementsLead, AreWhole}
 use Rattle.px_framing.specs.Extracts.{Divides}
 use Rattle.px_framing.specs.Reading.{is_line, is_last}
 use Rattle.px_framing.proofs.LineLemmas.{no_cr}
 use Rattle.px_framing.proofs.ElementLemmas.{no_line}
+use Rattle.px_head.specs.Prints.{crlf}
 
 -- ---- the first CR
 
@@ -33,7 +34,7 @@ cr-place t w free =
     rw (inside, at) refl
 
 -- a text that may stand holds no CR
-pub text-cr : (p : Place) (t : List ℕ) → IsTrue (may_stand p t) → (xs ys : List ℕ) → t ≡ xs ++ 13 ∷ ys → ⊥
+pub text-cr : (p : ChunkPlace) (t : List ℕ) → IsTrue (may_stand p t) → (xs ys : List ℕ) → t ≡ xs ++ 13 ∷ ys → ⊥
 text-cr p t h xs ys e = no_cr p xs ys (subst (λ (w : List ℕ). IsTrue (may_stand p w)) e h)
 
 -- ---- a run of data
@@ -42,8 +43,8 @@ text-cr p t h xs ys e = no_cr p xs ys (subst (λ (w : List ℕ). IsTrue (may_sta
 abbrev Behind : ℕ → ℕ → List ℕ → List ℕ → Type 0
 Behind k n bytes data_bytes = (rest : List ℕ) × AreWhole (data_place (n - k)) (drop k bytes) rest × (data_bytes ≡ take k bytes ++ rest)
 
-run-step : (k n : ℕ) (bytes data_bytes : List ℕ) (next : Place) (es : List Element) → ((bs ds : List ℕ) → k ≤ length bs → AreWhole (data_place n) bs ds → Behind k n bs ds) → suc k ≤ length bytes
-    → Leads (Data (suc n)) es next → bytes ≡ flat_map print es → data_bytes ≡ flat_map data_of es → Behind (suc k) (suc n) bytes data_bytes
+run-step : (k n : ℕ) (bytes data_bytes : List ℕ) (next : ChunkPlace) (es : List Element) → ((bs ds : List ℕ) → k ≤ length bs → AreWhole (data_place n) bs ds → Behind k n bs ds) → suc k ≤ length bytes
+    → ElementsLead (Data (suc n)) es next → bytes ≡ flat_map print es → data_bytes ≡ flat_map data_of es → Behind (suc k) (suc n) bytes data_bytes
 run-step k n bytes data_bytes next [] on short l b d = absurd (let e = ap (λ (v : List ℕ). length v) b in omega arith)
 run-step k n bytes data_bytes next (Element.line t ∷ es) on short l b d = absurd (no_line (suc n) t (Data (suc n)) refl l.1.0)
 run-step k n bytes data_bytes next (Element.byte x ∷ es) on short l b d =
@@ -51,7 +52,7 @@ run-step k n bytes data_bytes next (Element.byte x ∷ es) on short l b d =
     let left : n ≡ l.1.0 = cc in
     let mid : l.0 ≡ data_place n = l.1.2 ∙ ap data_place (sym left) in
     let len = ap (λ (v : List ℕ). length v) b in
-    let inner = on (flat_map print es) (flat_map data_of es) (omega arith) (record { elements = es; next = next; leads = subst (λ (p : Place). Leads p es next) mid l.2; bytes_are = refl; data_is = refl }) in
+    let inner = on (flat_map print es) (flat_map data_of es) (omega arith) (record { elements = es; next = next; leads = subst (λ (p : ChunkPlace). ElementsLead p es next) mid l.2; bytes_are = refl; data_is = refl }) in
     let count : n - k ≡ suc n - suc k = omega arith in (
       inner.0,
       subst (λ (m : ℕ). AreWhole (data_place m) (drop (suc k) bytes) inner.0) count (subst (λ (v : List ℕ). AreWhole (data_place (n - k)) v inner.0) (sym (ap (drop (suc k)) b)) inner.1),
@@ -68,17 +69,17 @@ some-place : (n : ℕ) → 0 < n → Data n ≡ data_place n
 some-place zero h = absurd (omega arith)
 some-place (suc n) h = refl
 
-pub data-divides : (n k : ℕ) (next : Place) (bytes data_bytes : List ℕ) → 0 < n → k ≤ n → k ≤ length bytes → next ≡ data_place (n - k) → AreWhole (Data n) bytes data_bytes
+pub data-divides : (n k : ℕ) (next : ChunkPlace) (bytes data_bytes : List ℕ) → 0 < n → k ≤ n → k ≤ length bytes → next ≡ data_place (n - k) → AreWhole (Data n) bytes data_bytes
     → Divides bytes data_bytes (Some (record { len = k; data_len = k; next = next }))
 data-divides n k next bytes data_bytes some low short is w =
-    let r = run-at k n bytes data_bytes low short (subst (λ (p : Place). AreWhole p bytes data_bytes) (some-place n some) w) in
-    (r.0, subst (λ (p : Place). AreWhole p (drop k bytes) r.0) (sym is) r.1, r.2)
+    let r = run-at k n bytes data_bytes low short (subst (λ (p : ChunkPlace). AreWhole p bytes data_bytes) (some-place n some) w) in
+    (r.0, subst (λ (p : ChunkPlace). AreWhole p (drop k bytes) r.0) (sym is) r.1, r.2)
 
 -- between runs of no data nothing stands
 pub no-data : (bytes data_bytes : List ℕ) → 0 < length bytes → AreWhole (Data 0) bytes data_bytes → ⊥
 no-data bytes data_bytes some w = by w.elements w.leads w.bytes_are
   where
-    by : (es : List Element) → Leads (Data 0) es w.next → bytes ≡ flat_map print es → ⊥
+    by : (es : List Element) → ElementsLead (Data 0) es w.next → bytes ≡ flat_map print es → ⊥
     by [] l b = let e = ap length b in omega arith
     by (Element.line t ∷ es) l b = no_line 0 t (Data 0) refl l.1.0
     by (Element.byte x ∷ es) l b = let e = l.1.1 in cc
@@ -86,7 +87,7 @@ no-data bytes data_bytes some w = by w.elements w.leads w.bytes_are
 -- ---- a line
 
 -- the place of the first CR, where a line stands at the front
-pub text-place : (p : Place) (text more bytes : List ℕ) → IsTrue (may_stand p text) → bytes ≡ (text ++ crlf) ++ more → position (λ b. b == 13) bytes ≡ Some (length text)
+pub text-place : (p : ChunkPlace) (text more bytes : List ℕ) → IsTrue (may_stand p text) → bytes ≡ (text ++ crlf) ++ more → position (λ b. b == 13) bytes ≡ Some (length text)
 text-place p text more bytes stands is =
     ap (position (λ b. b == 13)) (is ∙ append_assoc text crlf more) ∙ cr-place text (10 ∷ more) (text-cr p text stands)
 
@@ -98,32 +99,32 @@ pub text-length : (text more bytes : List ℕ) → bytes ≡ (text ++ crlf) ++ m
 text-length text more bytes is =
     let e = ap (λ (v : List ℕ). length v) is in let f = length-append (text ++ crlf) more in let g = length-append text crlf in omega arith
 
-pub line-goes : (p : Place) (bytes data_bytes : List ℕ) (o : Option Line) → 0 < length bytes → is_line p ≡ true
-    → ((text more : List ℕ) → IsTrue (may_stand p text) → bytes ≡ (text ++ crlf) ++ more → o ≡ Some (record { text_len = length text; next = after p text })) → AreWhole p bytes data_bytes
-    → (text : List ℕ) × (o ≡ Some (record { text_len = length text; next = after p text })) × AreWhole (after p text) (drop (length text + 2) bytes) data_bytes
+pub line-goes : (p : ChunkPlace) (bytes data_bytes : List ℕ) (o : Option WholeLine) → 0 < length bytes → is_line p ≡ true
+    → ((text more : List ℕ) → IsTrue (may_stand p text) → bytes ≡ (text ++ crlf) ++ more → o ≡ Some (record { text_len = length text; next = place_after_line p text })) → AreWhole p bytes data_bytes
+    → (text : List ℕ) × (o ≡ Some (record { text_len = length text; next = place_after_line p text })) × AreWhole (place_after_line p text) (drop (length text + 2) bytes) data_bytes
 line-goes p bytes data_bytes o some line is w = by w.elements w.leads w.bytes_are w.data_is
   where
-    by : (es : List Element) → Leads p es w.next → bytes ≡ flat_map print es → data_bytes ≡ flat_map data_of es
-        → (text : List ℕ) × (o ≡ Some (record { text_len = length text; next = after p text })) × AreWhole (after p text) (drop (length text + 2) bytes) data_bytes
+    by : (es : List Element) → ElementsLead p es w.next → bytes ≡ flat_map print es → data_bytes ≡ flat_map data_of es
+        → (text : List ℕ) × (o ≡ Some (record { text_len = length text; next = place_after_line p text })) × AreWhole (place_after_line p text) (drop (length text + 2) bytes) data_bytes
     by [] l b d = absurd (let e = ap (λ (v : List ℕ). length v) b in omega arith)
     by (Element.byte x ∷ es) l b d = absurd (let e : is_line (Data (suc l.1.0)) ≡ true = ap is_line (sym l.1.1) ∙ line in cc)
     by (Element.line t ∷ es) l b d =
         let len : length t + 2 ≡ length (t ++ crlf) = sym (length-append t crlf) in
         let behind : drop (length t + 2) bytes ≡ flat_map print es = (λ i. drop (len i) (b i)) ∙ drop-append_seam (t ++ crlf) (flat_map print es) in
-        (t, is t (flat_map print es) l.1.0 b, record { elements = es; next = w.next; leads = subst (λ (q : Place). Leads q es w.next) l.1.1 l.2; bytes_are = behind; data_is = d })
+        (t, is t (flat_map print es) l.1.0 b, record { elements = es; next = w.next; leads = subst (λ (q : ChunkPlace). ElementsLead q es w.next) l.1.1 l.2; bytes_are = behind; data_is = d })
 
-pub line-divides : (p : Place) (bytes data_bytes : List ℕ) (line : Line) → 0 < length bytes → is_line p ≡ true
-    → ((text more : List ℕ) → IsTrue (may_stand p text) → bytes ≡ (text ++ crlf) ++ more → Some line ≡ Some (record { text_len = length text; next = after p text })) → AreWhole p bytes data_bytes
+pub line-divides : (p : ChunkPlace) (bytes data_bytes : List ℕ) (line : WholeLine) → 0 < length bytes → is_line p ≡ true
+    → ((text more : List ℕ) → IsTrue (may_stand p text) → bytes ≡ (text ++ crlf) ++ more → Some line ≡ Some (record { text_len = length text; next = place_after_line p text })) → AreWhole p bytes data_bytes
     → Divides bytes data_bytes (Some (record { len = line.text_len + 2; data_len = 0; next = line.next }))
 line-divides p bytes data_bytes line some stands is w =
     let g = line-goes p bytes data_bytes (Some line) some stands is w in
-    let e : line ≡ record { text_len = length g.0; next = after p g.0 } = cc in
-    (data_bytes, subst (λ (l : Line). AreWhole l.next (drop (l.text_len + 2) bytes) data_bytes) (sym e) g.2, refl)
+    let e : line ≡ record { text_len = length g.0; next = place_after_line p g.0 } = cc in
+    (data_bytes, subst (λ (l : WholeLine). AreWhole l.next (drop (l.text_len + 2) bytes) data_bytes) (sym e) g.2, refl)
 
 -- ---- all runs
 
 -- behind the last place nothing stands
-no-line-last : (q : Place) (t : List ℕ) → is_last q ≡ true → IsTrue (may_stand q t) → ⊥
+no-line-last : (q : ChunkPlace) (t : List ℕ) → is_last q ≡ true → IsTrue (may_stand q t) → ⊥
 unfolding may_stand
 no-line-last Size t h k = cc
 no-line-last (Data n) t h k = cc
@@ -132,16 +133,16 @@ no-line-last (Trailers n) t h k = cc
 no-line-last Done t h k = cc
 no-line-last Wrong t h k = cc
 
-pub none-behind : (p : Place) (bytes data_bytes : List ℕ) → is_last p ≡ true → 0 < length bytes → AreWhole p bytes data_bytes → ⊥
+pub none-behind : (p : ChunkPlace) (bytes data_bytes : List ℕ) → is_last p ≡ true → 0 < length bytes → AreWhole p bytes data_bytes → ⊥
 none-behind p bytes data_bytes last some w = by p last w.elements w.leads w.bytes_are
   where
-    by : (q : Place) → is_last q ≡ true → (es : List Element) → Leads q es w.next → bytes ≡ flat_map print es → ⊥
+    by : (q : ChunkPlace) → is_last q ≡ true → (es : List Element) → ElementsLead q es w.next → bytes ≡ flat_map print es → ⊥
     by q h [] l b = let e = ap (λ (v : List ℕ). length v) b in omega arith
     by q h (Element.line t ∷ es) l b = no-line-last q t h l.1.0
     by q h (Element.byte x ∷ es) l b = let e : is_last (Data (suc l.1.0)) ≡ true = ap is_last (sym l.1.1) ∙ h in cc
 
 -- nothing stands behind the end
-none-left : (p : Place) (data_bytes : List ℕ) → AreWhole p [] data_bytes → data_bytes ≡ []
+none-left : (p : ChunkPlace) (data_bytes : List ℕ) → AreWhole p [] data_bytes → data_bytes ≡ []
 none-left p data_bytes w = by w.elements w.bytes_are w.data_is
   where
     by : (es : List Element) → [] ≡ flat_map print es → data_bytes ≡ flat_map data_of es → data_bytes ≡ []
@@ -150,7 +151,7 @@ none-left p data_bytes w = by w.elements w.bytes_are w.data_is
     by (Element.line (x ∷ t) ∷ es) b d = absurd (cc)
     by (Element.byte x ∷ es) b d = absurd (cc)
 
-pub gathered : (p : Place) (bytes data_bytes : List ℕ) (at to : ℕ) → length bytes ≤ at → ((more : List ℕ) × AreWhole p (drop at bytes) more × (data_bytes ≡ take to bytes ++ more)) → take to bytes ≡ data_bytes
+pub gathered : (p : ChunkPlace) (bytes data_bytes : List ℕ) (at to : ℕ) → length bytes ≤ at → ((more : List ℕ) × AreWhole p (drop at bytes) more × (data_bytes ≡ take to bytes ++ more)) → take to bytes ≡ data_bytes
 gathered p bytes data_bytes at to past (more, w, is) =
     let none = none-left p more (subst (λ (v : List ℕ). AreWhole p v more) (drop_all at bytes past) w) in
     sym (is ∙ ap (λ (v : List ℕ). take to bytes ++ v) none ∙ append-nil (take to bytes))
@@ -167,7 +168,7 @@ behind-same xs ys at to len data_len is behind few short =
     ∙ drop-drop (at + len - (to + data_len)) (to + data_len) xs ∙ ap (λ n. drop n xs) (sym split)
 
 -- a run further, where its data went to the others
-pub gather-on : (bytes bytes' data_bytes more rest : List ℕ) (at to len data_len : ℕ) (p : Place) → bytes' ≡ copy_within bytes at (at + data_len) to → to ≤ at → data_len ≤ len → at + len ≤ length bytes
+pub gather-on : (bytes bytes' data_bytes more rest : List ℕ) (at to len data_len : ℕ) (p : ChunkPlace) → bytes' ≡ copy_within bytes at (at + data_len) to → to ≤ at → data_len ≤ len → at + len ≤ length bytes
     → data_bytes ≡ take to bytes ++ more → AreWhole p (drop len (drop at bytes)) rest → more ≡ take data_len (drop at bytes) ++ rest
     → (left : List ℕ) × AreWhole p (drop (at + len) bytes') left × (data_bytes ≡ take (to + data_len) bytes' ++ left)
 gather-on bytes bytes' data_bytes more rest at to len data_len p is behind few short d w r =

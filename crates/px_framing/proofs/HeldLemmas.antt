@@ -2,15 +2,17 @@
 use Rattle.std.proofs.Common.{◌≡◌, ℕ, ◌+◌, ◌-◌, ◌<◌, ◌≤◌, ◌⊎◌, inl, inr, Bool, true, false, ◌==◌, ◌&&◌, cond, nat_lt, nat_le, ◌^◌, List, [], ◌∷◌, ◌++◌, length, take, drop, length-drop, le-leb, slice_index, Option, Some, None, IsTrue, refl, sym, ◌∙◌, ap, subst, arith, append_assoc, eqb-true, lt-ltb}
 use Rattle.std.proofs.lemmas.List.{append-nil, length_push, length-take-le, get_or_at, take_at}
 use Rattle.std.proofs.lemmas.Bool.Decides.{nat_tests}
-use Rattle.px_framing.specs.declared.places.Place.{Place}
-use Rattle.px_framing.specs.declared.places.Place.TheVariants.{Size, Data, Gap, Trailers, Done, Wrong}
+use Rattle.px_framing.specs.declared.places.ChunkPlace.{ChunkPlace}
+use Rattle.px_framing.specs.declared.places.ChunkPlace.TheVariants.{Size, Data, Gap, Trailers, Done, Wrong}
 use Rattle.px_framing.specs.declared.places.Verdict.TheVariants as verdict
 use Rattle.std.specs.Str.Parse.{digits_value}
-use Rattle.px_framing.specs.Lines.{crlf, front_while, is_hex, may_stand, after, after_size, size_of, IsOpen}
-use Rattle.px_framing.specs.Reading.{before, ends_in_cr, without_last, verdict_of, is_line, reads, IsHeld}
+use Rattle.px_framing.specs.Lines.{front_while, is_hex, may_stand, place_after_line, after_size, size_of, IsOpen}
+use Rattle.px_framing.specs.Reading.{before, ends_in_cr, verdict_of, is_line, reads, IsHeld}
 use Rattle.px_framing.specs.Passing.{Goes, IsLineAt}
 use Rattle.px_framing.proofs.LineLemmas.{closed, no_cr, ends_in, digits-taken, size-of-digits}
 use Rattle.px_framing.proofs.MoveLemmas.{move-open, move-line, move-data, data-place-zero, goes-then, goes-more, taken-on}
+use Rattle.px_head.specs.Prints.{crlf}
+use Rattle.px_base.specs.Lists.{without_last}
 
 -- ---- the last byte
 
@@ -37,23 +39,23 @@ true-or-false true = inl refl
 true-or-false false = inr refl
 
 -- a text that may go on to one that stands doesn't end in CR
-no-cr-at : (p : Place) (k xs : List ℕ) → IsTrue (may_stand p (k ++ xs)) → (ends_in_cr k ≡ true) ⊎ (ends_in_cr k ≡ false) → ends_in_cr k ≡ false
+no-cr-at : (p : ChunkPlace) (k xs : List ℕ) → IsTrue (may_stand p (k ++ xs)) → (ends_in_cr k ≡ true) ⊎ (ends_in_cr k ≡ false) → ends_in_cr k ≡ false
 no-cr-at p k xs h (inl e) = absurd (no_cr p (without_last k) xs (subst (λ (w : List ℕ). IsTrue (may_stand p w)) (ap (λ (w : List ℕ). w ++ xs) (cr-front k e) ∙ append_assoc (without_last k) (13 ∷ []) xs) h))
 no-cr-at p k xs h (inr e) = e
 
-no-cr : (p : Place) (k xs : List ℕ) → IsTrue (may_stand p (k ++ xs)) → ends_in_cr k ≡ false
+no-cr : (p : ChunkPlace) (k xs : List ℕ) → IsTrue (may_stand p (k ++ xs)) → ends_in_cr k ≡ false
 no-cr p k xs h = no-cr-at p k xs h (true-or-false (ends_in_cr k))
 
-not-cr : (p : Place) (k : List ℕ) (b : ℕ) (xs : List ℕ) → IsTrue (may_stand p (k ++ b ∷ xs)) → (b == 13) ≡ false
+not-cr : (p : ChunkPlace) (k : List ℕ) (b : ℕ) (xs : List ℕ) → IsTrue (may_stand p (k ++ b ∷ xs)) → (b == 13) ≡ false
 not-cr p k b xs h = sym (cr-push k b) ∙ no-cr p (k ++ b ∷ []) xs (subst (λ (w : List ℕ). IsTrue (may_stand p w)) (sym (append_assoc k (b ∷ []) xs)) h)
 
-fronts : (p : Place) (k : List ℕ) (b : ℕ) (xs : List ℕ) → IsTrue (may_stand p (k ++ b ∷ xs)) → IsTrue (may_stand p (k ++ b ∷ []))
+fronts : (p : ChunkPlace) (k : List ℕ) (b : ℕ) (xs : List ℕ) → IsTrue (may_stand p (k ++ b ∷ xs)) → IsTrue (may_stand p (k ++ b ∷ []))
 fronts p [] b xs h = closed p b [] xs h
 fronts p (x ∷ k) b xs h = closed p x (k ++ b ∷ []) xs (subst (λ (w : List ℕ). IsTrue (may_stand p (x ∷ w))) (sym (append_assoc k (b ∷ []) xs)) h)
 
 -- ---- a whole line at once
 
-open-byte : (p : Place) (k : List ℕ) (b : ℕ) (xs : List ℕ) → IsTrue (may_stand p (k ++ b ∷ xs)) → verdict.Open ≡ verdict_of p k b
+open-byte : (p : ChunkPlace) (k : List ℕ) (b : ℕ) (xs : List ℕ) → IsTrue (may_stand p (k ++ b ∷ xs)) → verdict.Open ≡ verdict_of p k b
 unfolding verdict_of
 open-byte p k b xs h =
     let front : ends_in_cr k ≡ false = no-cr p k (b ∷ xs) h in
@@ -61,33 +63,33 @@ open-byte p k b xs h =
     let stands : may_stand p (k ++ b ∷ []) ≡ true = fronts p k b xs h in
     rw (front, other, stands) refl
 
-cr-byte : (p : Place) (k : List ℕ) → IsTrue (may_stand p k) → verdict.Open ≡ verdict_of p k 13
+cr-byte : (p : ChunkPlace) (k : List ℕ) → IsTrue (may_stand p k) → verdict.Open ≡ verdict_of p k 13
 unfolding verdict_of
 cr-byte p k h =
     let front : ends_in_cr k ≡ false = no-cr p k [] (subst (λ (w : List ℕ). IsTrue (may_stand p w)) (sym (append-nil k)) h) in
     rw (front, h) refl
 
-lf-byte : (p : Place) (k : List ℕ) → IsTrue (may_stand p k) → verdict.Line (after p k) ≡ verdict_of p (k ++ 13 ∷ []) 10
+lf-byte : (p : ChunkPlace) (k : List ℕ) → IsTrue (may_stand p k) → verdict.Line (place_after_line p k) ≡ verdict_of p (k ++ 13 ∷ []) 10
 unfolding verdict_of
 lf-byte p k h =
     let front : ends_in_cr (k ++ 13 ∷ []) ≡ true = cr-push k 13 in
     rw (front, without-push k 13, h) refl
 
-line-from : (p : Place) (k t : List ℕ) → is_line p ≡ true → IsTrue (may_stand p (k ++ t)) → Goes p k (t ++ crlf) ((k ++ t) ++ crlf) (after p (k ++ t)) []
+line-from : (p : ChunkPlace) (k t : List ℕ) → is_line p ≡ true → IsTrue (may_stand p (k ++ t)) → Goes p k (t ++ crlf) ((k ++ t) ++ crlf) (place_after_line p (k ++ t)) []
 line-from p k [] l h =
     let stands = subst (λ (w : List ℕ). IsTrue (may_stand p w)) (append-nil k) h in
     let bytes : (k ++ 13 ∷ []) ++ 10 ∷ [] ≡ (k ++ []) ++ crlf = append_assoc k (13 ∷ []) (10 ∷ []) ∙ ap (λ (w : List ℕ). w ++ crlf) (sym (append-nil k)) in
-    subst (λ (w : List ℕ). Goes p k crlf w (after p (k ++ [])) []) bytes
-    (goes-then p p (after p (k ++ [])) k (k ++ 13 ∷ []) [] (13 ∷ []) (10 ∷ []) [] ((k ++ 13 ∷ []) ++ 10 ∷ []) (move-open p k (k ++ 13 ∷ []) 13 l (cr-byte p k stands) refl)
-    (move-line p (after p (k ++ [])) (k ++ 13 ∷ []) [] 10 l (ap (λ (w : List ℕ). verdict.Line (after p w)) (append-nil k) ∙ lf-byte p k stands) refl))
+    subst (λ (w : List ℕ). Goes p k crlf w (place_after_line p (k ++ [])) []) bytes
+    (goes-then p p (place_after_line p (k ++ [])) k (k ++ 13 ∷ []) [] (13 ∷ []) (10 ∷ []) [] ((k ++ 13 ∷ []) ++ 10 ∷ []) (move-open p k (k ++ 13 ∷ []) 13 l (cr-byte p k stands) refl)
+    (move-line p (place_after_line p (k ++ [])) (k ++ 13 ∷ []) [] 10 l (ap (λ (w : List ℕ). verdict.Line (place_after_line p w)) (append-nil k) ∙ lf-byte p k stands) refl))
 line-from p k (b ∷ t) l h =
     let on : (k ++ b ∷ []) ++ t ≡ k ++ b ∷ t = append_assoc k (b ∷ []) t in
     let rest = line-from p (k ++ b ∷ []) t l (subst (λ (w : List ℕ). IsTrue (may_stand p w)) (sym on) h) in
-    let rest' = subst (λ (w : List ℕ). Goes p (k ++ b ∷ []) (t ++ crlf) (w ++ crlf) (after p w) []) on rest in
-    goes-then p p (after p (k ++ b ∷ t)) k (k ++ b ∷ []) [] (b ∷ []) (t ++ crlf) [] ((k ++ b ∷ t) ++ crlf) (move-open p k (k ++ b ∷ []) b l (open-byte p k b t h) refl) rest'
+    let rest' = subst (λ (w : List ℕ). Goes p (k ++ b ∷ []) (t ++ crlf) (w ++ crlf) (place_after_line p w) []) on rest in
+    goes-then p p (place_after_line p (k ++ b ∷ t)) k (k ++ b ∷ []) [] (b ∷ []) (t ++ crlf) [] ((k ++ b ∷ t) ++ crlf) (move-open p k (k ++ b ∷ []) b l (open-byte p k b t h) refl) rest'
 
 -- a line by its text
-pub goes-line : (p n : Place) (k k' text bytes : List ℕ) → is_line p ≡ true → IsTrue (may_stand p text) → k ≡ [] → k' ≡ [] → bytes ≡ text ++ crlf → n ≡ after p text → Goes p k bytes bytes n k'
+pub goes-line : (p n : ChunkPlace) (k k' text bytes : List ℕ) → is_line p ≡ true → IsTrue (may_stand p text) → k ≡ [] → k' ≡ [] → bytes ≡ text ++ crlf → n ≡ place_after_line p text → Goes p k bytes bytes n k'
 goes-line p n k k' text bytes l h e f a c =
     let m = line-from p [] text l h in record {
       data_put = m.data_put;
@@ -96,9 +98,9 @@ goes-line p n k k' text bytes l h e f a c =
     }
 
 -- a size line of digits alone
-pub digits-line : (bytes : List ℕ) (len value : ℕ) (next : Place) → len ≡ length (front_while is_hex bytes) → 0 < len → len ≤ 254 → len ≤ length bytes → value ≡ digits_value 16 (front_while is_hex bytes) → value < 2 ^ 63
+pub digits-line : (bytes : List ℕ) (len value : ℕ) (next : ChunkPlace) → len ≡ length (front_while is_hex bytes) → 0 < len → len ≤ 254 → len ≤ length bytes → value ≡ digits_value 16 (front_while is_hex bytes) → value < 2 ^ 63
     → (2 ≤ length (drop len bytes)) × (take 2 (drop len bytes) ≡ crlf) → next ≡ after_size (Some value) → IsLineAt Size bytes (record { text_len = len; next = next })
-unfolding may_stand after
+unfolding may_stand place_after_line
 digits-line bytes len value next is some fits within value_is small behind next_is =
     let front : take len bytes ≡ front_while is_hex bytes = digits-taken bytes len is in
     let size : size_of (take len bytes) ≡ Some value = ap size_of front ∙ size-of-digits bytes (omega arith) (omega arith) ∙ ap Some (sym value_is) in
@@ -112,7 +114,7 @@ digits-line bytes len value next is some fits within value_is small behind next_
 
 -- the CRLF behind the data
 pub goes-gap : (k bytes : List ℕ) → k ≡ [] → bytes ≡ crlf → Goes Gap k bytes bytes Size k
-unfolding may_stand after
+unfolding may_stand place_after_line
 goes-gap k bytes none is = goes-line Gap Size k k [] bytes refl refl none none is refl
 
 -- the last data of a chunk and the CRLF behind them
@@ -125,7 +127,7 @@ goes-data-end n bytes some within is =
 
 -- ---- what is held
 
-held-line : (p : Place) (k : List ℕ) → is_line p ≡ true → IsOpen p k → IsHeld p k
+held-line : (p : ChunkPlace) (k : List ℕ) → is_line p ≡ true → IsOpen p k → IsHeld p k
 held-line Size k l o = o
 held-line (Data n) k l o = absurd (cc)
 held-line Gap k l o = o
@@ -133,7 +135,7 @@ held-line (Trailers n) k l o = o
 held-line Done k l o = absurd (cc)
 held-line Wrong k l o = absurd (cc)
 
-pub open-line : (p : Place) (k : List ℕ) → is_line p ≡ true → IsHeld p k → IsOpen p k
+pub open-line : (p : ChunkPlace) (k : List ℕ) → is_line p ≡ true → IsHeld p k → IsOpen p k
 open-line Size k l o = o
 open-line (Data n) k l o = absurd (cc)
 open-line Gap k l o = o
@@ -141,8 +143,8 @@ open-line (Trailers n) k l o = o
 open-line Done k l o = absurd (cc)
 open-line Wrong k l o = absurd (cc)
 
-open-at : (p : Place) (k : List ℕ) (b : ℕ) (cr lf stands last grown : Bool) → ends_in_cr k ≡ cr → (b == 13) ≡ last → may_stand p k ≡ stands → may_stand p (k ++ b ∷ []) ≡ grown
-    → verdict.Open ≡ cond cr (cond lf (verdict.Line (after p (without_last k))) verdict.Wrong) (cond last (cond stands verdict.Open verdict.Wrong) (cond grown verdict.Open verdict.Wrong)) → IsOpen p (k ++ b ∷ [])
+open-at : (p : ChunkPlace) (k : List ℕ) (b : ℕ) (cr lf stands last grown : Bool) → ends_in_cr k ≡ cr → (b == 13) ≡ last → may_stand p k ≡ stands → may_stand p (k ++ b ∷ []) ≡ grown
+    → verdict.Open ≡ cond cr (cond lf (verdict.Line (place_after_line p (without_last k))) verdict.Wrong) (cond last (cond stands verdict.Open verdict.Wrong) (cond grown verdict.Open verdict.Wrong)) → IsOpen p (k ++ b ∷ [])
 open-at p k b true true stands last grown a c d e v = absurd (cc)
 open-at p k b true false stands last grown a c d e v = absurd (cc)
 open-at p k b false lf true true grown a c d e v = inr (inr (k, d, ap (λ x. k ++ x ∷ []) (eqb-true b 13 c)))
@@ -150,11 +152,11 @@ open-at p k b false lf false true grown a c d e v = absurd (cc)
 open-at p k b false lf stands false true a c d e v = inr (inl e)
 open-at p k b false lf stands false false a c d e v = absurd (cc)
 
-open-of : (p : Place) (k : List ℕ) (b : ℕ) → verdict.Open ≡ verdict_of p k b → IsOpen p (k ++ b ∷ [])
+open-of : (p : ChunkPlace) (k : List ℕ) (b : ℕ) → verdict.Open ≡ verdict_of p k b → IsOpen p (k ++ b ∷ [])
 unfolding verdict_of
 open-of p k b v = open-at p k b (ends_in_cr k) (b == 10 && may_stand p (without_last k)) (may_stand p k) (b == 13) (may_stand p (k ++ b ∷ [])) refl refl refl refl v
 
-pub held-open : (p : Place) (k k' : List ℕ) (b : ℕ) → is_line p ≡ true → verdict.Open ≡ verdict_of p k b → k' ≡ k ++ b ∷ [] → IsHeld p k'
+pub held-open : (p : ChunkPlace) (k k' : List ℕ) (b : ℕ) → is_line p ≡ true → verdict.Open ≡ verdict_of p k b → k' ≡ k ++ b ∷ [] → IsHeld p k'
 held-open p k k' b l v e = held-line p k' l (subst (IsOpen p) (sym e) (open-of p k b v))
 
 some-held : (c : Bool) (n : ℕ) (k : List ℕ) → (n == 0) ≡ c → k ≡ [] → IsHeld (cond c (Trailers 0) (Data n)) k
@@ -170,8 +172,8 @@ trailers-held true n k e = e
 trailers-held false n k e = inl e
 
 -- behind a whole line nothing is held
-after-held : (p : Place) (text k : List ℕ) → k ≡ [] → IsHeld (after p text) k
-unfolding after
+after-held : (p : ChunkPlace) (text k : List ℕ) → k ≡ [] → IsHeld (place_after_line p text) k
+unfolding place_after_line
 after-held Size text k e = size-held (size_of text) k e
 after-held (Data m) text k e = e
 after-held Gap text k e = inl e
@@ -179,11 +181,11 @@ after-held (Trailers m) text k e = trailers-held (nat_le (length text) 0) (m + l
 after-held Done text k e = e
 after-held Wrong text k e = e
 
-pub held-after : (p n : Place) (text k : List ℕ) → n ≡ after p text → k ≡ [] → IsHeld n k
-held-after p n text k is e = subst (λ (m : Place). IsHeld m k) (sym is) (after-held p text k e)
+pub held-after : (p n : ChunkPlace) (text k : List ℕ) → n ≡ place_after_line p text → k ≡ [] → IsHeld n k
+held-after p n text k is e = subst (λ (m : ChunkPlace). IsHeld m k) (sym is) (after-held p text k e)
 
-line-at : (p n : Place) (k : List ℕ) (b : ℕ) (cr lf stands last grown : Bool)
-    → verdict.Line n ≡ cond cr (cond lf (verdict.Line (after p (without_last k))) verdict.Wrong) (cond last (cond stands verdict.Open verdict.Wrong) (cond grown verdict.Open verdict.Wrong)) → n ≡ after p (without_last k)
+line-at : (p n : ChunkPlace) (k : List ℕ) (b : ℕ) (cr lf stands last grown : Bool)
+    → verdict.Line n ≡ cond cr (cond lf (verdict.Line (place_after_line p (without_last k))) verdict.Wrong) (cond last (cond stands verdict.Open verdict.Wrong) (cond grown verdict.Open verdict.Wrong)) → n ≡ place_after_line p (without_last k)
 line-at p n k b true true stands last grown v = cc
 line-at p n k b true false stands last grown v = absurd (cc)
 line-at p n k b false lf true true grown v = absurd (cc)
@@ -191,13 +193,13 @@ line-at p n k b false lf false true grown v = absurd (cc)
 line-at p n k b false lf stands false true v = absurd (cc)
 line-at p n k b false lf stands false false v = absurd (cc)
 
-pub held-line-end : (p n : Place) (k k' : List ℕ) (b : ℕ) → verdict.Line n ≡ verdict_of p k b → k' ≡ [] → IsHeld n k'
+pub held-line-end : (p n : ChunkPlace) (k k' : List ℕ) (b : ℕ) → verdict.Line n ≡ verdict_of p k b → k' ≡ [] → IsHeld n k'
 unfolding verdict_of
 held-line-end p n k k' b v e = held-after p n (without_last k) k' (line-at p n k b (ends_in_cr k) (b == 10 && may_stand p (without_last k)) (may_stand p k) (b == 13) (may_stand p (k ++ b ∷ [])) v) e
 
 -- ---- little is held
 
-stand-short : (p : Place) (t : List ℕ) → IsTrue (may_stand p t) → length t ≤ 8190
+stand-short : (p : ChunkPlace) (t : List ℕ) → IsTrue (may_stand p t) → length t ≤ 8190
 unfolding may_stand
 stand-short Size t h = grind (arith, nat_tests)
 stand-short (Data n) t h = cc
@@ -206,12 +208,12 @@ stand-short (Trailers n) t h = grind (arith, nat_tests)
 stand-short Done t h = cc
 stand-short Wrong t h = cc
 
-pub open-short : (p : Place) (k : List ℕ) → IsOpen p k → length k ≤ 8191
+pub open-short : (p : ChunkPlace) (k : List ℕ) → IsOpen p k → length k ≤ 8191
 open-short p k (inl e) = let n = ap length e in omega arith
 open-short p k (inr (inl h)) = let n = stand-short p k h in omega arith
 open-short p k (inr (inr (t, h, e))) = let n = stand-short p t h in let m = ap length e ∙ length_push t 13 in omega arith
 
-pub held-short : (p : Place) (k : List ℕ) → IsHeld p k → length k ≤ 8191
+pub held-short : (p : ChunkPlace) (k : List ℕ) → IsHeld p k → length k ≤ 8191
 held-short Size k o = open-short Size k o
 held-short (Data n) k o = let e = ap length o.1 in omega arith
 held-short Gap k o = open-short Gap k o

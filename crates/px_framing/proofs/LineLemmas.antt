@@ -5,11 +5,12 @@ use Rattle.std.proofs.lemmas.Bool.Decides.{nat_tests}
 use Rattle.std.specs.List.{list_all}
 use Rattle.std.specs.Prelude.{nat_le}
 use Rattle.std.specs.Char.{digit_value}
-use Rattle.px_framing.specs.declared.places.Place.{Place}
-use Rattle.px_framing.specs.declared.places.Place.TheVariants.{Size, Data, Gap, Trailers, Done, Wrong}
+use Rattle.px_framing.specs.declared.places.ChunkPlace.{ChunkPlace}
+use Rattle.px_framing.specs.declared.places.ChunkPlace.TheVariants.{Size, Data, Gap, Trailers, Done, Wrong}
 use Rattle.px_base.specs.Blanks.{is_blank}
 use Rattle.std.specs.Str.Parse.{digits_value, digits_value_after}
-use Rattle.px_framing.specs.Lines.{crlf, is_hex, is_plain, is_extension, front_while, behind_while, size_from, size_of, may_stand, IsOpen, NoLine}
+use Rattle.px_framing.specs.Lines.{is_hex, is_line_byte, is_extension, front_while, behind_while, size_from, size_of, may_stand, IsOpen, NoLine}
+use Rattle.px_head.specs.Prints.{crlf}
 
 -- where two joins are one list, one front begins the other
 abbrev pub Split : List ℕ → List ℕ → List ℕ → List ℕ → Type 0
@@ -27,7 +28,7 @@ split (x ∷ a) b (y ∷ c) d h = split_on x y a b c d (cc) (split a b c d (cc))
 -- a size line's text read from the front: white space, then nothing or an extension
 abbrev is_tail : List ℕ → Bool
 is_tail [] = true
-is_tail (b ∷ bs) = if is_blank b then is_tail bs else (b == 59 && list_all is_plain bs)
+is_tail (b ∷ bs) = if is_blank b then is_tail bs else (b == 59 && list_all is_line_byte bs)
 
 -- and the digits before it, where digits of the value n were read
 unfoldable size_after : ℕ → List ℕ → Option ℕ
@@ -42,7 +43,7 @@ tail-is [] = refl
 tail-is (b ∷ bs) = tail-at (is_blank b) (tail-is bs)
   where
     tail-at : (c : Bool) → is_tail bs ≡ is_extension (behind_while is_blank bs)
-        → cond c (is_tail bs) (b == 59 && list_all is_plain bs) ≡ is_extension (cond c (behind_while is_blank bs) (b ∷ bs))
+        → cond c (is_tail bs) (b == 59 && list_all is_line_byte bs) ≡ is_extension (cond c (behind_while is_blank bs) (b ∷ bs))
     tail-at true e = e
     tail-at false e = refl
 
@@ -75,11 +76,11 @@ size-of : (b : ℕ) (bs : List ℕ) → size_of (b ∷ bs) ≡ cond (is_hex b) (
 unfolding size_of
 size-of b bs = ap (λ o. cond (is_hex b) o None) (sym (size-is 0 (b ∷ bs) (omega arith)))
 
-plain_front : (xs ys : List ℕ) → list_all is_plain (xs ++ ys) ≡ true → list_all is_plain xs ≡ true
+plain_front : (xs ys : List ℕ) → list_all is_line_byte (xs ++ ys) ≡ true → list_all is_line_byte xs ≡ true
 plain_front [] ys h = refl
 plain_front (x ∷ xs) ys h = let k = plain_front xs ys in grind arith
 
-no_cr_plain : (xs ys : List ℕ) → list_all is_plain (xs ++ 13 ∷ ys) ≡ true → ⊥
+no_cr_plain : (xs ys : List ℕ) → list_all is_line_byte (xs ++ 13 ∷ ys) ≡ true → ⊥
 no_cr_plain [] ys h = cc
 no_cr_plain (x ∷ xs) ys h = let k = no_cr_plain xs ys in grind arith
 
@@ -109,7 +110,7 @@ size-closed true long short deep flat m n e f later le h = grind (arith, nat_tes
 size-closed false long short deep flat m n e f later le h = grind (arith, nat_tests)
 
 -- what begins the text of a line stands too
-pub closed : (p : Place) (x : ℕ) (xs ys : List ℕ) → IsTrue (may_stand p ((x ∷ xs) ++ ys)) → IsTrue (may_stand p (x ∷ xs))
+pub closed : (p : ChunkPlace) (x : ℕ) (xs ys : List ℕ) → IsTrue (may_stand p ((x ∷ xs) ++ ys)) → IsTrue (may_stand p (x ∷ xs))
 unfolding may_stand
 closed Size x xs ys h =
     let k = size_front 0 (x ∷ xs) ys in
@@ -129,7 +130,7 @@ size-open true long deep m e none h = grind (arith, nat_tests)
 size-open false long deep m e none h = grind (arith, nat_tests)
 
 -- no text holds a CR
-pub no_cr : (p : Place) (xs ys : List ℕ) → IsTrue (may_stand p (xs ++ 13 ∷ ys)) → ⊥
+pub no_cr : (p : ChunkPlace) (xs ys : List ℕ) → IsTrue (may_stand p (xs ++ 13 ∷ ys)) → ⊥
 unfolding may_stand
 no_cr Size [] ys h = let e = size-of 13 ys in cc
 no_cr Size (x ∷ xs) ys h = size-open (is_hex x) (size_of (x ∷ (xs ++ 13 ∷ ys))) (size_after 0 (x ∷ (xs ++ 13 ∷ ys))) (length (x ∷ (xs ++ 13 ∷ ys))) (size-of x (xs ++ 13 ∷ ys)) (no_cr_size 0 (x ∷ xs) ys) h
@@ -139,7 +140,7 @@ no_cr (Data n) xs ys h = cc
 no_cr Done xs ys h = cc
 no_cr Wrong xs ys h = cc
 
-wrong_after_cr_at : (p : Place) (t : List ℕ) (b : ℕ) → b ≢ 10 → (text more : List ℕ) → IsTrue (may_stand p text) → Split text crlf t (13 ∷ b ∷ more) → ⊥
+wrong_after_cr_at : (p : ChunkPlace) (t : List ℕ) (b : ℕ) → b ≢ 10 → (text more : List ℕ) → IsTrue (may_stand p text) → Split text crlf t (13 ∷ b ∷ more) → ⊥
 wrong_after_cr_at p t b ne text more h (inl ([], e, f)) = ne (cc)
 wrong_after_cr_at p t b ne text more h (inl (x ∷ [], e, f)) = cc
 wrong_after_cr_at p t b ne text more h (inl (x ∷ y ∷ [], e, f)) = cc
@@ -149,10 +150,10 @@ wrong_after_cr_at p t b ne text more h (inr (x ∷ z, e, f)) =
     no_cr p t z (subst (λ (w : List ℕ). IsTrue (may_stand p w)) (e ∙ (let q : x ≡ 13 = cc in ap (λ (v : ℕ). t ++ v ∷ z) q)) h)
 
 -- after a CR only an LF goes on
-pub wrong_after_cr : (p : Place) (t : List ℕ) (b : ℕ) → b ≢ 10 → NoLine p ((t ++ 13 ∷ []) ++ b ∷ [])
+pub wrong_after_cr : (p : ChunkPlace) (t : List ℕ) (b : ℕ) → b ≢ 10 → NoLine p ((t ++ 13 ∷ []) ++ b ∷ [])
 wrong_after_cr p t b ne text more h e = wrong_after_cr_at p t b ne text more h (split text crlf t (13 ∷ b ∷ more) (e ∙ simp append_assoc))
 
-wrong_cr_at : (p : Place) (front : List ℕ) → (IsTrue (may_stand p front) → ⊥) → (text more : List ℕ) → IsTrue (may_stand p text) → Split text crlf front (13 ∷ more) → ⊥
+wrong_cr_at : (p : ChunkPlace) (front : List ℕ) → (IsTrue (may_stand p front) → ⊥) → (text more : List ℕ) → IsTrue (may_stand p text) → Split text crlf front (13 ∷ more) → ⊥
 wrong_cr_at p front out text more h (inl ([], e, f)) = out (subst (λ (w : List ℕ). IsTrue (may_stand p w)) (sym (append-nil text) ∙ sym e) h)
 wrong_cr_at p front out text more h (inl (x ∷ [], e, f)) = cc
 wrong_cr_at p front out text more h (inl (x ∷ y ∷ [], e, f)) = cc
@@ -162,14 +163,14 @@ wrong_cr_at p front out text more h (inr (x ∷ z, e, f)) =
     no_cr p front z (subst (λ (w : List ℕ). IsTrue (may_stand p w)) (e ∙ (let q : x ≡ 13 = cc in ap (λ (v : ℕ). front ++ v ∷ z) q)) h)
 
 -- a CR comes only after a whole text
-pub wrong_cr : (p : Place) (front : List ℕ) → (IsTrue (may_stand p front) → ⊥) → NoLine p (front ++ 13 ∷ [])
+pub wrong_cr : (p : ChunkPlace) (front : List ℕ) → (IsTrue (may_stand p front) → ⊥) → NoLine p (front ++ 13 ∷ [])
 wrong_cr p front out text more h e = wrong_cr_at p front out text more h (split text crlf front (13 ∷ more) (e ∙ simp append_assoc))
 
-closed_last : (p : Place) (front : List ℕ) (b : ℕ) (z : List ℕ) → IsTrue (may_stand p ((front ++ b ∷ []) ++ z)) → IsTrue (may_stand p (front ++ b ∷ []))
+closed_last : (p : ChunkPlace) (front : List ℕ) (b : ℕ) (z : List ℕ) → IsTrue (may_stand p ((front ++ b ∷ []) ++ z)) → IsTrue (may_stand p (front ++ b ∷ []))
 closed_last p [] b z h = closed p b [] z h
 closed_last p (x ∷ xs) b z h = closed p x (xs ++ b ∷ []) z h
 
-wrong_byte_at : (p : Place) (front : List ℕ) (b : ℕ) → (IsTrue (may_stand p (front ++ b ∷ [])) → ⊥) → b ≢ 13 → ((t : List ℕ) → front ≡ t ++ 13 ∷ [] → ⊥) → (text more : List ℕ) → IsTrue (may_stand p text) → Split text crlf (front ++ b ∷ []) more → ⊥
+wrong_byte_at : (p : ChunkPlace) (front : List ℕ) (b : ℕ) → (IsTrue (may_stand p (front ++ b ∷ [])) → ⊥) → b ≢ 13 → ((t : List ℕ) → front ≡ t ++ 13 ∷ [] → ⊥) → (text more : List ℕ) → IsTrue (may_stand p text) → Split text crlf (front ++ b ∷ []) more → ⊥
 wrong_byte_at p front b out ne nt text more h (inl ([], e, f)) = out (subst (λ (w : List ℕ). IsTrue (may_stand p w)) (sym (append-nil text) ∙ sym e) h)
 wrong_byte_at p front b out ne nt text more h (inl (x ∷ [], e, f)) = let s = same_from_push front text b x e in ne (let g = s.1 in cc)
 wrong_byte_at p front b out ne nt text more h (inl (x ∷ y ∷ [], e, f)) =
@@ -178,11 +179,11 @@ wrong_byte_at p front b out ne nt text more h (inl (x ∷ y ∷ z ∷ zs, e, f))
 wrong_byte_at p front b out ne nt text more h (inr (z, e, f)) = out (closed_last p front b z (subst (λ (w : List ℕ). IsTrue (may_stand p w)) e h))
 
 -- any other byte belongs to the text
-pub wrong_byte : (p : Place) (front : List ℕ) (b : ℕ) → (IsTrue (may_stand p (front ++ b ∷ [])) → ⊥) → b ≢ 13 → ((t : List ℕ) → front ≡ t ++ 13 ∷ [] → ⊥) → NoLine p (front ++ b ∷ [])
+pub wrong_byte : (p : ChunkPlace) (front : List ℕ) (b : ℕ) → (IsTrue (may_stand p (front ++ b ∷ [])) → ⊥) → b ≢ 13 → ((t : List ℕ) → front ≡ t ++ 13 ∷ [] → ⊥) → NoLine p (front ++ b ∷ [])
 wrong_byte p front b out ne nt text more h e = wrong_byte_at p front b out ne nt text more h (split text crlf (front ++ b ∷ []) more e)
 
 -- what is open and ends in a CR is a text and the CR
-pub open_cr : (p : Place) (t : List ℕ) → IsOpen p (t ++ 13 ∷ []) → IsTrue (may_stand p t)
+pub open_cr : (p : ChunkPlace) (t : List ℕ) → IsOpen p (t ++ 13 ∷ []) → IsTrue (may_stand p t)
 open_cr p [] (inl h) = cc
 open_cr p (x ∷ t) (inl h) = cc
 open_cr p t (inr (inl h)) = absurd (no_cr p t [] h)

@@ -3,15 +3,15 @@ use Rattle.std.proofs.Common.{◌≡◌, ◌≢◌, ℕ, zero, suc, ◌+◌, ◌
 use Rattle.std.proofs.lemmas.List.{append-nil, take_all, take-take}
 use Rattle.std.proofs.Math.Seq.{drop-append_seam}
 use Rattle.std.proofs.lemmas.Bool.Decides.{nat_tests}
-use Rattle.px_framing.specs.declared.places.Place.{Place}
-use Rattle.px_framing.specs.declared.places.Place.TheVariants.{Size, Data, Gap, Trailers, Done, Wrong}
+use Rattle.px_framing.specs.declared.places.ChunkPlace.{ChunkPlace}
+use Rattle.px_framing.specs.declared.places.ChunkPlace.TheVariants.{Size, Data, Gap, Trailers, Done, Wrong}
 use Rattle.px_framing.specs.declared.stages.Stage.{Stage}
 use Rattle.px_framing.specs.declared.stages.Stage.TheVariants as stage
 use Rattle.px_framing.specs.declared.places.State.{State}
 use Rattle.px_framing.specs.Body.{Part, nothing, first_bytes}
-use Rattle.px_framing.specs.Reading.{before, reads_on, goes_on, is_ended, is_last, is_to_close, end_state, stage_before, stage_state, state_at, IsHeld, Uses, KeepsKind, Reading, Steps, IsSettled, IsSettledAt}
+use Rattle.px_framing.specs.Reading.{before, reads_on, goes_on, is_ended, is_last, is_to_close, end_state, stage_before, stage_state, place_state, IsHeld, Uses, KeepsKind, Reading, ReaderSteps, IsSettled, IsSettledAt}
 use Rattle.px_framing.specs.declared.places.State.TheVariants.{More, Whole, Cut, Misframed}
-use Rattle.px_framing.specs.Passing.{Goes, PassesOn, settled, bytes_left, data_in, due, last_state, IsDataOf}
+use Rattle.px_framing.specs.Passing.{Goes, PassesOn, settled, bytes_left, data_in, due_part, last_state, IsDataOf}
 use Rattle.px_framing.proofs.MoveLemmas.{goes-more, taken-on}
 use Rattle.px_framing.proofs.BodyLemmas.{whole-from}
 use Rattle.px_framing.proofs.StepLemmas.{pass-chunks, first-all, first-part, nothing-left}
@@ -26,7 +26,7 @@ all-taken k k1 s piece at used all =
     ∙ append_assoc k (take at piece) (take used (drop at piece)) ∙ ap (λ (w : List ℕ). k ++ w) (taken-on piece at used)
 
 -- a step further in a piece
-pub goes-step : (p m n : Place) (k k1 k2 piece : List ℕ) (at used whole : ℕ) (ends : Bool) → 0 < used → Goes p k (take at piece) (settled k piece whole) m k1 → settled k piece whole ++ k1 ≡ k ++ take at piece
+pub goes-step : (p m n : ChunkPlace) (k k1 k2 piece : List ℕ) (at used whole : ℕ) (ends : Bool) → 0 < used → Goes p k (take at piece) (settled k piece whole) m k1 → settled k piece whole ++ k1 ≡ k ++ take at piece
     → Goes m k1 (take used (drop at piece)) (cond ends (k1 ++ take used (drop at piece)) []) n k2 → Goes p k (take (at + used) piece) (settled k piece (cond ends (at + used) whole)) n k2
 goes-step p m n k k1 k2 piece at used whole true some x all y =
     subst (λ (w : List ℕ). Goes p k (take (at + used) piece) w n k2) (all-taken k k1 (settled k piece whole) piece at used all ∙ sym (settled-some k piece (at + used) (omega arith)))
@@ -56,13 +56,13 @@ kept-len k k1 piece at whole all =
 window : (k piece : List ℕ) (whole room : ℕ) → whole ≤ room → settled k (take room piece) whole ≡ settled k piece whole
 window k piece whole room fits = ap (λ (w : List ℕ). cond (whole == 0) [] (k ++ w)) (take-take whole room piece fits)
 
-pub chunks-pass : (p n : Place) (room used whole : ℕ) (k k' kept' piece : List ℕ) (s : Stage) → s ≡ stage_before n (room - used) → whole ≤ used → used ≤ min room (length piece) → (is_last n ≡ false → used ≡ min room (length piece))
+pub chunks-pass : (p n : ChunkPlace) (room used whole : ℕ) (k k' kept' piece : List ℕ) (s : Stage) → s ≡ stage_before n (room - used) → whole ≤ used → used ≤ min room (length piece) → (is_last n ≡ false → used ≡ min room (length piece))
     → Goes p k (take used (take room piece)) (settled k (take room piece) whole) n k' → (is_last n ≡ false → 0 < room - used → kept' ≡ k') → PassesOn (stage.Chunks p room) k piece (settled k piece whole) used s kept'
 chunks-pass p n room used whole k k' kept' piece s is within fits all g keeps =
     subst (λ (w : List ℕ). PassesOn (stage.Chunks p room) k piece w used s kept') (window k piece whole room (omega arith))
     (pass-chunks p n room used k k' kept' piece (settled k (take room piece) whole) s is fits all g keeps)
 
-last-not-more : (p : Place) → is_last p ≡ true → state_at p ≡ More → ⊥
+last-not-more : (p : ChunkPlace) → is_last p ≡ true → place_state p ≡ More → ⊥
 last-not-more Size l e = cc
 last-not-more (Data n) l e = cc
 last-not-more Gap l e = cc
@@ -70,7 +70,7 @@ last-not-more (Trailers n) l e = cc
 last-not-more Done l e = cc
 last-not-more Wrong l e = cc
 
-settled-at : (last full : Bool) (n : Place) (room : ℕ) (s : Stage) (k k' : List ℕ) → is_last n ≡ last → (room == 0) ≡ full → s ≡ cond last (stage.Ended (state_at n)) (cond full (stage.Ended Cut) (stage.Chunks n room)) → IsHeld n k
+settled-at : (last full : Bool) (n : ChunkPlace) (room : ℕ) (s : Stage) (k k' : List ℕ) → is_last n ≡ last → (room == 0) ≡ full → s ≡ cond last (stage.Ended (place_state n)) (cond full (stage.Ended Cut) (stage.Chunks n room)) → IsHeld n k
     → (is_ended s ≡ true → k' ≡ []) → (is_ended s ≡ false → k' ≡ k) → IsSettledAt s k'
 settled-at true full n room s k k' e f is held clear same = subst (λ (t : Stage). IsSettledAt t k') (sym is) (clear (ap is_ended is), last-not-more n e)
 settled-at false true n room s k k' e f is held clear same = subst (λ (t : Stage). IsSettledAt t k') (sym is) (clear (ap is_ended is), λ x. cc)
@@ -79,34 +79,34 @@ settled-at false false n room s k k' e f is held clear same =
     subst (λ (t : Stage). IsSettledAt t k') (sym is) (subst (IsHeld n) (sym (same (ap is_ended is))) held, e, some)
 
 -- the stage behind a piece is settled
-pub settled-before : (n : Place) (room : ℕ) (s : Stage) (k k' : List ℕ) → s ≡ stage_before n room → IsHeld n k → (is_ended s ≡ true → k' ≡ []) → (is_ended s ≡ false → k' ≡ k) → IsSettledAt s k'
+pub settled-before : (n : ChunkPlace) (room : ℕ) (s : Stage) (k k' : List ℕ) → s ≡ stage_before n room → IsHeld n k → (is_ended s ≡ true → k' ≡ []) → (is_ended s ≡ false → k' ≡ k) → IsSettledAt s k'
 settled-before n room s k k' is held clear same = settled-at (is_last n) (room == 0) n room s k k' refl refl is held clear same
 
-more-from : (last full : Bool) (n : Place) (room : ℕ) (s : Stage) → is_last n ≡ last → (room == 0) ≡ full → s ≡ cond last (stage.Ended (state_at n)) (cond full (stage.Ended Cut) (stage.Chunks n room)) → stage_state s ≡ More
+more-from : (last full : Bool) (n : ChunkPlace) (room : ℕ) (s : Stage) → is_last n ≡ last → (room == 0) ≡ full → s ≡ cond last (stage.Ended (place_state n)) (cond full (stage.Ended Cut) (stage.Chunks n room)) → stage_state s ≡ More
     → (is_last n ≡ false) × (0 < room) × (s ≡ stage.Chunks n room)
 more-from true full n room s e f is more = absurd (last-not-more n e (sym (ap stage_state is) ∙ more))
 more-from false true n room s e f is more = absurd (let both : Cut ≡ More = sym (ap stage_state is) ∙ more in cc)
 more-from false false n room s e f is more = (e, (let some : 0 < room = grind (arith, nat_tests) in some), is)
 
 -- a chunked body that may go on behind a piece
-pub more-before : (n : Place) (room : ℕ) (s : Stage) → s ≡ stage_before n room → stage_state s ≡ More → (is_last n ≡ false) × (0 < room) × (s ≡ stage.Chunks n room)
+pub more-before : (n : ChunkPlace) (room : ℕ) (s : Stage) → s ≡ stage_before n room → stage_state s ≡ More → (is_last n ≡ false) × (0 < room) × (s ≡ stage.Chunks n room)
 more-before n room s is more = more-from (is_last n) (room == 0) n room s refl refl is more
 
 -- it used the whole piece
-pub uses-chunks : (n : Place) (room used : ℕ) (s : Stage) (piece : List ℕ) → s ≡ stage_before n (room - used) → used ≤ min room (length piece) → (is_last n ≡ false → used ≡ min room (length piece)) → Uses piece used (stage_state s)
+pub uses-chunks : (n : ChunkPlace) (room used : ℕ) (s : Stage) (piece : List ℕ) → s ≡ stage_before n (room - used) → used ≤ min room (length piece) → (is_last n ≡ false → used ≡ min room (length piece)) → Uses piece used (stage_state s)
 uses-chunks n room used s piece is fits all = record {
   within = omega arith;
   all = λ more. let m = more-before n (room - used) s is more in let whole = all m.0 in let some = m.1 in omega arith;
 }
 
 -- and may take so many fewer
-pub left-chunks : (n : Place) (room used : ℕ) (s : Stage) → s ≡ stage_before n (room - used) → used ≤ room → stage_state s ≡ More → bytes_left s + used ≡ room
+pub left-chunks : (n : ChunkPlace) (room used : ℕ) (s : Stage) → s ≡ stage_before n (room - used) → used ≤ room → stage_state s ≡ More → bytes_left s + used ≡ room
 left-chunks n room used s is fits more = let m = more-before n (room - used) s is more in let e : bytes_left s ≡ room - used = ap bytes_left m.2 in omega arith
 
 -- ---- readers
 
 -- what a passing says of the whole reader: its data are those that the old reader reads in the piece
-pub steps-passed : (old new : Reading) (piece put : List ℕ) (used : ℕ) → PassesOn old.stage old.kept piece put used new.stage new.kept → IsSettled new → Steps old piece put (data_in old piece) used new
+pub steps-passed : (old new : Reading) (piece put : List ℕ) (used : ℕ) → PassesOn old.stage old.kept piece put used new.stage new.kept → IsSettled new → ReaderSteps old piece put (data_in old piece) used new
 unfolding goes_on
 steps-passed old new piece put used a settled_ =
     let now : goes_on old piece ≡ before put a.data_put used (goes_on new []) = ap (goes_on old) (sym (append-nil piece)) ∙ a.same [] in
@@ -160,7 +160,7 @@ kind-at (stage.Bytes n) k rest c h f = ap (λ d. last_state d (reads_on (stage.B
 kind-at (stage.Rest n) k rest c h f = ap (λ d. last_state d (reads_on (stage.Rest n) k rest).state) (sym (f refl))
 kind-at (stage.Chunks p n) k rest c h f = ap (λ d. last_state d (reads_on (stage.Chunks p n) k rest).state) (sym (f refl))
 
-pub due-steps : (old new : Reading) (piece raw plain : List ℕ) (used : ℕ) → Steps old piece raw plain used new → IsSettled new → (rest : List ℕ) → due old (piece ++ rest) ≡ before raw plain used (due new rest)
+pub due-steps : (old new : Reading) (piece raw plain : List ℕ) (used : ℕ) → ReaderSteps old piece raw plain used new → IsSettled new → (rest : List ℕ) → due_part old (piece ++ rest) ≡ before raw plain used (due_part new rest)
 unfolding goes_on
 due-steps old new piece raw plain used s settled_ rest =
     let e : goes_on old (piece ++ rest) ≡ before raw plain used (goes_on new rest) = s.same rest in
@@ -177,7 +177,7 @@ end-due-at (stage.Bytes n) k h = refl
 end-due-at (stage.Rest n) k h = refl
 end-due-at (stage.Chunks p n) k h = refl
 
-pub end-due : (r : Reading) → IsSettled r → end_state r.stage ≡ (due r []).state
+pub end-due : (r : Reading) → IsSettled r → end_state r.stage ≡ (due_part r []).state
 end-due r settled_ = end-due-at r.stage r.kept settled_.settled ∙ ap (λ (p : Part). last_state (is_to_close r.stage) p.state) (sym (nothing-left r settled_))
 
 -- ---- data
@@ -189,7 +189,7 @@ raw-put old new piece put used a settled_ =
     let now : goes_on old piece ≡ before put a.data_put used (goes_on new []) = ap (goes_on old) (sym (append-nil piece)) ∙ a.same [] in
     ap (λ (x : Part). x.raw) now ∙ ap (λ (x : Part). put ++ x.raw) (nothing-left new settled_) ∙ append-nil put
 
-not-wrong : (p : Place) → is_last p ≡ false → p ≢ Wrong
+not-wrong : (p : ChunkPlace) → is_last p ≡ false → p ≢ Wrong
 not-wrong p e w = let both : true ≡ false = sym (ap is_last w) ∙ e in cc
 
 data-at : (s : Stage) (k piece : List ℕ) → IsSettledAt s k → IsDataOf s (reads_on s k piece).raw (reads_on s k piece).plain

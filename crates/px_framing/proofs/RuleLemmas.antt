@@ -9,14 +9,14 @@ use Rattle.px_base.specs.Numbers.{decimal}
 use Rattle.px_head.specs.Names.{has_name}
 use Rattle.px_head.specs.declared.fields.Field.{Field}
 use Rattle.px_framing.specs.Body.{body_limit}
-use Rattle.px_framing.specs.declared.rules.Seen.{Seen}
+use Rattle.px_framing.specs.declared.rules.CodingsSeen.{CodingsSeen}
 use Rattle.px_framing.specs.declared.rules.Lengths.{Lengths}
 use Rattle.px_framing.specs.declared.rules.BodyRule.{BodyRule}
 use Rattle.px_framing.specs.declared.rules.BodyRule.TheVariants.{Length}
 use Rattle.px_framing.specs.declared.rules.BodyFault.{BodyFault}
 use Rattle.px_framing.specs.declared.rules.BodyFault.TheVariants.{TwoLengths, BadLength}
-use Rattle.px_framing.specs.Rules.{values, some_items, items_of, codings_name, lengths_name, are_chunked, end_chunked, with_length, lengths, length_rule}
-use Rattle.px_framing.specs.Seen.{seen_one, seen_all, field_seen, length_at, length_seen, length_field, by_lengths}
+use Rattle.px_framing.specs.Rules.{field_values, some_items, items_of, codings_name, lengths_name, are_chunked, end_chunked, with_length, lengths, length_rule}
+use Rattle.px_framing.specs.Seen.{seen_one, seen_all, field_seen, length_at, length_seen, with_length_field, by_lengths}
 
 -- the items of what is left of a list
 abbrev pub items_left : Option (List ℕ) → List (List ℕ)
@@ -29,30 +29,30 @@ left (Some bs) = length bs + 1
 -- ---- fields one by one
 
 pub next-field : (name : List ℕ) (fields : List Field) (i : ℕ) (f : Field) → i < length fields → f ≡ get_or fields i f
-    → values name (drop i fields) ≡ cond (has_name name f) (f.value ∷ values name (drop (i + 1) fields)) (values name (drop (i + 1) fields))
+    → field_values name (drop i fields) ≡ cond (has_name name f) (f.value ∷ field_values name (drop (i + 1) fields)) (field_values name (drop (i + 1) fields))
 next-field name fields i f within is = rw (drop-cons fields i f, ← is, add-one) refl
 
-pub no-fields : (name : List ℕ) (fields : List Field) (i : ℕ) → length fields ≤ i → values name (drop i fields) ≡ []
-no-fields name fields i past = ap (values name) (drop_all i fields past)
+pub no-fields : (name : List ℕ) (fields : List Field) (i : ℕ) → length fields ≤ i → field_values name (drop i fields) ≡ []
+no-fields name fields i past = ap (field_values name) (drop_all i fields past)
 
 -- ---- codings
 
-seen-append : (cs ds : List (List ℕ)) (s : Seen) → seen_all s (cs ++ ds) ≡ seen_all (seen_all s cs) ds
+seen-append : (cs ds : List (List ℕ)) (s : CodingsSeen) → seen_all s (cs ++ ds) ≡ seen_all (seen_all s cs) ds
 seen-append [] ds s = refl
 seen-append (c ∷ cs) ds s = seen-append cs ds (seen_one s c)
 
 -- one more field of codings
-seen-at : (c : Bool) (s : Seen) (v : List ℕ) (us : List (List ℕ)) → seen_all s (flat_map items_of (cond c (v ∷ us) us)) ≡ seen_all (cond c (seen_all s (items_of v)) s) (flat_map items_of us)
+seen-at : (c : Bool) (s : CodingsSeen) (v : List ℕ) (us : List (List ℕ)) → seen_all s (flat_map items_of (cond c (v ∷ us) us)) ≡ seen_all (cond c (seen_all s (items_of v)) s) (flat_map items_of us)
 seen-at true s v us = seen-append (items_of v) (flat_map items_of us) s
 seen-at false s v us = refl
 
-pub seen-next : (s t : Seen) (fields : List Field) (i : ℕ) (f : Field) → i < length fields → f ≡ get_or fields i f → t ≡ field_seen s f
-    → seen_all s (flat_map items_of (values codings_name (drop i fields))) ≡ seen_all t (flat_map items_of (values codings_name (drop (i + 1) fields)))
+pub seen-next : (s t : CodingsSeen) (fields : List Field) (i : ℕ) (f : Field) → i < length fields → f ≡ get_or fields i f → t ≡ field_seen s f
+    → seen_all s (flat_map items_of (field_values codings_name (drop i fields))) ≡ seen_all t (flat_map items_of (field_values codings_name (drop (i + 1) fields)))
 seen-next s t fields i f within is e =
-    ap (λ vs. seen_all s (flat_map items_of vs)) (next-field codings_name fields i f within is) ∙ seen-at (has_name codings_name f) s f.value (values codings_name (drop (i + 1) fields))
-    ∙ ap (λ (u : Seen). seen_all u (flat_map items_of (values codings_name (drop (i + 1) fields)))) (sym e)
+    ap (λ vs. seen_all s (flat_map items_of vs)) (next-field codings_name fields i f within is) ∙ seen-at (has_name codings_name f) s f.value (field_values codings_name (drop (i + 1) fields))
+    ∙ ap (λ (u : CodingsSeen). seen_all u (flat_map items_of (field_values codings_name (drop (i + 1) fields)))) (sym e)
 
-not-alone : (cs : List (List ℕ)) (c : List ℕ) (s : Seen) → s.any ≡ true → (seen_all s (c ∷ cs)).alone ≡ false
+not-alone : (cs : List (List ℕ)) (c : List ℕ) (s : CodingsSeen) → s.any ≡ true → (seen_all s (c ∷ cs)).alone ≡ false
 not-alone [] c s any = rw any refl
 not-alone (d ∷ cs) c s any = not-alone cs d (seen_one s c) refl
 
@@ -61,7 +61,7 @@ seen-alone [] = refl
 seen-alone (c ∷ []) = refl
 seen-alone (c ∷ d ∷ cs) = not-alone cs d (seen_one (record { any = false; alone = false; last = false }) c) refl
 
-last-some : (cs : List (List ℕ)) (c : List ℕ) (s : Seen) → (seen_all s (c ∷ cs)).last ≡ end_chunked (c ∷ cs)
+last-some : (cs : List (List ℕ)) (c : List ℕ) (s : CodingsSeen) → (seen_all s (c ∷ cs)).last ≡ end_chunked (c ∷ cs)
 last-some [] c s = refl
 last-some (d ∷ cs) c s = last-some cs d (seen_one s c)
 
@@ -70,11 +70,11 @@ seen-last [] = refl
 seen-last (c ∷ cs) = last-some cs c (record { any = false; alone = false; last = false })
 
 -- one more item of a list
-pub item-none : (s : Seen) (bytes first : List ℕ) (more : Option (List ℕ)) → slice_split (λ b. b == 44) bytes ≡ first ∷ parts_of 44 more → (length (trimmed first) == 0) ≡ true
+pub item-none : (s : CodingsSeen) (bytes first : List ℕ) (more : Option (List ℕ)) → slice_split (λ b. b == 44) bytes ≡ first ∷ parts_of 44 more → (length (trimmed first) == 0) ≡ true
     → seen_all s (items_left (Some bytes)) ≡ seen_all s (items_left more)
 item-none s bytes first more e none = rw (e, none) refl
 
-pub item-some : (s : Seen) (bytes first : List ℕ) (more : Option (List ℕ)) → slice_split (λ b. b == 44) bytes ≡ first ∷ parts_of 44 more → (length (trimmed first) == 0) ≡ false
+pub item-some : (s : CodingsSeen) (bytes first : List ℕ) (more : Option (List ℕ)) → slice_split (λ b. b == 44) bytes ≡ first ∷ parts_of 44 more → (length (trimmed first) == 0) ≡ false
     → seen_all s (items_left (Some bytes)) ≡ seen_all (seen_one s (trimmed first)) (items_left more)
 item-some s bytes first more e some = rw (e, some) refl
 
@@ -131,15 +131,15 @@ goes-at true (Some m) other s v us e none =
     (ap (λ x. finish other s.first s.differ (with_length x (lengths us))) e ∙ length-more other s.first s.differ m (lengths us) none, λ g. absurd (some-first s.first s.differ m g))
 
 goes-to : (other : BodyRule) (s : Lengths) (fields : List Field) (i : ℕ) (f : Field) → i < length fields → f ≡ get_or fields i f → (s.first ≡ None → s.differ ≡ false)
-    → Goes other s (lengths (values lengths_name (drop i fields))) (lengths (values lengths_name (drop (i + 1) fields))) (length_field s f)
+    → Goes other s (lengths (field_values lengths_name (drop i fields))) (lengths (field_values lengths_name (drop (i + 1) fields))) (with_length_field s f)
 goes-to other s fields i f within is none =
-    subst (λ vs. Goes other s (lengths vs) (lengths (values lengths_name (drop (i + 1) fields))) (length_field s f)) (sym (next-field lengths_name fields i f within is))
-    (goes-at (has_name lengths_name f) (decimal body_limit f.value) other s f.value (values lengths_name (drop (i + 1) fields)) refl none)
+    subst (λ vs. Goes other s (lengths vs) (lengths (field_values lengths_name (drop (i + 1) fields))) (with_length_field s f)) (sym (next-field lengths_name fields i f within is))
+    (goes-at (has_name lengths_name f) (decimal body_limit f.value) other s f.value (field_values lengths_name (drop (i + 1) fields)) refl none)
 
-pub length-next : (other : BodyRule) (s : Lengths) (fields : List Field) (i : ℕ) (f : Field) (o : Option Lengths) → i < length fields → f ≡ get_or fields i f → (s.first ≡ None → s.differ ≡ false) → o ≡ length_field s f
-    → Goes other s (lengths (values lengths_name (drop i fields))) (lengths (values lengths_name (drop (i + 1) fields))) o
+pub length-next : (other : BodyRule) (s : Lengths) (fields : List Field) (i : ℕ) (f : Field) (o : Option Lengths) → i < length fields → f ≡ get_or fields i f → (s.first ≡ None → s.differ ≡ false) → o ≡ with_length_field s f
+    → Goes other s (lengths (field_values lengths_name (drop i fields))) (lengths (field_values lengths_name (drop (i + 1) fields))) o
 length-next other s fields i f o within is none e =
-    subst (Goes other s (lengths (values lengths_name (drop i fields))) (lengths (values lengths_name (drop (i + 1) fields)))) (sym e) (goes-to other s fields i f within is none)
+    subst (Goes other s (lengths (field_values lengths_name (drop i fields))) (lengths (field_values lengths_name (drop (i + 1) fields)))) (sym e) (goes-to other s fields i f within is none)
 
 -- ---- the codings as a list
 
@@ -150,8 +150,8 @@ items-next bytes first more is = ap some_items is
 
 -- one more field
 pub codings-next : (fields : List Field) (i : ℕ) (f : Field) → i < length fields → f ≡ get_or fields i f
-    → flat_map items_of (values codings_name (drop i fields)) ≡ cond (has_name codings_name f) (items_of f.value) [] ++ flat_map items_of (values codings_name (drop (i + 1) fields))
-codings-next fields i f within is = ap (flat_map items_of) (next-field codings_name fields i f within is) ∙ by (has_name codings_name f) f.value (values codings_name (drop (i + 1) fields))
+    → flat_map items_of (field_values codings_name (drop i fields)) ≡ cond (has_name codings_name f) (items_of f.value) [] ++ flat_map items_of (field_values codings_name (drop (i + 1) fields))
+codings-next fields i f within is = ap (flat_map items_of) (next-field codings_name fields i f within is) ∙ by (has_name codings_name f) f.value (field_values codings_name (drop (i + 1) fields))
   where
     by : (c : Bool) (v : List ℕ) (us : List (List ℕ)) → flat_map items_of (cond c (v ∷ us) us) ≡ cond c (items_of v) [] ++ flat_map items_of us
     by true v us = refl

@@ -3,8 +3,8 @@ use Rattle.std.proofs.Common.{◌≡◌, ◌≢◌, ℕ, ◌+◌, ◌-◌, ◌<�
 use Rattle.std.proofs.lemmas.List.{append-nil, take_all, take-take, take-append-le, take-append-drop, length-take-le}
 use Rattle.std.proofs.Math.Seq.{take-append-add, drop-append_seam}
 use Rattle.std.proofs.lemmas.Bool.Decides.{nat_tests}
-use Rattle.px_framing.specs.declared.places.Place.{Place}
-use Rattle.px_framing.specs.declared.places.Place.TheVariants.{Size, Data, Gap, Trailers, Done, Wrong}
+use Rattle.px_framing.specs.declared.places.ChunkPlace.{ChunkPlace}
+use Rattle.px_framing.specs.declared.places.ChunkPlace.TheVariants.{Size, Data, Gap, Trailers, Done, Wrong}
 use Rattle.px_framing.specs.declared.places.State.{State}
 use Rattle.px_framing.specs.declared.places.State.TheVariants.{More, Whole, Cut, Misframed}
 use Rattle.px_framing.specs.declared.stages.Stage.{Stage}
@@ -12,7 +12,7 @@ use Rattle.px_framing.specs.declared.stages.Stage.TheVariants as stage
 use Rattle.px_framing.specs.declared.rules.BodyRule.{BodyRule}
 use Rattle.px_framing.specs.declared.rules.BodyRule.TheVariants as rule
 use Rattle.px_framing.specs.Body.{nothing, first_bytes, at_end}
-use Rattle.px_framing.specs.Reading.{before, reads, reads_on, goes_on, capped, cut_state, state_at, stage_state, is_last, is_ended, is_to_close, KeepsKind, stage_before, added, After, first_stage, end_state, Reading, Steps, IsSettled, IsSettledAt}
+use Rattle.px_framing.specs.Reading.{before, reads, reads_on, goes_on, capped, cut_state, place_state, stage_state, is_last, is_ended, is_to_close, KeepsKind, stage_before, added, ReaderAfter, first_stage, end_state, Reading, ReaderSteps, IsSettled, IsSettledAt}
 use Rattle.px_framing.specs.Passing.{Goes, PassesOn}
 use Rattle.px_framing.proofs.MoveLemmas.{before-before}
 
@@ -35,7 +35,7 @@ kind-ended old s new is = record {
   to_close = λ e. absurd (let both : true ≡ false = ap is_ended (sym is) ∙ e in cc);
 }
 
-kind-chunks : (p n : Place) (room room' : ℕ) (new : Stage) → new ≡ stage.Chunks n room' → KeepsKind (stage.Chunks p room) new
+kind-chunks : (p n : ChunkPlace) (room room' : ℕ) (new : Stage) → new ≡ stage.Chunks n room' → KeepsKind (stage.Chunks p room) new
 kind-chunks p n room room' new is = record { ended = λ e. refl; to_close = λ e. ap is_to_close is }
 
 kind-on : (a b c : Stage) → KeepsKind a b → KeepsKind b c → KeepsKind a c
@@ -64,16 +64,16 @@ first-part n s piece rest h =
 
 -- ---- chunks
 
-pub reads-last : (p : Place) (k rest : List ℕ) → is_last p ≡ true → reads p k rest ≡ nothing (state_at p)
+pub reads-last : (p : ChunkPlace) (k rest : List ℕ) → is_last p ≡ true → reads p k rest ≡ nothing (place_state p)
 unfolding reads
 reads-last p k [] e = refl
 reads-last p k (b ∷ rest) e = rw e refl
 
-pub reads-none : (p : Place) (k : List ℕ) → reads p k [] ≡ nothing (state_at p)
+pub reads-none : (p : ChunkPlace) (k : List ℕ) → reads p k [] ≡ nothing (place_state p)
 unfolding reads
 reads-none p k = refl
 
-state-last : (p : Place) (full : Bool) → is_last p ≡ true → cut_state (state_at p) full ≡ state_at p
+state-last : (p : ChunkPlace) (full : Bool) → is_last p ≡ true → cut_state (place_state p) full ≡ place_state p
 state-last Size full e = absurd (cc)
 state-last (Data n) full e = absurd (cc)
 state-last Gap full e = absurd (cc)
@@ -81,7 +81,7 @@ state-last (Trailers n) full e = absurd (cc)
 state-last Done full e = refl
 state-last Wrong full e = refl
 
-state-more : (p : Place) → is_last p ≡ false → state_at p ≡ More
+state-more : (p : ChunkPlace) → is_last p ≡ false → place_state p ≡ More
 state-more Size e = refl
 state-more (Data n) e = refl
 state-more Gap e = refl
@@ -90,9 +90,9 @@ state-more Done e = absurd (cc)
 state-more Wrong e = absurd (cc)
 
 -- the end of the body is reached
-chunks-last : (p n : Place) (room used : ℕ) (k k' piece rest put data_put : List ℕ) → is_last n ≡ true → used ≤ min room (length piece)
+chunks-last : (p n : ChunkPlace) (room used : ℕ) (k k' piece rest put data_put : List ℕ) → is_last n ≡ true → used ≤ min room (length piece)
     → ((more : List ℕ) → reads p k (take used (take room piece) ++ more) ≡ before put data_put (length (take used (take room piece))) (reads n k' more))
-    → reads_on (stage.Chunks p room) k (piece ++ rest) ≡ before put data_put used (nothing (state_at n))
+    → reads_on (stage.Chunks p room) k (piece ++ rest) ≡ before put data_put used (nothing (place_state n))
 chunks-last p n room used k k' piece rest put data_put last fits same =
     let window : take used (take room (piece ++ rest)) ≡ take used (take room piece) =
     take-take used room (piece ++ rest) (omega arith) ∙ take-append-le used piece rest (omega arith) ∙ sym (take-take used room piece (omega arith)) in
@@ -100,12 +100,12 @@ chunks-last p n room used k k' piece rest put data_put last fits same =
     sym (take-append-drop used (take room (piece ++ rest))) ∙ ap (λ (w : List ℕ). w ++ drop used (take room (piece ++ rest))) window in
     let len : length (take used (take room piece)) ≡ used = length-take-le used (take room piece) (omega (arith, length-take room piece)) in
     let full = nat_le room (length (piece ++ rest)) in
-    let found : reads p k (take room (piece ++ rest)) ≡ before put data_put used (nothing (state_at n)) =
+    let found : reads p k (take room (piece ++ rest)) ≡ before put data_put used (nothing (place_state n)) =
     ap (reads p k) bytes ∙ same (drop used (take room (piece ++ rest))) ∙ (λ i. before put data_put (len i) (reads-last n k' (drop used (take room (piece ++ rest))) last i)) in
     ap (capped full) found ∙ (λ i. record { raw = put ++ []; plain = data_put ++ []; used = used + 0; state = state-last n full last i })
 
 -- the greatest number of bytes is reached
-chunks-full : (p n : Place) (room used : ℕ) (k k' piece rest put data_put : List ℕ) → is_last n ≡ false → room ≤ length piece → used ≡ room
+chunks-full : (p n : ChunkPlace) (room used : ℕ) (k k' piece rest put data_put : List ℕ) → is_last n ≡ false → room ≤ length piece → used ≡ room
     → ((more : List ℕ) → reads p k (take used (take room piece) ++ more) ≡ before put data_put (length (take used (take room piece))) (reads n k' more))
     → reads_on (stage.Chunks p room) k (piece ++ rest) ≡ before put data_put used (nothing Cut)
 chunks-full p n room used k k' piece rest put data_put going long all same =
@@ -113,12 +113,12 @@ chunks-full p n room used k k' piece rest put data_put going long all same =
     let taken : take used (take room piece) ≡ take room piece = take-take used room piece (omega arith) ∙ ap (λ m. take m piece) all in
     let bytes : take room (piece ++ rest) ≡ take used (take room piece) ++ [] = take-append-le room piece rest long ∙ sym taken ∙ sym (append-nil (take used (take room piece))) in
     let full : nat_le room (length (piece ++ rest)) ≡ true = le-yes room (length (piece ++ rest)) (omega (arith, length-append piece rest)) in
-    let found : reads p k (take room (piece ++ rest)) ≡ before put data_put used (nothing (state_at n)) =
+    let found : reads p k (take room (piece ++ rest)) ≡ before put data_put used (nothing (place_state n)) =
     ap (reads p k) bytes ∙ same [] ∙ (λ i. before put data_put (len i) (reads-none n k' i)) in
     (λ i. capped (full i) (found i)) ∙ (λ i. record { raw = put ++ []; plain = data_put ++ []; used = used + 0; state = cut_state (state-more n going i) true })
 
 -- the body may go on
-chunks-on : (p n : Place) (room used : ℕ) (k k' piece rest put data_put : List ℕ) → length piece < room → used ≡ length piece
+chunks-on : (p n : ChunkPlace) (room used : ℕ) (k k' piece rest put data_put : List ℕ) → length piece < room → used ≡ length piece
     → ((more : List ℕ) → reads p k (take used (take room piece) ++ more) ≡ before put data_put (length (take used (take room piece))) (reads n k' more))
     → reads_on (stage.Chunks p room) k (piece ++ rest) ≡ before put data_put used (reads_on (stage.Chunks n (room - used)) k' rest)
 chunks-on p n room used k k' piece rest put data_put short all same =
@@ -134,13 +134,13 @@ chunks-on p n room used k k' piece rest put data_put short all same =
     λ i. capped (full i) (found i)
 
 -- behind a piece, by how it went
-pass-at : (last full : Bool) (p n : Place) (room used : ℕ) (k k' kept' piece put : List ℕ) (s : Stage) → is_last n ≡ last → (room - used == 0) ≡ full
-    → s ≡ cond last (stage.Ended (state_at n)) (cond full (stage.Ended Cut) (stage.Chunks n (room - used))) → used ≤ min room (length piece) → (is_last n ≡ false → used ≡ min room (length piece))
+pass-at : (last full : Bool) (p n : ChunkPlace) (room used : ℕ) (k k' kept' piece put : List ℕ) (s : Stage) → is_last n ≡ last → (room - used == 0) ≡ full
+    → s ≡ cond last (stage.Ended (place_state n)) (cond full (stage.Ended Cut) (stage.Chunks n (room - used))) → used ≤ min room (length piece) → (is_last n ≡ false → used ≡ min room (length piece))
     → Goes p k (take used (take room piece)) put n k' → (is_last n ≡ false → 0 < room - used → kept' ≡ k') → PassesOn (stage.Chunks p room) k piece put used s kept'
 pass-at true full p n room used k k' kept' piece put s e f is fits all m keeps = record {
   data_put = m.data_put;
   same = λ rest. chunks-last p n room used k k' piece rest put m.data_put e fits m.same ∙ ap (λ (t : Stage). before put m.data_put used (reads_on t kept' rest)) (sym is);
-  kind = kind-ended (stage.Chunks p room) (state_at n) s is;
+  kind = kind-ended (stage.Chunks p room) (place_state n) s is;
 }
 pass-at false true p n room used k k' kept' piece put s e f is fits all m keeps =
     let gone : room - used ≡ 0 = eqb-true (room - used) 0 f in
@@ -161,15 +161,15 @@ pass-at false false p n room used k k' kept' piece put s e f is fits all m keeps
       kind = kind-chunks p n room (room - used) s is;
     }
 
-pub pass-chunks : (p n : Place) (room used : ℕ) (k k' kept' piece put : List ℕ) (s : Stage) → s ≡ stage_before n (room - used) → used ≤ min room (length piece) → (is_last n ≡ false → used ≡ min room (length piece))
+pub pass-chunks : (p n : ChunkPlace) (room used : ℕ) (k k' kept' piece put : List ℕ) (s : Stage) → s ≡ stage_before n (room - used) → used ≤ min room (length piece) → (is_last n ≡ false → used ≡ min room (length piece))
     → Goes p k (take used (take room piece)) put n k' → (is_last n ≡ false → 0 < room - used → kept' ≡ k') → PassesOn (stage.Chunks p room) k piece put used s kept'
 pass-chunks p n room used k k' kept' piece put s is fits all m keeps = pass-at (is_last n) (room - used == 0) p n room used k k' kept' piece put s refl refl is fits all m keeps
 
 -- the stage isn't ended, where the body may go on
-pub chunks-kept : (n : Place) (room : ℕ) (s : Stage) → s ≡ stage_before n room → is_ended s ≡ true → is_last n ≡ false → 0 < room → ⊥
+pub chunks-kept : (n : ChunkPlace) (room : ℕ) (s : Stage) → s ≡ stage_before n room → is_ended s ≡ true → is_last n ≡ false → 0 < room → ⊥
 chunks-kept n room s is ended going some =
     let open_ : (room == 0) ≡ false = grind (arith, nat_tests) in
-    let e : s ≡ stage.Chunks n room = is ∙ (λ i. cond (going i) (stage.Ended (state_at n)) (cond (open_ i) (stage.Ended Cut) (stage.Chunks n room))) in
+    let e : s ≡ stage.Chunks n room = is ∙ (λ i. cond (going i) (stage.Ended (place_state n)) (cond (open_ i) (stage.Ended Cut) (stage.Chunks n room))) in
     let both : true ≡ false = sym ended ∙ ap is_ended e in
     cc
 
@@ -180,13 +180,13 @@ pub added-is : (old new put : List ℕ) → new ≡ old ++ put → added old new
 added-is old new put e = ap (drop (length old)) e ∙ drop-append_seam old put
 
 -- one piece after another
-pub steps-on : (a b c : Reading) (b1 b2 r1 r2 q1 q2 : List ℕ) (n1 n2 : ℕ) → Steps a b1 r1 q1 n1 b → Steps b b2 r2 q2 n2 c → Steps a (b1 ++ b2) (r1 ++ r2) (q1 ++ q2) (n1 + n2) c
+pub steps-on : (a b c : Reading) (b1 b2 r1 r2 q1 q2 : List ℕ) (n1 n2 : ℕ) → ReaderSteps a b1 r1 q1 n1 b → ReaderSteps b b2 r2 q2 n2 c → ReaderSteps a (b1 ++ b2) (r1 ++ r2) (q1 ++ q2) (n1 + n2) c
 steps-on a b c b1 b2 r1 r2 q1 q2 n1 n2 x y = record {
   same = λ rest. ap (goes_on a) (append_assoc b1 b2 rest) ∙ x.same (b2 ++ rest) ∙ ap (before r1 q1 n1) (y.same rest) ∙ before-before r1 q1 r2 q2 n1 n2 (goes_on c rest);
   kind = kind-on a.stage b.stage c.stage x.kind y.kind;
 }
 
-pub steps-none : (r : Reading) → Steps r [] [] [] 0 r
+pub steps-none : (r : Reading) → ReaderSteps r [] [] [] 0 r
 steps-none r = record { same = λ rest. λ i. record { raw = (goes_on r rest).raw; plain = (goes_on r rest).plain; used = (let e : (goes_on r rest).used ≡ 0 + (goes_on r rest).used = omega arith in e) i; state = (goes_on r rest).state }; kind = kind-same r.stage }
 
 bytes-none : (n : ℕ) (s : State) → 0 < n → first_bytes n s [] ≡ nothing More
@@ -214,7 +214,7 @@ unfolding goes_on
 nothing-left r settled = nothing-at r.stage r.kept settled.settled
 
 -- what the end makes of a reader's stage is what it makes of the rule
-pub end-of : (r : BodyRule) (bytes raw plain : List ℕ) (used : ℕ) (reader : Reading) → After r bytes raw plain used reader → IsSettled reader → end_state reader.stage ≡ at_end r (stage_state reader.stage)
+pub end-of : (r : BodyRule) (bytes raw plain : List ℕ) (used : ℕ) (reader : Reading) → ReaderAfter r bytes raw plain used reader → IsSettled reader → end_state reader.stage ≡ at_end r (stage_state reader.stage)
 end-of r bytes raw plain used reader after settled = end-at r reader.stage reader.kept settled.settled after.kind
   where
     ended-at : (q : BodyRule) (s : State) → s ≢ More → s ≡ at_end q s

@@ -1,13 +1,13 @@
 -- The body of a message over whole bytes (RFC 9112, sections 6 and 7): which of them are the body's, which are whole
 -- elements, their data, and how the body stands.
 use Rattle.std.specs.Prelude.{◌≡◌, ℕ, ◌-◌, ◌<◌, ◌≤◌, List, [], ◌++◌, length, take, min, flat_map, nat_le, if◌then◌else◌}
-use Rattle.px_framing.specs.declared.places.Place.{Place}
-use Rattle.px_framing.specs.declared.places.Place.TheVariants.{Size, Done}
+use Rattle.px_framing.specs.declared.places.ChunkPlace.{ChunkPlace}
+use Rattle.px_framing.specs.declared.places.ChunkPlace.TheVariants.{Size, Done}
 use Rattle.px_framing.specs.declared.places.State.{State}
 use Rattle.px_framing.specs.declared.places.State.TheVariants.{More, Whole, Cut, Misframed}
 use Rattle.px_framing.specs.declared.rules.BodyRule.{BodyRule}
 use Rattle.px_framing.specs.declared.rules.BodyRule.TheVariants.{Absent, Length, Chunked, ToClose}
-use Rattle.px_framing.specs.Elements.{Element, print, data_of, Leads}
+use Rattle.px_framing.specs.Elements.{Element, print, data_of, ElementsLead}
 
 -- the most bytes of a body whose length isn't stated
 abbrev pub body_limit : ℕ
@@ -21,9 +21,9 @@ pub record Part : Type 0 where
   pub state : State
 
 -- these bytes are whole elements of a chunked body, in their order, with this data, and place is what comes next
-pub record AreElements (bytes data_bytes : List ℕ) (place : Place) : Type 0 where
+pub record AreElements (bytes data_bytes : List ℕ) (place : ChunkPlace) : Type 0 where
   pub elements : List Element
-  pub leads : Leads Size elements place
+  pub leads : ElementsLead Size elements place
   pub bytes_are : bytes ≡ flat_map print elements
   pub data_is : data_bytes ≡ flat_map data_of elements
 
@@ -41,11 +41,11 @@ NoBody bytes = (n : ℕ) → IsBody (take n bytes) → ⊥
 
 -- what each state says of a chunked body's bytes. Misframed: the last byte used is the first one after which no
 -- continuation is a body. Whole comes first, so none of these bytes were a body.
-abbrev pub Says : State → List ℕ → ℕ → Type 0
-Says Whole bytes used = IsBody (take used bytes)
-Says Misframed bytes used = (0 < used) × CanGoOn (take (used - 1) bytes) × (CanGoOn (take used bytes) → ⊥) × NoBody (take used bytes)
-Says More bytes used = (used ≡ length bytes) × CanGoOn bytes × NoBody bytes
-Says Cut bytes used = CanGoOn (take used bytes) × NoBody (take used bytes)
+abbrev pub StateSays : State → List ℕ → ℕ → Type 0
+StateSays Whole bytes used = IsBody (take used bytes)
+StateSays Misframed bytes used = (0 < used) × CanGoOn (take (used - 1) bytes) × (CanGoOn (take used bytes) → ⊥) × NoBody (take used bytes)
+StateSays More bytes used = (used ≡ length bytes) × CanGoOn bytes × NoBody bytes
+StateSays Cut bytes used = CanGoOn (take used bytes) × NoBody (take used bytes)
 
 -- at the greatest number of bytes a body that could go on is cut, and only there
 abbrev pub KeepsLimit : State → ℕ → Type 0
@@ -58,11 +58,11 @@ KeepsLimit Cut used = used ≡ body_limit
 pub record IsChunked (bytes : List ℕ) (p : Part) : Type 0 where
   pub within : p.used ≤ length bytes
   pub held : List ℕ
-  pub next : Place
+  pub next : ChunkPlace
   pub front : take p.used bytes ≡ p.raw ++ held
   pub elements : AreElements p.raw p.plain next
-  pub longest : (r d rest : List ℕ) (place : Place) → AreElements r d place → take p.used bytes ≡ r ++ rest → length r ≤ length p.raw
-  pub says : Says p.state bytes p.used
+  pub longest : (r d rest : List ℕ) (place : ChunkPlace) → AreElements r d place → take p.used bytes ≡ r ++ rest → length r ≤ length p.raw
+  pub says : StateSays p.state bytes p.used
   pub limit : KeepsLimit p.state p.used
 
 -- nothing is used

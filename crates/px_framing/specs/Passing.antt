@@ -1,28 +1,29 @@
 -- A body that is passed on: whole elements as they come, whatever data they hold.
 use Rattle.std.specs.Prelude.{◌≡◌, ◌≢◌, ℕ, ◌+◌, ◌<◌, ◌≤◌, ◌==◌, min, Bool, true, false, List, [], ◌++◌, length, take, IsTrue, if◌then◌else◌}
 use Rattle.px_framing.specs.declared.TheConstants.{LINE_LIMIT}
-use Rattle.px_framing.specs.declared.places.Place.{Place}
+use Rattle.px_framing.specs.declared.places.ChunkPlace.{ChunkPlace}
 use Rattle.px_framing.specs.Body.{Part}
 use Rattle.px_framing.specs.declared.stages.Stage.{Stage}
 use Rattle.px_framing.specs.declared.stages.Stage.TheVariants as stage
 use Rattle.px_framing.specs.declared.places.State.{State}
 use Rattle.px_framing.specs.declared.places.State.TheVariants.{More, Whole, Cut, Misframed}
 use Rattle.px_framing.specs.declared.advances.Far.{Far}
-use Rattle.px_framing.specs.declared.lines.Line.{Line}
+use Rattle.px_framing.specs.declared.lines.WholeLine.{WholeLine}
 use Rattle.px_framing.specs.declared.passes.Gone.{Gone}
 use Rattle.px_framing.specs.Elements.{AreWhole}
-use Rattle.px_framing.specs.Lines.{after, crlf, may_stand}
+use Rattle.px_framing.specs.Lines.{place_after_line, may_stand}
 use Rattle.px_framing.specs.Reading.{before, goes_on, is_last, is_to_close, reads, reads_on, stage_state, IsHeld, IsSettledAt, KeepsKind, Reading, Uses}
+use Rattle.px_head.specs.Prints.{crlf}
 
 -- From place, behind the bytes kept, these bytes were taken, and those put out are of whole elements. What all bytes are read to
 -- is the same before and behind.
-pub record Goes (place : Place) (kept bytes put : List ℕ) (next : Place) (kept' : List ℕ) : Type 0 where
+pub record Goes (place : ChunkPlace) (kept bytes put : List ℕ) (next : ChunkPlace) (kept' : List ℕ) : Type 0 where
   pub data_put : List ℕ
   pub same : (rest : List ℕ) → reads place kept (bytes ++ rest) ≡ before put data_put (length bytes) (reads next kept' rest)
 
 -- From place, behind the bytes kept, a step took bytes at the front of these. Where a whole element ends with them, nothing is kept
 -- any more, and else, where more may come, all of them.
-pub record StepsOn (place : Place) (kept bytes : List ℕ) (gone : Gone) (kept' : List ℕ) : Type 0 where
+pub record StepsOn (place : ChunkPlace) (kept bytes : List ℕ) (gone : Gone) (kept' : List ℕ) : Type 0 where
   pub used : (0 < gone.used) × (gone.used ≤ length bytes)
   pub held : IsHeld gone.next kept'
   pub goes : Goes place kept (take gone.used bytes) (if gone.ends then kept ++ take gone.used bytes else []) gone.next kept'
@@ -30,11 +31,11 @@ pub record StepsOn (place : Place) (kept bytes : List ℕ) (gone : Gone) (kept' 
   pub grows : gone.ends ≡ false → is_last gone.next ≡ false → kept' ≡ kept ++ take gone.used bytes
 
 -- a whole line that may stand at this place is at the front of these bytes
-pub record IsLineAt (place : Place) (bytes : List ℕ) (line : Line) : Type 0 where
+pub record IsLineAt (place : ChunkPlace) (bytes : List ℕ) (line : WholeLine) : Type 0 where
   pub within : line.text_len + 2 ≤ length bytes
   pub text_and_end : take (line.text_len + 2) bytes ≡ take line.text_len bytes ++ crlf
   pub stands : IsTrue (may_stand place (take line.text_len bytes))
-  pub next_is : line.next ≡ after place (take line.text_len bytes)
+  pub next_is : line.next ≡ place_after_line place (take line.text_len bytes)
 
 -- the bytes kept and the first bytes of a piece, up to the end of its last whole element; nothing where none ends in it
 abbrev pub settled : List ℕ → List ℕ → ℕ → List ℕ
@@ -94,5 +95,5 @@ last_state to_close Cut = Cut
 last_state to_close Misframed = Misframed
 
 -- what bytes to come are read to, where they are the last
-abbrev pub due : Reading → List ℕ → Part
-due r rest = record (goes_on r rest) { state = last_state (is_to_close r.stage) (goes_on r rest).state }
+abbrev pub due_part : Reading → List ℕ → Part
+due_part r rest = record (goes_on r rest) { state = last_state (is_to_close r.stage) (goes_on r rest).state }

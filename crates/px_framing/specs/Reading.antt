@@ -1,7 +1,7 @@
 -- A reader of a body: what the bytes to come will be read to. A body read from its start is read to what `Body` says.
 use Rattle.std.specs.Prelude.{◌≡◌, ℕ, ◌+◌, ◌-◌, ◌<◌, ◌≤◌, Bool, true, false, ◌&&◌, ◌==◌, nat_le, nat_lt, slice_index, List, [], ◌∷◌, ◌++◌, length, take, drop, if◌then◌else◌, Vec, vec_len, vec_capacity}
-use Rattle.px_framing.specs.declared.places.Place.{Place}
-use Rattle.px_framing.specs.declared.places.Place.TheVariants.{Size, Data, Gap, Trailers, Done, Wrong}
+use Rattle.px_framing.specs.declared.places.ChunkPlace.{ChunkPlace}
+use Rattle.px_framing.specs.declared.places.ChunkPlace.TheVariants.{Size, Data, Gap, Trailers, Done, Wrong}
 use Rattle.px_framing.specs.declared.places.State.{State}
 use Rattle.px_framing.specs.declared.places.State.TheVariants.{More, Whole, Cut, Misframed}
 use Rattle.px_framing.specs.declared.places.Verdict.{Verdict}
@@ -10,8 +10,9 @@ use Rattle.px_framing.specs.declared.stages.Stage.{Stage}
 use Rattle.px_framing.specs.declared.stages.Stage.TheVariants as stage
 use Rattle.px_framing.specs.declared.rules.BodyRule.{BodyRule}
 use Rattle.px_framing.specs.declared.rules.BodyRule.TheVariants as rule
-use Rattle.px_framing.specs.Lines.{may_stand, after, data_place, IsOpen}
+use Rattle.px_framing.specs.Lines.{may_stand, place_after_line, data_place, IsOpen}
 use Rattle.px_framing.specs.Body.{Part, nothing, first_bytes, body_limit}
+use Rattle.px_base.specs.Lists.{without_last}
 
 -- what was read before
 abbrev pub before : List ℕ → List ℕ → ℕ → Part → Part
@@ -21,32 +22,28 @@ before raw plain used p = record { raw = raw ++ p.raw; plain = plain ++ p.plain;
 abbrev pub ends_in_cr : List ℕ → Bool
 ends_in_cr bytes = nat_lt 0 (length bytes) && slice_index bytes (length bytes - 1) == 13
 
--- the bytes without the last one
-abbrev pub without_last : List ℕ → List ℕ
-without_last bytes = take (length bytes - 1) bytes
-
 -- what a byte makes of the line that these bytes begin
-unfoldable pub verdict_of : Place → List ℕ → ℕ → Verdict
+unfoldable pub verdict_of : ChunkPlace → List ℕ → ℕ → Verdict
 verdict_of place front b =
     if ends_in_cr front
-    then (if b == 10 && may_stand place (without_last front) then verdict.Line (after place (without_last front)) else verdict.Wrong)
+    then (if b == 10 && may_stand place (without_last front) then verdict.Line (place_after_line place (without_last front)) else verdict.Wrong)
     else (if b == 13
     then (if may_stand place front then verdict.Open else verdict.Wrong)
     else (if may_stand place (front ++ b ∷ []) then verdict.Open else verdict.Wrong))
 
 -- one byte further: the bytes and the data that are put out, what comes next, and the bytes of an unfinished line
-pub record Step : Type 0 where
+pub record ByteStep : Type 0 where
   pub raw : List ℕ
   pub plain : List ℕ
-  pub next : Place
+  pub next : ChunkPlace
   pub kept : List ℕ
 
-abbrev pub line_step : Place → List ℕ → Verdict → Step
+abbrev pub line_step : ChunkPlace → List ℕ → Verdict → ByteStep
 line_step place line verdict.Open = record { raw = []; plain = []; next = place; kept = line }
 line_step place line (verdict.Line next) = record { raw = line; plain = []; next = next; kept = [] }
 line_step place line verdict.Wrong = record { raw = []; plain = []; next = Wrong; kept = [] }
 
-abbrev pub step : Place → List ℕ → ℕ → Step
+abbrev pub step : ChunkPlace → List ℕ → ℕ → ByteStep
 step (Data n) kept b = record { raw = b ∷ []; plain = b ∷ []; next = data_place (n - 1); kept = [] }
 step Size kept b = line_step Size (kept ++ b ∷ []) (verdict_of Size kept b)
 step Gap kept b = line_step Gap (kept ++ b ∷ []) (verdict_of Gap kept b)
@@ -55,16 +52,16 @@ step Done kept b = record { raw = []; plain = []; next = Done; kept = [] }
 step Wrong kept b = record { raw = []; plain = []; next = Wrong; kept = [] }
 
 -- how a chunked body stands before this place
-abbrev pub state_at : Place → State
-state_at Size = More
-state_at (Data n) = More
-state_at Gap = More
-state_at (Trailers n) = More
-state_at Done = Whole
-state_at Wrong = Misframed
+abbrev pub place_state : ChunkPlace → State
+place_state Size = More
+place_state (Data n) = More
+place_state Gap = More
+place_state (Trailers n) = More
+place_state Done = Whole
+place_state Wrong = Misframed
 
 -- nothing comes after this place
-abbrev pub is_last : Place → Bool
+abbrev pub is_last : ChunkPlace → Bool
 is_last Size = false
 is_last (Data n) = false
 is_last Gap = false
@@ -73,10 +70,10 @@ is_last Done = true
 is_last Wrong = true
 
 -- what bytes are read to from a place, behind the bytes of an unfinished line
-unfoldable pub reads : Place → List ℕ → List ℕ → Part
-reads place kept [] = nothing (state_at place)
+unfoldable pub reads : ChunkPlace → List ℕ → List ℕ → Part
+reads place kept [] = nothing (place_state place)
 reads place kept (b ∷ bs) =
-    if is_last place then nothing (state_at place)
+    if is_last place then nothing (place_state place)
     else before (step place kept b).raw (step place kept b).plain 1 (reads (step place kept b).next (step place kept b).kept bs)
 
 -- a body that could go on after the greatest number of bytes is cut
@@ -122,9 +119,9 @@ stage_state (stage.Rest room) = More
 stage_state (stage.Chunks place room) = More
 
 -- the stage of a chunked body that stands before that place and may take so many more bytes
-abbrev pub stage_before : Place → ℕ → Stage
+abbrev pub stage_before : ChunkPlace → ℕ → Stage
 stage_before place room =
-    if is_last place then stage.Ended (state_at place) else (if room == 0 then stage.Ended Cut else stage.Chunks place room)
+    if is_last place then stage.Ended (place_state place) else (if room == 0 then stage.Ended Cut else stage.Chunks place room)
 
 -- how the body stands where no more bytes come
 abbrev pub end_state : Stage → State
@@ -158,20 +155,20 @@ pub record Uses (piece : List ℕ) (used : ℕ) (state : State) : Type 0 where
   pub all : state ≡ More → used ≡ length piece
 
 -- a reader took so many bytes of a piece and put these out: what all bytes are read to is the same before and behind
-pub record Steps (old : Reading) (piece raw plain : List ℕ) (used : ℕ) (new : Reading) : Type 0 where
+pub record ReaderSteps (old : Reading) (piece raw plain : List ℕ) (used : ℕ) (new : Reading) : Type 0 where
   pub same : (rest : List ℕ) → goes_on old (piece ++ rest) ≡ before raw plain used (goes_on new rest)
   pub kind : KeepsKind old.stage new.stage
 
 -- a reader of a body by that rule was fed these bytes in any pieces, and put these out
-abbrev pub After : BodyRule → List ℕ → List ℕ → List ℕ → ℕ → Reading → Type 0
-After rule fed raw plain used r = Steps (first rule) fed raw plain used r
+abbrev pub ReaderAfter : BodyRule → List ℕ → List ℕ → List ℕ → ℕ → Reading → Type 0
+ReaderAfter rule fed raw plain used r = ReaderSteps (first rule) fed raw plain used r
 
 -- the bytes that were added at the end
 abbrev pub added : List ℕ → List ℕ → List ℕ
 added old new = drop (length old) new
 
 -- a line stands at this place
-abbrev pub is_line : Place → Bool
+abbrev pub is_line : ChunkPlace → Bool
 is_line Size = true
 is_line (Data n) = false
 is_line Gap = true
@@ -180,7 +177,7 @@ is_line Done = false
 is_line Wrong = false
 
 -- what may be kept before a place
-abbrev pub IsHeld : Place → List ℕ → Type 0
+abbrev pub IsHeld : ChunkPlace → List ℕ → Type 0
 IsHeld Size kept = IsOpen Size kept
 IsHeld (Data n) kept = (0 < n) × (kept ≡ [])
 IsHeld Gap kept = IsOpen Gap kept

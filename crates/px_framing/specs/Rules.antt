@@ -13,22 +13,22 @@ use Rattle.px_framing.specs.declared.rules.BodyRule.TheVariants.{Absent, Length,
 use Rattle.px_framing.specs.declared.rules.BodyFault.{BodyFault}
 use Rattle.px_framing.specs.declared.rules.BodyFault.TheVariants.{TwoLengths, BadLength, LengthAndChunks, UnknownCoding}
 
-abbrev pub fault_number : BodyFault → ℕ
-fault_number TwoLengths = 37
-fault_number BadLength = 38
-fault_number LengthAndChunks = 39
-fault_number UnknownCoding = 40
+abbrev pub body_fault_number : BodyFault → ℕ
+body_fault_number TwoLengths = 37
+body_fault_number BadLength = 38
+body_fault_number LengthAndChunks = 39
+body_fault_number UnknownCoding = 40
 
-abbrev pub fault_name : BodyFault → List ℕ
-fault_name TwoLengths = codes "TwoLengths"
-fault_name BadLength = codes "BadLength"
-fault_name LengthAndChunks = codes "LengthAndChunks"
-fault_name UnknownCoding = codes "UnknownCoding"
+abbrev pub body_fault_name : BodyFault → List ℕ
+body_fault_name TwoLengths = codes "TwoLengths"
+body_fault_name BadLength = codes "BadLength"
+body_fault_name LengthAndChunks = codes "LengthAndChunks"
+body_fault_name UnknownCoding = codes "UnknownCoding"
 
 -- the values of the fields of that name
-abbrev pub values : List ℕ → List Field → List (List ℕ)
-values name [] = []
-values name (f ∷ fs) = if has_name name f then f.value ∷ values name fs else values name fs
+abbrev pub field_values : List ℕ → List Field → List (List ℕ)
+field_values name [] = []
+field_values name (f ∷ fs) = if has_name name f then f.value ∷ field_values name fs else field_values name fs
 
 abbrev pub codings_name : List ℕ
 codings_name = codes "Transfer-Encoding"
@@ -37,9 +37,9 @@ abbrev pub lengths_name : List ℕ
 lengths_name = codes "Content-Length"
 
 -- a field of that name stands
-abbrev pub stands : List (List ℕ) → Bool
-stands [] = false
-stands (v ∷ vs) = true
+abbrev pub has_values : List (List ℕ) → Bool
+has_values [] = false
+has_values (v ∷ vs) = true
 
 -- the items without white space around them, and without the empty ones
 abbrev pub some_items : List (List ℕ) → List (List ℕ)
@@ -52,7 +52,7 @@ items_of value = some_items (slice_split (λ b. b == 44) value)
 
 -- the codings of all Transfer-Encoding fields, in order
 abbrev pub codings_of : List Field → List (List ℕ)
-codings_of fields = flat_map items_of (values codings_name fields)
+codings_of fields = flat_map items_of (field_values codings_name fields)
 
 abbrev pub is_chunked : List ℕ → Bool
 is_chunked coding = str_eq_ignore_ascii_case coding (codes "chunked")
@@ -94,9 +94,9 @@ rule_of false length_stands by_codings by_lengths = by_lengths
 
 unfoldable pub request_rule : List Field → Result BodyRule BodyFault
 request_rule fields =
-    rule_of (stands (values codings_name fields)) (stands (values lengths_name fields))
+    rule_of (has_values (field_values codings_name fields)) (has_values (field_values lengths_name fields))
     (if are_chunked (codings_of fields) then Ok Chunked else Err UnknownCoding)
-    (length_rule Absent (lengths (values lengths_name fields)))
+    (length_rule Absent (lengths (field_values lengths_name fields)))
 
 -- a response without a body: to HEAD, or of status 1xx, 204 or 304
 abbrev pub is_bodiless : ℕ → List ℕ → Bool
@@ -106,6 +106,6 @@ is_bodiless status method =
 unfoldable pub response_rule : ResponseHead → List ℕ → Result BodyRule BodyFault
 response_rule head method =
     if is_bodiless head.status method then Ok Absent
-    else rule_of (stands (values codings_name head.fields)) (stands (values lengths_name head.fields))
+    else rule_of (has_values (field_values codings_name head.fields)) (has_values (field_values lengths_name head.fields))
     (Ok (if end_chunked (codings_of head.fields) then Chunked else ToClose))
-    (length_rule ToClose (lengths (values lengths_name head.fields)))
+    (length_rule ToClose (lengths (field_values lengths_name head.fields)))

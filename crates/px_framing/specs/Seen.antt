@@ -1,6 +1,6 @@
 -- What is remembered of codings and of lengths that are read one by one.
 use Rattle.std.specs.Prelude.{ℕ, option_map, Bool, true, not, ◌&&◌, ◌||◌, ◌==◌, if◌then◌else◌, List, [], ◌∷◌, Option, Some, None, Result, Ok, Err}
-use Rattle.px_framing.specs.declared.rules.Seen.{Seen}
+use Rattle.px_framing.specs.declared.rules.CodingsSeen.{CodingsSeen}
 use Rattle.px_framing.specs.declared.rules.Lengths.{Lengths}
 use Rattle.px_framing.specs.declared.rules.BodyRule.{BodyRule}
 use Rattle.px_framing.specs.declared.rules.BodyRule.TheVariants.{Length}
@@ -13,16 +13,16 @@ use Rattle.px_framing.specs.Body.{body_limit}
 use Rattle.px_framing.specs.Rules.{is_chunked, items_of, codings_name, lengths_name}
 
 -- one more coding
-abbrev pub seen_one : Seen → List ℕ → Seen
+abbrev pub seen_one : CodingsSeen → List ℕ → CodingsSeen
 seen_one s coding = record { any = true; alone = not s.any && is_chunked coding; last = is_chunked coding }
 
 -- more codings
-abbrev pub seen_all : Seen → List (List ℕ) → Seen
+abbrev pub seen_all : CodingsSeen → List (List ℕ) → CodingsSeen
 seen_all s [] = s
 seen_all s (c ∷ cs) = seen_all (seen_one s c) cs
 
 -- the codings of one more field
-abbrev pub field_seen : Seen → Field → Seen
+abbrev pub field_seen : CodingsSeen → Field → CodingsSeen
 field_seen s f = if has_name codings_name f then seen_all s (items_of f.value) else s
 
 -- one more length
@@ -34,8 +34,8 @@ abbrev pub length_seen : Lengths → ℕ → Lengths
 length_seen seen m = length_at seen.first seen.differ m
 
 -- the length of one more field, unless its value is no length
-abbrev pub length_field : Lengths → Field → Option Lengths
-length_field seen f =
+abbrev pub with_length_field : Lengths → Field → Option Lengths
+with_length_field seen f =
     if has_name lengths_name f then option_map (length_seen seen) (decimal body_limit f.value) else Some seen
 
 -- the rule of a first length, where others differed from it or not

@@ -8,7 +8,7 @@ use crate::LINE_LIMIT;
 use crate::extracts::keep_whole;
 use crate::lines::front;
 use crate::passes::pass_piece;
-use crate::places::{Place, State};
+use crate::places::{ChunkPlace, State};
 use crate::stages::{Stage, is_ended, stage_before};
 use px_base::Mem;
 
@@ -120,7 +120,7 @@ fn pass_rest(room: u64, piece: &[u8]) -> Far
 }
 
 /// Passes bytes of a chunked body that may take so many more.
-fn pass_chunks(place: Place, room: u64, kept: &mut Vec<u8>, piece: &[u8]) -> Far
+fn pass_chunks(place: ChunkPlace, room: u64, kept: &mut Vec<u8>, piece: &[u8]) -> Far
     requires held { IsHeld place kept.old.items }
     requires more { is_last place ≡ false }
     requires some { 0 < room }

@@ -7,7 +7,7 @@ use std::mem::replace;
 
 /// The raw bytes and the data of a body so far.
 #[derive(Drop)]
-pub struct Taken {
+pub struct TakenBody {
     pub raw: Vec<u8>,
     pub plain: Vec<u8>,
 }
@@ -27,14 +27,14 @@ pub fn take_bytes(alloc: Global, text: &mut Text) -> Result<Vec<u8>, Mem>
 }
 
 /// Takes the bytes of both texts out. After `Mem` both are as they were.
-pub fn take_both(alloc: Global, raw: &mut Text, plain: &mut Text) -> Result<Taken, Mem>
+pub fn take_both(alloc: Global, raw: &mut Text, plain: &mut Text) -> Result<TakenBody, Mem>
     ensures raw { IfOk result (λ taken. taken.raw.items ≡ raw.old) }
     ensures plain { IfOk result (λ taken. taken.plain.items ≡ plain.old) }
     ensures err { OnErr result ((raw.new ≡ raw.old) × (plain.new ≡ plain.old)) }
 {
     let raw_bytes = take_bytes(alloc, raw)?;
     match take_bytes(alloc, plain) {
-        Ok(plain_bytes) => Ok(Taken {
+        Ok(plain_bytes) => Ok(TakenBody {
             raw: raw_bytes,
             plain: plain_bytes,
         }),

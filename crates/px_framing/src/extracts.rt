@@ -3,28 +3,29 @@ ghost use Rattle.std.specs.Prelude.{◌≡◌, ◌+◌, ◌++◌, ◌<◌, ◌�
 ghost use Rattle.px_framing.specs.Body.{Body, Part};
 ghost use Rattle.px_framing.specs.Elements.{AreWhole};
 ghost use Rattle.px_framing.specs.Extracts.{Divides};
-ghost use Rattle.px_framing.specs.Lines.{after, crlf, may_stand};
+ghost use Rattle.px_framing.specs.Lines.{place_after_line, may_stand};
 ghost use Rattle.px_framing.specs.Reading.{is_line};
+ghost use Rattle.px_head.specs.Prints.{crlf};
 
-use crate::lines::{Line, next_place};
-use crate::places::{Place, State};
+use crate::lines::{WholeLine, next_place};
+use crate::places::{ChunkPlace, State};
 use crate::rules::BodyRule;
 use px_base::{Mem, Text, place};
 
 /// A line, or some bytes of data, at the front of whole elements.
 #[derive(Clone, Copy)]
-pub struct Run {
+pub struct ElementRun {
     pub len: usize,
     /// How many bytes at its front are data: all or none.
     pub data_len: usize,
-    pub next: Place,
+    pub next: ChunkPlace,
 }
 
 /// The line at the front of whole elements: no text of a line holds a CR.
-fn whole_line(before: Place, bytes: &[u8]) -> Option<Line>
+fn whole_line(before: ChunkPlace, bytes: &[u8]) -> Option<WholeLine>
     ensures within { IfSome result (λ line. line.text_len + 2 ≤ length bytes.now) }
     ensures line { (text more : List ℕ) → IsTrue (may_stand before text) → bytes.now ≡ (text ++ crlf) ++ more
-        → result ≡ Some (record { text_len = length text; next = after before text }) }
+        → result ≡ Some (record { text_len = length text; next = place_after_line before text }) }
 {
     match place(bytes, b'\r') {
         Some(at) => {
@@ -32,7 +33,7 @@ fn whole_line(before: Place, bytes: &[u8]) -> Option<Line>
                 return None;
             }
             match next_place(before, &bytes[..at]) {
-                Some(next) => Some(Line { text_len: at, next }),
+                Some(next) => Some(WholeLine { text_len: at, next }),
                 None => None,
             }
         }
@@ -40,12 +41,12 @@ fn whole_line(before: Place, bytes: &[u8]) -> Option<Line>
     }
 }
 
-fn line_run(before: Place, bytes: &[u8]) -> Option<Run>
+fn line_run(before: ChunkPlace, bytes: &[u8]) -> Option<ElementRun>
     ensures len { IfSome result (λ run. (0 < run.len) × (run.len ≤ length bytes.now) × (run.data_len ≤ run.len)) }
     ensures divides { (data_bytes : List ℕ) → 0 < length bytes.now → is_line before ≡ true → AreWhole before bytes.now data_bytes → Divides bytes.now data_bytes result }
 {
     match whole_line(before, bytes) {
-        Some(line) => Some(Run {
+        Some(line) => Some(ElementRun {
             len: line.text_len + 2,
             data_len: 0,
             next: line.next,
@@ -54,46 +55,46 @@ fn line_run(before: Place, bytes: &[u8]) -> Option<Run>
     }
 }
 
-fn data_run(left: u64, bytes: &[u8]) -> Option<Run>
+fn data_run(left: u64, bytes: &[u8]) -> Option<ElementRun>
     requires some { 0 < length bytes.now }
     ensures len { IfSome result (λ run. (0 < run.len) × (run.len ≤ length bytes.now) × (run.data_len ≤ run.len)) }
-    ensures divides { (data_bytes : List ℕ) → AreWhole (Place.Data left) bytes.now data_bytes → Divides bytes.now data_bytes result }
+    ensures divides { (data_bytes : List ℕ) → AreWhole (ChunkPlace.Data left) bytes.now data_bytes → Divides bytes.now data_bytes result }
 {
     if left == 0 {
         None
     } else if left <= bytes.len() as u64 {
-        Some(Run {
+        Some(ElementRun {
             len: left as usize,
             data_len: left as usize,
-            next: Place::Gap,
+            next: ChunkPlace::Gap,
         })
     } else {
-        Some(Run {
+        Some(ElementRun {
             len: bytes.len(),
             data_len: bytes.len(),
-            next: Place::Data(left - bytes.len() as u64),
+            next: ChunkPlace::Data(left - bytes.len() as u64),
         })
     }
 }
 
-fn next_run(before: Place, bytes: &[u8]) -> Option<Run>
+fn next_run(before: ChunkPlace, bytes: &[u8]) -> Option<ElementRun>
     requires some { 0 < length bytes.now }
     ensures len { IfSome result (λ run. (0 < run.len) × (run.len ≤ length bytes.now) × (run.data_len ≤ run.len)) }
     ensures divides { (data_bytes : List ℕ) → AreWhole before bytes.now data_bytes → Divides bytes.now data_bytes result }
 {
     match before {
-        Place::Data(left) => data_run(left, bytes),
-        Place::Size => line_run(before, bytes),
-        Place::Gap => line_run(before, bytes),
-        Place::Trailers(_) => line_run(before, bytes),
-        Place::Done => None,
-        Place::Wrong => None,
+        ChunkPlace::Data(left) => data_run(left, bytes),
+        ChunkPlace::Size => line_run(before, bytes),
+        ChunkPlace::Gap => line_run(before, bytes),
+        ChunkPlace::Trailers(_) => line_run(before, bytes),
+        ChunkPlace::Done => None,
+        ChunkPlace::Wrong => None,
     }
 }
 
 /// Moves the data of the whole elements behind the first `from` bytes to their front, in order, and answers where they end. It
 /// takes no memory.
-fn gather(start: Place, bytes: &mut [u8], from: usize) -> usize
+fn gather(start: ChunkPlace, bytes: &mut [u8], from: usize) -> usize
     requires { from ≤ length bytes.old }
     ensures within { result ≤ length bytes.new }
     ensures len { length bytes.new ≡ length bytes.old }
@@ -117,7 +118,7 @@ fn gather(start: Place, bytes: &mut [u8], from: usize) -> usize
 }
 
 /// Keeps of the whole elements behind the first `from` bytes their data alone.
-pub fn keep_whole(start: Place, out: &mut Vec<u8>, from: usize)
+pub fn keep_whole(start: ChunkPlace, out: &mut Vec<u8>, from: usize)
     requires { from ≤ vec_len out.old }
     ensures { (data_bytes : List ℕ) → AreWhole start (drop from out.old.items) data_bytes → out.new.items ≡ take from out.old.items ++ data_bytes }
 {
@@ -132,7 +133,7 @@ pub fn data_of_whole(raw: Text) -> Result<Text, Mem>
 {
     match raw.into_vec() {
         Ok(mut bytes) => {
-            keep_whole(Place::Size, &mut bytes, 0);
+            keep_whole(ChunkPlace::Size, &mut bytes, 0);
             Ok(Text::from_vec(bytes))
         }
         Err(_) => Err(Mem),

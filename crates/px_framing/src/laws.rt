@@ -1,7 +1,7 @@
 // Laws of bodies.
 ghost use Rattle.std.specs.Prelude.{◌≡◌, List, ℕ, length};
 ghost use Rattle.px_framing.specs.Body.{Body, Part};
-ghost use Rattle.px_framing.specs.Reading.{After, IsSettled, Reading, first, goes_on, stage_state};
+ghost use Rattle.px_framing.specs.Reading.{ReaderAfter, IsSettled, Reading, first, goes_on, stage_state};
 ghost use Rattle.px_framing.specs.declared.rules.BodyRule.{BodyRule};
 
 use crate::places::State;
@@ -17,7 +17,7 @@ pub fn constants()
 /// However bytes are cut into pieces, they have one raw, one plain, one count of used bytes and one state.
 pub fn cuts_agree()
     ensures { (rule : BodyRule) (bytes raw raw' plain plain' : List ℕ) (count count' : ℕ) (r r' : Reading)
-        → After rule bytes raw plain count r → After rule bytes raw' plain' count' r' → IsSettled r → IsSettled r'
+        → ReaderAfter rule bytes raw plain count r → ReaderAfter rule bytes raw' plain' count' r' → IsSettled r → IsSettled r'
         → (raw ≡ raw') × (plain ≡ plain') × (count ≡ count') × (stage_state r.stage ≡ stage_state r'.stage) }
 {}
 
@@ -39,6 +39,6 @@ pub fn body_is_read()
 
 /// What a reader that was fed bytes has put out, and how it stands, is what is said of them.
 pub fn read_is_said()
-    ensures { (rule : BodyRule) (bytes raw plain : List ℕ) (count : ℕ) (r : Reading) → After rule bytes raw plain count r → IsSettled r
+    ensures { (rule : BodyRule) (bytes raw plain : List ℕ) (count : ℕ) (r : Reading) → ReaderAfter rule bytes raw plain count r → IsSettled r
         → Body rule bytes (record { raw = raw; plain = plain; used = count; state = stage_state r.stage }) }
 {}

@@ -2,7 +2,7 @@
 //! any pieces.
 //!
 //! Words for how far a body is read, from the inside out:
-//! - `Verdict`: what a byte makes of a line. `Place`: what comes next in a chunked body.
+//! - `Verdict`: what a byte makes of a line. `ChunkPlace`: what comes next in a chunked body.
 //! - `Gone`: a step in a piece of a chunked body. `Reach`: all steps in it. `Far`: a piece of any body.
 //! - `Stage`: what a body may still take. `State`: how it stands.
 //! - `Fed`, `Passed`: what a call of the reader answers.
@@ -25,7 +25,7 @@ mod stages;
 pub use codings::{codings as transfer_codings, is_chunked_alone};
 pub use extracts::data_of_whole;
 pub use laws::{body_is_one, body_is_read, constants, cuts_agree, raw_is_whole, read_is_said};
-pub use places::{Place, State};
+pub use places::{ChunkPlace, State};
 pub use readers::{BodyReader, Fed, Passed};
 pub use rules::{BodyFault, BodyRule, request_body, response_body};
 pub use stages::Stage;

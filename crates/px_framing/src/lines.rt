@@ -4,12 +4,13 @@ ghost use Rattle.std.specs.Char.{digit_value};
 ghost use Rattle.std.specs.List.{list_all};
 ghost use Rattle.std.specs.Str.Parse.{digits_value};
 ghost use Rattle.px_base.specs.Blanks.{is_blank};
-ghost use Rattle.px_framing.specs.Lines.{after, after_size, behind_while, crlf, front_while, is_extension, is_hex, is_plain, may_stand, size_of, IsOpen};
+ghost use Rattle.px_framing.specs.Lines.{place_after_line, after_size, behind_while, front_while, is_extension, is_hex, is_line_byte, may_stand, size_of, IsOpen};
 ghost use Rattle.px_framing.specs.Passing.{IsLineAt};
 ghost use Rattle.px_framing.specs.Reading.{ends_in_cr, verdict_of};
+ghost use Rattle.px_head.specs.Prints.{crlf};
 
 use crate::LINE_LIMIT;
-use crate::places::{Place, Verdict};
+use crate::places::{ChunkPlace, Verdict};
 use memchr::memchr;
 use px_base::is_blank;
 
@@ -37,13 +38,13 @@ fn hex_digit(byte: u8) -> Option<u64>
 
 /// Any byte but CR, LF and NUL.
 fn is_plain_byte(byte: u8) -> bool
-    ensures { result ≡ is_plain byte }
+    ensures { result ≡ is_line_byte byte }
 {
     byte != b'\r' && byte != b'\n' && byte != 0
 }
 
 fn all_plain(bytes: &[u8]) -> bool
-    ensures { result ≡ list_all is_plain bytes.now }
+    ensures { result ≡ list_all is_line_byte bytes.now }
 {
     bytes.iter().all(|byte| is_plain_byte(*byte))
 }
@@ -112,23 +113,23 @@ fn read_size(text: &[u8]) -> Option<u64>
 }
 
 /// What comes after a size line of that size.
-fn place_after_size(size: u64) -> Place
+fn place_after_size(size: u64) -> ChunkPlace
     ensures { result ≡ after_size (Some size) }
 {
     if size == 0 {
-        Place::Trailers(0)
+        ChunkPlace::Trailers(0)
     } else {
-        Place::Data(size)
+        ChunkPlace::Data(size)
     }
 }
 
 /// What comes after the line, if it may stand there.
-#[tactic(auto, unfolding(crate::specs::Lines::may_stand, crate::specs::Lines::after))]
-pub fn next_place(place: Place, text: &[u8]) -> Option<Place>
-    ensures { MatchOption result (may_stand place text.now ≡ false) (λ next. IsTrue (may_stand place text.now) × (next ≡ after place text.now)) }
+#[tactic(auto, unfolding(crate::specs::Lines::may_stand, crate::specs::Lines::place_after_line))]
+pub fn next_place(place: ChunkPlace, text: &[u8]) -> Option<ChunkPlace>
+    ensures { MatchOption result (may_stand place text.now ≡ false) (λ next. IsTrue (may_stand place text.now) × (next ≡ place_after_line place text.now)) }
 {
     match place {
-        Place::Size => match read_size(text) {
+        ChunkPlace::Size => match read_size(text) {
             Some(size) => {
                 if text.len() > SIZE_TEXT {
                     None
@@ -138,25 +139,25 @@ pub fn next_place(place: Place, text: &[u8]) -> Option<Place>
             }
             None => None,
         },
-        Place::Gap => {
+        ChunkPlace::Gap => {
             if text.is_empty() {
-                Some(Place::Size)
+                Some(ChunkPlace::Size)
             } else {
                 None
             }
         }
-        Place::Trailers(before) => {
+        ChunkPlace::Trailers(before) => {
             if text.is_empty() {
-                Some(Place::Done)
+                Some(ChunkPlace::Done)
             } else if fits_trailers(before, text.len()) && all_plain(text) {
-                Some(Place::Trailers(before + text.len() + 2))
+                Some(ChunkPlace::Trailers(before + text.len() + 2))
             } else {
                 None
             }
         }
-        Place::Data(_) => None,
-        Place::Done => None,
-        Place::Wrong => None,
+        ChunkPlace::Data(_) => None,
+        ChunkPlace::Done => None,
+        ChunkPlace::Wrong => None,
     }
 }
 
@@ -170,19 +171,19 @@ fn fits_trailers(before: usize, len: usize) -> bool
 /// Whether these bytes are the text of a line, where all but the last are or are none. Among the trailers it looks at the
 /// last byte alone.
 #[tactic(auto, unfolding(crate::specs::Lines::may_stand))]
-fn grows(place: Place, front: &[u8], last: u8, bytes: &[u8]) -> bool
+fn grows(place: ChunkPlace, front: &[u8], last: u8, bytes: &[u8]) -> bool
     requires whole { bytes.now ≡ front.now ++ last ∷ [] }
     requires begun { IsOpen place front.now }
     requires no_cr { (t : List ℕ) → front.now ≡ t ++ 13 ∷ [] → ⊥ }
     ensures { result ≡ may_stand place bytes.now }
 {
     match place {
-        Place::Trailers(before) => is_plain_byte(last) && fits_trailers(before, bytes.len()),
-        Place::Size => next_place(place, bytes).is_some(),
-        Place::Gap => next_place(place, bytes).is_some(),
-        Place::Data(_) => false,
-        Place::Done => false,
-        Place::Wrong => false,
+        ChunkPlace::Trailers(before) => is_plain_byte(last) && fits_trailers(before, bytes.len()),
+        ChunkPlace::Size => next_place(place, bytes).is_some(),
+        ChunkPlace::Gap => next_place(place, bytes).is_some(),
+        ChunkPlace::Data(_) => false,
+        ChunkPlace::Done => false,
+        ChunkPlace::Wrong => false,
     }
 }
 
@@ -206,7 +207,7 @@ pub fn front(bytes: &[u8], most: u64) -> &[u8]
 
 /// What the last byte makes of a line.
 #[tactic(auto, unfolding(crate::specs::Reading::verdict_of))]
-pub fn judge(place: Place, front: &[u8], last: u8, bytes: &[u8]) -> Verdict
+pub fn judge(place: ChunkPlace, front: &[u8], last: u8, bytes: &[u8]) -> Verdict
     requires whole { bytes.now ≡ front.now ++ last ∷ [] }
     requires begun { IsOpen place front.now }
     ensures { result ≡ verdict_of place front.now last }
@@ -234,9 +235,9 @@ pub fn judge(place: Place, front: &[u8], last: u8, bytes: &[u8]) -> Verdict
 
 /// A whole line at the front of bytes: the length of its text, and what comes after it.
 #[derive(Clone, Copy)]
-pub struct Line {
+pub struct WholeLine {
     pub text_len: usize,
-    pub next: Place,
+    pub next: ChunkPlace,
 }
 
 /// Whether the bytes begin with CRLF.
@@ -247,8 +248,8 @@ pub fn begins_with_line_end(bytes: &[u8]) -> bool
 }
 
 /// The size line of digits alone at the front of the bytes, if there is one.
-fn plain_size_line(bytes: &[u8]) -> Option<Line>
-    ensures { IfSome result (λ line. IsLineAt Place.Size bytes.now line) }
+fn plain_size_line(bytes: &[u8]) -> Option<WholeLine>
+    ensures { IfSome result (λ line. IsLineAt ChunkPlace.Size bytes.now line) }
 {
     match digits_at(bytes) {
         Some(digits) => {
@@ -256,7 +257,7 @@ fn plain_size_line(bytes: &[u8]) -> Option<Line>
                 return None;
             }
             if begins_with_line_end(&bytes[digits.len..]) {
-                Some(Line {
+                Some(WholeLine {
                     text_len: digits.len,
                     next: place_after_size(digits.value),
                 })
@@ -269,7 +270,7 @@ fn plain_size_line(bytes: &[u8]) -> Option<Line>
 }
 
 /// The whole line that may stand there at the front of the bytes, if there is one, by the first LF.
-fn line_to_lf(place: Place, bytes: &[u8]) -> Option<Line>
+fn line_to_lf(place: ChunkPlace, bytes: &[u8]) -> Option<WholeLine>
     ensures { IfSome result (λ line. IsLineAt place bytes.now line) }
 {
     match memchr(b'\n', front(bytes, LINE_LIMIT as u64)) {
@@ -278,7 +279,7 @@ fn line_to_lf(place: Place, bytes: &[u8]) -> Option<Line>
                 return None;
             }
             match next_place(place, &bytes[..at - 1]) {
-                Some(next) => Some(Line {
+                Some(next) => Some(WholeLine {
                     text_len: at - 1,
                     next,
                 }),
@@ -290,18 +291,18 @@ fn line_to_lf(place: Place, bytes: &[u8]) -> Option<Line>
 }
 
 /// The whole line that may stand there at the front of the bytes, if there is one.
-pub fn line_at(place: Place, bytes: &[u8]) -> Option<Line>
+pub fn line_at(place: ChunkPlace, bytes: &[u8]) -> Option<WholeLine>
     ensures { IfSome result (λ line. IsLineAt place bytes.now line) }
 {
     match place {
-        Place::Size => match plain_size_line(bytes) {
+        ChunkPlace::Size => match plain_size_line(bytes) {
             Some(line) => Some(line),
-            None => line_to_lf(Place::Size, bytes),
+            None => line_to_lf(ChunkPlace::Size, bytes),
         },
-        Place::Gap => line_to_lf(place, bytes),
-        Place::Trailers(_) => line_to_lf(place, bytes),
-        Place::Data(_) => None,
-        Place::Done => None,
-        Place::Wrong => None,
+        ChunkPlace::Gap => line_to_lf(place, bytes),
+        ChunkPlace::Trailers(_) => line_to_lf(place, bytes),
+        ChunkPlace::Data(_) => None,
+        ChunkPlace::Done => None,
+        ChunkPlace::Wrong => None,
     }
 }

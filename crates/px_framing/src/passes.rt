@@ -7,33 +7,33 @@ ghost use Rattle.px_framing.specs.Passing.{Goes, StepsOn, settled};
 
 use crate::advances::append;
 use crate::lines::{begins_with_line_end, judge, line_at};
-use crate::places::{Place, Verdict};
+use crate::places::{ChunkPlace, Verdict};
 
 /// A step in a piece: how many bytes it took, whether a whole element ends with them, and what comes next.
 #[derive(Clone, Copy)]
 pub struct Gone {
     pub used: usize,
     pub ends: bool,
-    pub next: Place,
+    pub next: ChunkPlace,
 }
 
 /// Passes the last bytes of data of a chunk, and with them the CRLF behind them where it is there whole.
 fn pass_last_data(len: usize, rest: &[u8]) -> Gone
     requires some { 0 < len }
     requires within { len ≤ length rest.now }
-    ensures { StepsOn (Place.Data len) [] rest.now result [] }
+    ensures { StepsOn (ChunkPlace.Data len) [] rest.now result [] }
 {
     if begins_with_line_end(&rest[len..]) {
         Gone {
             used: len + 2,
             ends: true,
-            next: Place::Size,
+            next: ChunkPlace::Size,
         }
     } else {
         Gone {
             used: len,
             ends: true,
-            next: Place::Gap,
+            next: ChunkPlace::Gap,
         }
     }
 }
@@ -42,7 +42,7 @@ fn pass_last_data(len: usize, rest: &[u8]) -> Gone
 fn pass_data(left: u64, rest: &[u8]) -> Gone
     requires some { 0 < length rest.now }
     requires left { 0 < left }
-    ensures { StepsOn (Place.Data left) [] rest.now result [] }
+    ensures { StepsOn (ChunkPlace.Data left) [] rest.now result [] }
 {
     if left <= rest.len() as u64 {
         pass_last_data(left as usize, rest)
@@ -50,13 +50,13 @@ fn pass_data(left: u64, rest: &[u8]) -> Gone
         Gone {
             used: rest.len(),
             ends: true,
-            next: Place::Data(left - rest.len() as u64),
+            next: ChunkPlace::Data(left - rest.len() as u64),
         }
     }
 }
 
 /// Passes a byte of a line.
-fn pass_byte(place: Place, kept: &mut Vec<u8>, byte: u8) -> Gone
+fn pass_byte(place: ChunkPlace, kept: &mut Vec<u8>, byte: u8) -> Gone
     requires line { is_line place ≡ true }
     requires held { IsOpen place kept.old.items }
     requires kept { Room kept.old 1 }
@@ -84,14 +84,14 @@ fn pass_byte(place: Place, kept: &mut Vec<u8>, byte: u8) -> Gone
             Gone {
                 used: 1,
                 ends: false,
-                next: Place::Wrong,
+                next: ChunkPlace::Wrong,
             }
         }
     }
 }
 
 /// Passes a whole line or a byte of one.
-fn pass_line(place: Place, kept: &mut Vec<u8>, rest: &[u8]) -> Gone
+fn pass_line(place: ChunkPlace, kept: &mut Vec<u8>, rest: &[u8]) -> Gone
     requires some { 0 < length rest.now }
     requires line { is_line place ≡ true }
     requires held { IsOpen place kept.old.items }
@@ -117,24 +117,24 @@ fn pass_line(place: Place, kept: &mut Vec<u8>, rest: &[u8]) -> Gone
 /// Passes the CRLF behind the data, or a byte of it.
 fn pass_gap(kept: &mut Vec<u8>, rest: &[u8]) -> Gone
     requires some { 0 < length rest.now }
-    requires held { IsOpen Place.Gap kept.old.items }
+    requires held { IsOpen ChunkPlace.Gap kept.old.items }
     requires kept { Room kept.old 1 }
-    ensures step { StepsOn Place.Gap kept.old.items rest.now result kept.new.items }
+    ensures step { StepsOn ChunkPlace.Gap kept.old.items rest.now result kept.new.items }
     ensures kept_room { vec_capacity kept.old ≤ vec_capacity kept.new }
 {
     if kept.is_empty() && begins_with_line_end(rest) {
         Gone {
             used: 2,
             ends: true,
-            next: Place::Size,
+            next: ChunkPlace::Size,
         }
     } else {
-        pass_byte(Place::Gap, kept, rest[0])
+        pass_byte(ChunkPlace::Gap, kept, rest[0])
     }
 }
 
 /// Passes a run of data, a whole line or a byte of one.
-fn pass_some(place: Place, kept: &mut Vec<u8>, rest: &[u8]) -> Gone
+fn pass_some(place: ChunkPlace, kept: &mut Vec<u8>, rest: &[u8]) -> Gone
     requires some { 0 < length rest.now }
     requires more { is_last place ≡ false }
     requires held { IsHeld place kept.old.items }
@@ -143,12 +143,12 @@ fn pass_some(place: Place, kept: &mut Vec<u8>, rest: &[u8]) -> Gone
     ensures kept_room { vec_capacity kept.old ≤ vec_capacity kept.new }
 {
     match place {
-        Place::Data(left) => pass_data(left, rest),
-        Place::Size => pass_line(place, kept, rest),
-        Place::Gap => pass_gap(kept, rest),
-        Place::Trailers(_) => pass_line(place, kept, rest),
-        Place::Done => unreachable!(),
-        Place::Wrong => unreachable!(),
+        ChunkPlace::Data(left) => pass_data(left, rest),
+        ChunkPlace::Size => pass_line(place, kept, rest),
+        ChunkPlace::Gap => pass_gap(kept, rest),
+        ChunkPlace::Trailers(_) => pass_line(place, kept, rest),
+        ChunkPlace::Done => unreachable!(),
+        ChunkPlace::Wrong => unreachable!(),
     }
 }
 
@@ -164,11 +164,11 @@ pub struct Reach {
     /// How many bytes at its front end with a whole element.
     pub whole: usize,
     pub used: usize,
-    pub next: Place,
+    pub next: ChunkPlace,
 }
 
 /// Passes a piece up to the end of the body.
-pub fn pass_piece(start: Place, kept: &mut Vec<u8>, piece: &[u8]) -> Reach
+pub fn pass_piece(start: ChunkPlace, kept: &mut Vec<u8>, piece: &[u8]) -> Reach
     requires more { is_last start ≡ false }
     requires held { IsHeld start kept.old.items }
     requires kept { min LINE_LIMIT (length kept.old.items + length piece.now) ≤ vec_capacity kept.old }
@@ -203,15 +203,15 @@ pub fn pass_piece(start: Place, kept: &mut Vec<u8>, piece: &[u8]) -> Reach
 }
 
 /// Nothing comes after this place.
-fn is_last_place(place: Place) -> bool
+fn is_last_place(place: ChunkPlace) -> bool
     ensures { result ≡ is_last place }
 {
     match place {
-        Place::Done => true,
-        Place::Wrong => true,
-        Place::Size => false,
-        Place::Data(_) => false,
-        Place::Gap => false,
-        Place::Trailers(_) => false,
+        ChunkPlace::Done => true,
+        ChunkPlace::Wrong => true,
+        ChunkPlace::Size => false,
+        ChunkPlace::Data(_) => false,
+        ChunkPlace::Gap => false,
+        ChunkPlace::Trailers(_) => false,
     }
 }

@@ -2,7 +2,7 @@
 
 /// What comes next in a chunked body.
 #[derive(Clone, Copy, Debug, PartialEq, Eq)]
-pub enum Place {
+pub enum ChunkPlace {
     /// A size line.
     Size,
     /// So many bytes of data.
@@ -36,7 +36,7 @@ pub enum Verdict {
     /// The line may go on.
     Open,
     /// The line is whole, and this comes next.
-    Line(Place),
+    Line(ChunkPlace),
     /// No line that may stand there goes on so.
     Wrong,
 }

@@ -54,13 +54,13 @@ impl Model for BodyReader {
 impl BodyReader {
     ghost use Rattle.px_framing.specs.Body.{Body, at_end};
     ghost use Rattle.px_framing.specs.declared.rules.BodyRule.{BodyRule};
-    ghost use Rattle.px_framing.specs.Reading.{After, IsSettled, Steps, added, before, first};
-    ghost use Rattle.px_framing.specs.Passing.{bytes_left, data_in, due, raw_in};
+    ghost use Rattle.px_framing.specs.Reading.{ReaderAfter, IsSettled, ReaderSteps, added, before, first};
+    ghost use Rattle.px_framing.specs.Passing.{bytes_left, data_in, due_part, raw_in};
 
     /// A reader at the start of a body, which has put out nothing. It takes no memory.
     pub fn new(alloc: Global, rule: BodyRule) -> BodyReader
         ensures first { result ≡ first rule }
-        ensures after { After rule [] [] [] 0 result }
+        ensures after { ReaderAfter rule [] [] [] 0 result }
     {
         BodyReader {
             stage: first_stage(rule),
@@ -80,8 +80,8 @@ impl BodyReader {
     /// `line`, of a line that an earlier piece began, and then the first `whole` bytes of the piece. After `Mem` nothing has
     /// changed.
     pub fn pass(&mut self, piece: &[u8], line: &mut Text) -> Result<Passed, Mem>
-        ensures steps { IfOk result (λ p. Steps self.old piece.now (added line.old line.new ++ take p.whole piece.now) (data_in self.old piece.now) p.used self.new) }
-        ensures due { IfOk result (λ p. (rest : List ℕ) → due self.old (piece.now ++ rest) ≡ before (added line.old line.new ++ take p.whole piece.now) (data_in self.old piece.now) p.used (due self.new rest)) }
+        ensures steps { IfOk result (λ p. ReaderSteps self.old piece.now (added line.old line.new ++ take p.whole piece.now) (data_in self.old piece.now) p.used self.new) }
+        ensures due { IfOk result (λ p. (rest : List ℕ) → due_part self.old (piece.now ++ rest) ≡ before (added line.old line.new ++ take p.whole piece.now) (data_in self.old piece.now) p.used (due_part self.new rest)) }
         ensures line { IfOk result (λ p. line.new ≡ line.old ++ added line.old line.new) }
         ensures short { IfOk result (λ p. length (added line.old line.new) ≤ 8192) }
         ensures whole { IfOk result (λ p. p.whole ≤ p.used) }
@@ -89,9 +89,9 @@ impl BodyReader {
         ensures used { IfOk result (λ p. Uses piece.now p.used p.state) }
         ensures left { IfOk result (λ p. p.state ≡ State.More → bytes_left self.new.stage + p.used ≡ bytes_left self.old.stage) }
         ensures stays { stage_state self.old.stage ≢ State.More → IfOk result (λ p. (p.used ≡ 0) × (self.new ≡ self.old)) }
-        ensures after { IfOk result (λ p. (rule : BodyRule) (bytes raw_put plain_put : List ℕ) (count : ℕ) → After rule bytes raw_put plain_put count self.old
-            → After rule (bytes ++ piece.now) (raw_put ++ (added line.old line.new ++ take p.whole piece.now)) (plain_put ++ data_in self.old piece.now) (count + p.used) self.new) }
-        ensures body { IfOk result (λ p. (rule : BodyRule) (bytes raw_put plain_put : List ℕ) (count : ℕ) → After rule bytes raw_put plain_put count self.old
+        ensures after { IfOk result (λ p. (rule : BodyRule) (bytes raw_put plain_put : List ℕ) (count : ℕ) → ReaderAfter rule bytes raw_put plain_put count self.old
+            → ReaderAfter rule (bytes ++ piece.now) (raw_put ++ (added line.old line.new ++ take p.whole piece.now)) (plain_put ++ data_in self.old piece.now) (count + p.used) self.new) }
+        ensures body { IfOk result (λ p. (rule : BodyRule) (bytes raw_put plain_put : List ℕ) (count : ℕ) → ReaderAfter rule bytes raw_put plain_put count self.old
             → Body rule (bytes ++ piece.now) (record { raw = raw_put ++ (added line.old line.new ++ take p.whole piece.now); plain = plain_put ++ data_in self.old piece.now; used = count + p.used; state = p.state })) }
         ensures kept { length self.new.kept ≤ 8192 }
         ensures err { OnErr result ((self.new ≡ self.old) × (line.new ≡ line.old)) }
@@ -112,8 +112,8 @@ impl BodyReader {
     /// Takes the next piece of the body: bytes of whole elements go to the end of `raw`, and their data to the end of
     /// `plain`. Once the state isn't `More` it stays, and no byte is used. After `Mem` nothing has changed.
     pub fn feed(&mut self, piece: &[u8], raw: &mut Text, plain: &mut Text) -> Result<Fed, Mem>
-        ensures steps { IfOk result (λ fed. Steps self.old piece.now (added raw.old raw.new) (added plain.old plain.new) fed.used self.new) }
-        ensures due { IfOk result (λ fed. (rest : List ℕ) → due self.old (piece.now ++ rest) ≡ before (added raw.old raw.new) (added plain.old plain.new) fed.used (due self.new rest)) }
+        ensures steps { IfOk result (λ fed. ReaderSteps self.old piece.now (added raw.old raw.new) (added plain.old plain.new) fed.used self.new) }
+        ensures due { IfOk result (λ fed. (rest : List ℕ) → due_part self.old (piece.now ++ rest) ≡ before (added raw.old raw.new) (added plain.old plain.new) fed.used (due_part self.new rest)) }
         ensures raw { IfOk result (λ fed. raw.new ≡ raw.old ++ added raw.old raw.new) }
         ensures plain { IfOk result (λ fed. plain.new ≡ plain.old ++ added plain.old plain.new) }
         ensures state { IfOk result (λ fed. fed.state ≡ stage_state self.new.stage) }
@@ -122,9 +122,9 @@ impl BodyReader {
         ensures stays { stage_state self.old.stage ≢ State.More → IfOk result (λ fed. (fed.used ≡ 0) × (self.new ≡ self.old)) }
 
         // After any list of pieces: what was put out, and how the body stands, is what is said of the whole bytes.
-        ensures after { IfOk result (λ fed. (rule : BodyRule) (bytes raw_put plain_put : List ℕ) (count : ℕ) → After rule bytes raw_put plain_put count self.old
-            → After rule (bytes ++ piece.now) (raw_put ++ added raw.old raw.new) (plain_put ++ added plain.old plain.new) (count + fed.used) self.new) }
-        ensures body { IfOk result (λ fed. (rule : BodyRule) (bytes raw_put plain_put : List ℕ) (count : ℕ) → After rule bytes raw_put plain_put count self.old
+        ensures after { IfOk result (λ fed. (rule : BodyRule) (bytes raw_put plain_put : List ℕ) (count : ℕ) → ReaderAfter rule bytes raw_put plain_put count self.old
+            → ReaderAfter rule (bytes ++ piece.now) (raw_put ++ added raw.old raw.new) (plain_put ++ added plain.old plain.new) (count + fed.used) self.new) }
+        ensures body { IfOk result (λ fed. (rule : BodyRule) (bytes raw_put plain_put : List ℕ) (count : ℕ) → ReaderAfter rule bytes raw_put plain_put count self.old
             → Body rule (bytes ++ piece.now) (record { raw = raw_put ++ added raw.old raw.new; plain = plain_put ++ added plain.old plain.new; used = count + fed.used; state = fed.state })) }
         ensures kept { length self.new.kept ≤ 8192 }
         ensures err { OnErr result ((self.new ≡ self.old) × (raw.new ≡ raw.old) × (plain.new ≡ plain.old)) }
@@ -155,16 +155,16 @@ impl BodyReader {
     /// Takes the next piece of the body, and puts its data alone at the end of `plain`. Once the state isn't `More` it stays, and
     /// no byte is used. After `Mem` nothing has changed.
     pub fn decode(&mut self, piece: &[u8], plain: &mut Text) -> Result<Fed, Mem>
-        ensures steps { IfOk result (λ fed. Steps self.old piece.now (raw_in self.old piece.now) (added plain.old plain.new) fed.used self.new) }
-        ensures due { IfOk result (λ fed. (rest : List ℕ) → due self.old (piece.now ++ rest) ≡ before (raw_in self.old piece.now) (added plain.old plain.new) fed.used (due self.new rest)) }
+        ensures steps { IfOk result (λ fed. ReaderSteps self.old piece.now (raw_in self.old piece.now) (added plain.old plain.new) fed.used self.new) }
+        ensures due { IfOk result (λ fed. (rest : List ℕ) → due_part self.old (piece.now ++ rest) ≡ before (raw_in self.old piece.now) (added plain.old plain.new) fed.used (due_part self.new rest)) }
         ensures plain { IfOk result (λ fed. plain.new ≡ plain.old ++ added plain.old plain.new) }
         ensures state { IfOk result (λ fed. fed.state ≡ stage_state self.new.stage) }
         ensures used { IfOk result (λ fed. Uses piece.now fed.used fed.state) }
         ensures left { IfOk result (λ fed. fed.state ≡ State.More → bytes_left self.new.stage + fed.used ≡ bytes_left self.old.stage) }
         ensures stays { stage_state self.old.stage ≢ State.More → IfOk result (λ fed. (fed.used ≡ 0) × (self.new ≡ self.old)) }
-        ensures after { IfOk result (λ fed. (rule : BodyRule) (bytes raw_put plain_put : List ℕ) (count : ℕ) → After rule bytes raw_put plain_put count self.old
-            → After rule (bytes ++ piece.now) (raw_put ++ raw_in self.old piece.now) (plain_put ++ added plain.old plain.new) (count + fed.used) self.new) }
-        ensures body { IfOk result (λ fed. (rule : BodyRule) (bytes raw_put plain_put : List ℕ) (count : ℕ) → After rule bytes raw_put plain_put count self.old
+        ensures after { IfOk result (λ fed. (rule : BodyRule) (bytes raw_put plain_put : List ℕ) (count : ℕ) → ReaderAfter rule bytes raw_put plain_put count self.old
+            → ReaderAfter rule (bytes ++ piece.now) (raw_put ++ raw_in self.old piece.now) (plain_put ++ added plain.old plain.new) (count + fed.used) self.new) }
+        ensures body { IfOk result (λ fed. (rule : BodyRule) (bytes raw_put plain_put : List ℕ) (count : ℕ) → ReaderAfter rule bytes raw_put plain_put count self.old
             → Body rule (bytes ++ piece.now) (record { raw = raw_put ++ raw_in self.old piece.now; plain = plain_put ++ added plain.old plain.new; used = count + fed.used; state = fed.state })) }
         ensures kept { length self.new.kept ≤ 8192 }
         ensures err { OnErr result ((self.new ≡ self.old) × (plain.new ≡ plain.old)) }
@@ -188,9 +188,9 @@ impl BodyReader {
     /// Takes the end of the bytes: a body to the close is whole, and any other that isn't is cut. It takes no memory.
     pub fn end(&mut self) -> State
         ensures state { result ≡ end_state_spec self.old.stage }
-        ensures due { result ≡ (due self.old []).state }
+        ensures due { result ≡ (due_part self.old []).state }
         ensures ended { self.new ≡ record { stage = Stage.Ended result; kept = [] } }
-        ensures by_rule { (rule : BodyRule) (bytes raw plain : List ℕ) (count : ℕ) → After rule bytes raw plain count self.old → result ≡ at_end rule (stage_state self.old.stage) }
+        ensures by_rule { (rule : BodyRule) (bytes raw plain : List ℕ) (count : ℕ) → ReaderAfter rule bytes raw plain count self.old → result ≡ at_end rule (stage_state self.old.stage) }
     {
         let state = end_state(self.stage);
         self.stage = Stage::Ended(state);

@@ -1,7 +1,7 @@
 // By which rule a body is read.
 ghost use Rattle.std.specs.Prelude.{◌≡◌};
-ghost use Rattle.px_framing.specs.Rules.{are_chunked, codings_name, codings_of, end_chunked, fault_name, fault_number, is_bodiless as is_bodiless_spec, items_of, length_rule, lengths, lengths_name, request_rule, response_rule, stands as stands_spec, values};
-ghost use Rattle.px_framing.specs.Seen.{by_lengths as by_lengths_spec, field_seen, length_field, length_seen, seen_all, seen_one};
+ghost use Rattle.px_framing.specs.Rules.{are_chunked, codings_name, codings_of, end_chunked, body_fault_name, body_fault_number, is_bodiless as is_bodiless_spec, items_of, length_rule, lengths, lengths_name, request_rule, response_rule, has_values as stands_spec, field_values};
+ghost use Rattle.px_framing.specs.Seen.{by_lengths as by_lengths_spec, field_seen, with_length_field, length_seen, seen_all, seen_one};
 
 use crate::BODY_LIMIT;
 use px_base::{cut, read_decimal, same_without_case, trim};
@@ -38,7 +38,7 @@ pub enum BodyFault {
 impl BodyFault {
     /// The number of the refusal.
     pub fn number(self) -> u8
-        ensures { result ≡ fault_number self }
+        ensures { result ≡ body_fault_number self }
     {
         match self {
             BodyFault::TwoLengths => 37,
@@ -50,7 +50,7 @@ impl BodyFault {
 
     /// The name of the refusal.
     pub fn name(self) -> &'static str
-        ensures { result.now ≡ fault_name self }
+        ensures { result.now ≡ body_fault_name self }
     {
         match self {
             BodyFault::TwoLengths => "TwoLengths",
@@ -63,9 +63,9 @@ impl BodyFault {
 
 impl fmt::Display for BodyFault {
     ghost use Rattle.std.specs.Prelude.{Some};
-    ghost use Rattle.px_framing.specs.Rules.{fault_name};
+    ghost use Rattle.px_framing.specs.Rules.{body_fault_name};
 
-    ghost output = { λ fault. Some (fault_name fault) };
+    ghost output = { λ fault. Some (body_fault_name fault) };
 
     fn fmt<W: fmt::Write>(&self, f: &mut fmt::Formatter<W>) -> fmt::Result {
         let name = self.name();
@@ -132,7 +132,7 @@ fn is_bodiless(status: u16, method: &[u8]) -> bool
 
 /// Whether a field of that name stands.
 fn stands(fields: &[Field], name: &[u8]) -> bool
-    ensures { result ≡ stands_spec (values name.now fields.now) }
+    ensures { result ≡ stands_spec (field_values name.now fields.now) }
 {
     for field in fields {
         if has_name(field, name) {
@@ -144,18 +144,18 @@ fn stands(fields: &[Field], name: &[u8]) -> bool
 
 /// What codings were seen: whether there were any, whether they are `chunked` alone, and whether the last is `chunked`.
 #[derive(Clone, Copy)]
-pub struct Seen {
+pub struct CodingsSeen {
     pub any: bool,
     pub alone: bool,
     pub last: bool,
 }
 
 /// Reads the codings of all Transfer-Encoding fields.
-pub fn read_codings(fields: &[Field]) -> Seen
+pub fn read_codings(fields: &[Field]) -> CodingsSeen
     ensures alone { result.alone ≡ are_chunked (codings_of fields.now) }
     ensures last { result.last ≡ end_chunked (codings_of fields.now) }
 {
-    let mut seen = Seen {
+    let mut seen = CodingsSeen {
         any: false,
         alone: false,
         last: false,
@@ -167,7 +167,7 @@ pub fn read_codings(fields: &[Field]) -> Seen
 }
 
 /// Goes on with the codings of one field.
-fn read_field(field: &Field, seen: Seen) -> Seen
+fn read_field(field: &Field, seen: CodingsSeen) -> CodingsSeen
     ensures { result ≡ field_seen seen field.now }
 {
     if has_name(field, b"Transfer-Encoding") {
@@ -178,7 +178,7 @@ fn read_field(field: &Field, seen: Seen) -> Seen
 }
 
 /// Goes on with the codings of a list.
-fn read_items(value: &[u8], seen: Seen) -> Seen
+fn read_items(value: &[u8], seen: CodingsSeen) -> CodingsSeen
     ensures { result ≡ seen_all seen (items_of value.now) }
 {
     let mut seen = seen;
@@ -195,11 +195,11 @@ fn read_items(value: &[u8], seen: Seen) -> Seen
 }
 
 /// Goes on with one coding.
-fn read_coding(coding: &[u8], seen: Seen) -> Seen
+fn read_coding(coding: &[u8], seen: CodingsSeen) -> CodingsSeen
     ensures { result ≡ seen_one seen coding.now }
 {
     let chunked = same_without_case(coding, b"chunked");
-    Seen {
+    CodingsSeen {
         any: true,
         alone: !seen.any && chunked,
         last: chunked,
@@ -215,7 +215,7 @@ pub struct Lengths {
 
 /// The rule that the Content-Length fields give, and that other rule where there are none.
 fn read_lengths(fields: &[Field], other: BodyRule) -> Result<BodyRule, BodyFault>
-    ensures { result ≡ length_rule other (lengths (values lengths_name fields.now)) }
+    ensures { result ≡ length_rule other (lengths (field_values lengths_name fields.now)) }
 {
     let mut seen = Lengths {
         first: None,
@@ -232,7 +232,7 @@ fn read_lengths(fields: &[Field], other: BodyRule) -> Result<BodyRule, BodyFault
 
 /// Goes on with one field, unless its value is no length.
 fn read_length(field: &Field, seen: Lengths) -> Option<Lengths>
-    ensures { result ≡ length_field seen field.now }
+    ensures { result ≡ with_length_field seen field.now }
 {
     if has_name(field, b"Content-Length") {
         match read_decimal(field.value.as_bytes(), BODY_LIMIT) {

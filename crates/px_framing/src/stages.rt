@@ -3,7 +3,7 @@ ghost use Rattle.std.specs.Prelude.{◌≡◌, ◌==◌, if◌then◌else◌};
 ghost use Rattle.px_framing.specs.Reading.{end_state as end_state_spec, first_stage as first_stage_spec, is_ended as is_ended_spec, stage_before as stage_before_spec, stage_state};
 
 use crate::BODY_LIMIT;
-use crate::places::{Place, State};
+use crate::places::{ChunkPlace, State};
 use crate::rules::BodyRule;
 
 /// The stage of a body: what it may still take.
@@ -16,7 +16,7 @@ pub enum Stage {
     /// All bytes to the close belong to it, and it may take so many more.
     Rest(u64),
     /// It is chunked, stands at that place, and may take so many more bytes.
-    Chunks(Place, u64),
+    Chunks(ChunkPlace, u64),
 }
 
 /// How a body at that stage stands.
@@ -56,27 +56,27 @@ pub fn first_stage(rule: BodyRule) -> Stage
                 Stage::Bytes(len)
             }
         }
-        BodyRule::Chunked => Stage::Chunks(Place::Size, BODY_LIMIT),
+        BodyRule::Chunked => Stage::Chunks(ChunkPlace::Size, BODY_LIMIT),
         BodyRule::ToClose => Stage::Rest(BODY_LIMIT),
     }
 }
 
 /// The stage of a chunked body that stands before that place and may take so many more bytes.
-pub fn stage_before(place: Place, room: u64) -> Stage
+pub fn stage_before(place: ChunkPlace, room: u64) -> Stage
     ensures { result ≡ stage_before_spec place room }
 {
     match place {
-        Place::Done => Stage::Ended(State::Whole),
-        Place::Wrong => Stage::Ended(State::Misframed),
-        Place::Size => chunks(place, room),
-        Place::Data(_) => chunks(place, room),
-        Place::Gap => chunks(place, room),
-        Place::Trailers(_) => chunks(place, room),
+        ChunkPlace::Done => Stage::Ended(State::Whole),
+        ChunkPlace::Wrong => Stage::Ended(State::Misframed),
+        ChunkPlace::Size => chunks(place, room),
+        ChunkPlace::Data(_) => chunks(place, room),
+        ChunkPlace::Gap => chunks(place, room),
+        ChunkPlace::Trailers(_) => chunks(place, room),
     }
 }
 
 /// The stage of a chunked body that goes on, unless it may take no more bytes.
-fn chunks(place: Place, room: u64) -> Stage
+fn chunks(place: ChunkPlace, room: u64) -> Stage
     ensures { result ≡ (if room == 0 then Stage.Ended State.Cut else Stage.Chunks place room) }
 {
     if room == 0 {

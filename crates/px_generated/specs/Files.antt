@@ -13,12 +13,12 @@ update_of kind =
     else codes "-block"
 
 -- a host and a path with numbers in them, of which patterns and requests are made
-unfoldable pub place : ℕ → ℕ → List ℕ
-place host path = codes "h" ++ decimal host ++ codes ".test/p" ++ decimal path
+unfoldable pub host_and_path : ℕ → ℕ → List ℕ
+host_and_path host path = codes "h" ++ decimal host ++ codes ".test/p" ++ decimal path
 
 -- a section of one update and one pattern
 unfoldable pub section : ℕ → ℕ → ℕ → List ℕ
-section host path kind = codes "{" ++ update_of kind ++ codes "}\n." ++ place host path ++ codes "\n"
+section host path kind = codes "{" ++ update_of kind ++ codes "}\n." ++ host_and_path host path ++ codes "\n"
 
 -- the section that three draws from x on make
 unfoldable pub section_from : ℕ → List ℕ

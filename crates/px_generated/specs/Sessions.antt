@@ -5,12 +5,12 @@ use Rattle.std.specs.List.{flat_map, range_with_len}
 use Rattle.px_base.specs.declared.dials.Answer.{Answer}
 use Rattle.px_base.specs.declared.dials.Answer.TheVariants as answer
 use Rattle.px_generated.specs.Draws.{after_draws, first_draw, second_draw, third_draw}
-use Rattle.px_generated.specs.Files.{place}
+use Rattle.px_generated.specs.Files.{host_and_path}
 use Rattle.px_generated.specs.declared.sessions.JobSession.{JobSession}
 
 -- a request for a host and a path
-unfoldable pub request : ℕ → ℕ → List ℕ
-request host path = codes "GET http://" ++ place host path ++ codes " HTTP/1.1\r\n\r\n"
+unfoldable pub generated_request : ℕ → ℕ → List ℕ
+generated_request host path = codes "GET http://" ++ host_and_path host path ++ codes " HTTP/1.1\r\n\r\n"
 
 -- what stands in an answer before its length
 unfoldable pub answer_front : List ℕ
@@ -26,7 +26,7 @@ plain_link bytes = answer.Link bytes [] [] []
 
 -- the request, and the answer to it, that three draws from x on make
 unfoldable pub request_from : ℕ → List ℕ
-request_from x = request (first_draw 100 x) (second_draw 50 x)
+request_from x = generated_request (first_draw 100 x) (second_draw 50 x)
 
 unfoldable pub answer_from : ℕ → Answer
 answer_from x = plain_link (answer_bytes (third_draw 2000 x))

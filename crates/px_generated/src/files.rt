@@ -1,7 +1,7 @@
 // The files of the job.
 ghost use Rattle.std.specs.Prelude.{◌≡◌, ◌++◌, IfOk, OnOk, OnErr};
 ghost use Rattle.px_generated.specs.Draws.{after_draws};
-ghost use Rattle.px_generated.specs.Files.{files_from, files_with, place, section, section_from, sections, update_of};
+ghost use Rattle.px_generated.specs.Files.{files_from, files_with, host_and_path, section, section_from, sections, update_of};
 
 use crate::Draws;
 use itoa::Buffer;
@@ -102,9 +102,9 @@ fn update(kind: u32) -> &'static [u8]
 }
 
 /// Adds a host and a path, with their numbers in decimal.
-#[tactic(auto, unfolding(crate::specs::Files::place))]
+#[tactic(auto, unfolding(crate::specs::Files::host_and_path))]
 pub fn push_place(out: &mut Text, host: u32, path: u32) -> Result<(), Mem>
-    ensures { OnOk result (out.new ≡ out.old ++ place host path) }
+    ensures { OnOk result (out.new ≡ out.old ++ host_and_path host path) }
 {
     out.push_all(b"h")?;
     out.push_all(Buffer::new().format(host).as_bytes())?;

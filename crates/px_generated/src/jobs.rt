@@ -26,21 +26,21 @@ pub fn sessions_in_order()
 
 /// The files of a job, and the draws that its ten sessions go on from, by `job_session`.
 #[derive(Drop)]
-pub struct Job {
+pub struct GeneratedJob {
     /// Names and contents, the main file first.
     pub files: List<(Text, Text)>,
     pub draws: Draws,
 }
 
-impl Job {
+impl GeneratedJob {
     /// The job of a number, before its first session.
     #[tactic(auto, unfolding(crate::specs::Jobs::draws_before))]
-    pub fn new(alloc: Global, seed: u32) -> Result<Job, Mem>
+    pub fn new(alloc: Global, seed: u32) -> Result<GeneratedJob, Mem>
         ensures files { IfOk result (λ job. job.files ≡ files_from seed) }
         ensures draws { IfOk result (λ job. job.draws ≡ draws_before 0 seed) }
     {
         let mut draws = Draws::new(seed);
         let files = job_files(alloc, &mut draws)?;
-        Ok(Job { files, draws })
+        Ok(GeneratedJob { files, draws })
     }
 }

@@ -10,5 +10,5 @@ mod sessions;
 
 pub use draws::Draws;
 pub use files::{MAIN_FILE, job_files};
-pub use jobs::{Job, SESSIONS, constants, sessions_in_order};
+pub use jobs::{GeneratedJob, SESSIONS, constants, sessions_in_order};
 pub use sessions::{JobSession, job_session};

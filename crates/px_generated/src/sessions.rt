@@ -1,7 +1,7 @@
 // A session of the job: what its client sends, and what its dials give.
 ghost use Rattle.std.specs.Prelude.{◌≡◌, ◌++◌, ◌∷◌, [], ℕ, ◌+◌, IfOk, OnOk, OnErr};
 ghost use Rattle.px_generated.specs.Draws.{after_draws};
-ghost use Rattle.px_generated.specs.Sessions.{answer_bytes, answer_from, answers, plain_link, request, request_from, requests, session_from};
+ghost use Rattle.px_generated.specs.Sessions.{answer_bytes, answer_from, answers, plain_link, generated_request, request_from, requests, session_from};
 ghost use Rattle.px_generated.specs.Jobs.{draws_before, session_at};
 
 use crate::Draws;
@@ -69,9 +69,9 @@ fn push_drawn_request(alloc: Global, session: &mut JobSession, draws: &mut Draws
 }
 
 /// Adds a request for a host and a path.
-#[tactic(auto, unfolding(crate::specs::Sessions::request))]
+#[tactic(auto, unfolding(crate::specs::Sessions::generated_request))]
 fn push_request(out: &mut Text, host: u32, path: u32) -> Result<(), Mem>
-    ensures { OnOk result (out.new ≡ out.old ++ request host path) }
+    ensures { OnOk result (out.new ≡ out.old ++ generated_request host path) }
 {
     out.push_all(b"GET http://")?;
     push_place(out, host, path)?;

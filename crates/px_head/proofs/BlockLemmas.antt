@@ -7,7 +7,7 @@ use Rattle.std.proofs.lemmas.List.Elements.{All-head, All-tail, All-cons, All-ni
 use Rattle.std.proofs.lemmas.List.Folds.{concat-append}
 use Rattle.std.proofs.lemmas.List.Sums.{sum_by-cons}
 use Rattle.std.proofs.Math.Seq.{take-append_seam, take-append-add}
-use Rattle.px_head.specs.Blocks.{lines_of, is_empty_line, up_to_empty, block_of, block_len, end_of, head_end, EndsWithin, IsLine, IsHeadBlock}
+use Rattle.px_head.specs.Blocks.{whole_lines, is_empty_line, up_to_empty, block_of, block_len, head_block_end, head_end, EndsWithin, IsLine, IsHeadBlock}
 use Rattle.px_head.specs.declared.blocks.HeadEnd.{HeadEnd}
 use Rattle.px_head.specs.declared.blocks.HeadEnd.TheVariants.{At, NotYet, Over}
 use Rattle.px_head.proofs.LineLemmas.{AreLines, are-lines, lines-line, lines-concat}
@@ -186,27 +186,27 @@ has-block-at bytes ls (Some b) n are later e =
 
 pub has-block : (bytes : List ℕ) (n : ℕ) → block_len bytes ≡ Some n → HasBlock bytes n
 unfolding block_len
-has-block bytes n e = has-block-at bytes (lines_of bytes) (block_of (lines_of bytes)) n (are-lines bytes) (λ b is. block-of (lines_of bytes) b is) e
+has-block bytes n e = has-block-at bytes (whole_lines bytes) (block_of (whole_lines bytes)) n (are-lines bytes) (λ b is. block-of (whole_lines bytes) b is) e
 
 pub block-len-found : (front rest : List ℕ) → IsHeadBlock front → block_len (front ++ rest) ≡ Some (length front)
 unfolding block_len
 block-len-found front rest h =
     let blank : All IsLine h.front = λ k d l. (h.front_empty k d l).0 in
     let full : All IsLine h.lines = λ k d l. (h.lines_full k d l).0 in
-    let lines : lines_of (front ++ rest) ≡ h.front ++ (h.lines ++ h.last ∷ lines_of rest) =
+    let lines : whole_lines (front ++ rest) ≡ h.front ++ (h.lines ++ h.last ∷ whole_lines rest) =
     rw (h.bytes_are, append_assoc (concat h.front ++ concat h.lines) h.last rest, append_assoc (concat h.front) (concat h.lines) (h.last ++ rest)) (lines-concat h.front (concat h.lines ++ (h.last ++ rest)) blank
     ∙ ap (λ (xs : List (List ℕ)). h.front ++ xs) (lines-concat h.lines (h.last ++ rest) full ∙ ap (λ (xs : List (List ℕ)). h.lines ++ xs) (lines-line h.last rest h.last_empty.0))) in
-    let found = block-found h.front h.lines h.last (lines_of rest) (λ k d l. (h.front_empty k d l).1) (λ k d l. not-true _ (h.lines_full k d l).1) h.some_line h.last_empty.1 in
+    let found = block-found h.front h.lines h.last (whole_lines rest) (λ k d l. (h.front_empty k d l).1) (λ k d l. not-true _ (h.lines_full k d l).1) h.some_line h.last_empty.1 in
     rw (lines, found) (ap Some (block-len h.front h.lines h.last ∙ ap length (sym h.bytes_are)))
 
 -- the window up to the limit
 
-at-of : (o : Option ℕ) (below : Bool) (n : ℕ) → end_of o below ≡ At n → o ≡ Some n
+at-of : (o : Option ℕ) (below : Bool) (n : ℕ) → head_block_end o below ≡ At n → o ≡ Some n
 at-of (Some m) below n e = ap Some (cc)
 at-of None true n e = absurd (cc)
 at-of None false n e = absurd (cc)
 
-over-of : (o : Option ℕ) (below : Bool) → end_of o below ≡ Over → (o ≡ None) × (below ≡ false)
+over-of : (o : Option ℕ) (below : Bool) → head_block_end o below ≡ Over → (o ≡ None) × (below ≡ false)
 over-of (Some m) below e = absurd (cc)
 over-of None true e = absurd (cc)
 over-of None false e = (refl, refl)
@@ -253,7 +253,7 @@ head-end-within limit bytes (At n) e =
     (omega (arith, block-not-empty b.front b.block), omega (arith, ap length b.is, length-append b.front b.rest), b.fits)
 head-end-within limit bytes NotYet e = below-of (block_len (take limit bytes)) (length bytes) limit (ltb (length bytes) limit) refl e
   where
-    below-of : (o : Option ℕ) (n m : ℕ) (c : Bool) → ltb n m ≡ c → end_of o c ≡ NotYet → n < m
+    below-of : (o : Option ℕ) (n m : ℕ) (c : Bool) → ltb n m ≡ c → head_block_end o c ≡ NotYet → n < m
     below-of (Some k) n m c is h = absurd (cc)
     below-of None n m true is h = ltb-true n m is
     below-of None n m false is h = absurd (cc)
@@ -286,6 +286,6 @@ pub head-end-stable : (limit : ℕ) (bytes more : List ℕ) → (head_end limit 
 head-end-stable limit bytes more not_yet = stable-at limit bytes more (head_end limit bytes) refl not_yet
 
 -- what `find_head` computes
-pub head-end-is : (limit : ℕ) (bytes : List ℕ) (below : Bool) → below ≡ ltb (length bytes) limit → end_of (block_len (take limit bytes)) below ≡ head_end limit bytes
+pub head-end-is : (limit : ℕ) (bytes : List ℕ) (below : Bool) → below ≡ ltb (length bytes) limit → head_block_end (block_len (take limit bytes)) below ≡ head_end limit bytes
 unfolding head_end
 head-end-is limit bytes below e = rw e refl

@@ -3,17 +3,17 @@ use Rattle.std.proofs.Common.{◌≡◌, ℕ, zero, suc, ◌<◌, Bool, true, fa
 use Rattle.std.specs.List.{concat, list_all}
 use Rattle.std.proofs.lemmas.List.Folds.{list_all-append}
 use Rattle.std.proofs.lemmas.List.Elements.{All-head, All-tail, All-cons, All-nil}
-use Rattle.px_head.specs.Blocks.{lines_of, put, NoFeed, IsLine}
+use Rattle.px_head.specs.Blocks.{whole_lines, byte_before_lines, NoFeed, IsLine}
 
-none-at : (c d : Bool) (b : ℕ) (ls : List (List ℕ)) → IsTrue (not c && d) → (IsTrue d → ls ≡ []) → cond c ((10 ∷ []) ∷ ls) (put b ls) ≡ []
+none-at : (c d : Bool) (b : ℕ) (ls : List (List ℕ)) → IsTrue (not c && d) → (IsTrue d → ls ≡ []) → cond c ((10 ∷ []) ∷ ls) (byte_before_lines b ls) ≡ []
 none-at true d b ls n e = absurd (cc)
-none-at false d b ls n e = ap (put b) (e n)
+none-at false d b ls n e = ap (byte_before_lines b) (e n)
 
 -- bytes without LF have no whole line
-pub lines-none : (bs : List ℕ) → NoFeed bs → lines_of bs ≡ []
-unfolding lines_of
+pub lines-none : (bs : List ℕ) → NoFeed bs → whole_lines bs ≡ []
+unfolding whole_lines
 lines-none [] n = refl
-lines-none (b ∷ bs) n = none-at (b == 10) (list_all (λ b. not (b == 10)) bs) b (lines_of bs) n (λ m. lines-none bs m)
+lines-none (b ∷ bs) n = none-at (b == 10) (list_all (λ b. not (b == 10)) bs) b (whole_lines bs) n (λ m. lines-none bs m)
 
 -- what has LF nowhere
 feed-cons : (c d : Bool) → (c ≡ true → ⊥) → IsTrue d → IsTrue (not c && d)
@@ -44,23 +44,23 @@ first-line (b ∷ bs) zero l h p = record { text = []; is = ap (λ (n : ℕ). n 
 first-line (b ∷ bs) (suc k) l h p =
     line-cons b (take (suc k) bs) (h 0 (omega arith)) (first-line bs k (omega arith) (λ j i q. h (suc j) (omega arith) q) p)
 
-text-at : (c d : Bool) (b : ℕ) (l : List ℕ) (ls more : List (List ℕ)) → IsTrue (not c && d) → (IsTrue d → ls ≡ l ∷ more) → cond c ((10 ∷ []) ∷ ls) (put b ls) ≡ (b ∷ l) ∷ more
+text-at : (c d : Bool) (b : ℕ) (l : List ℕ) (ls more : List (List ℕ)) → IsTrue (not c && d) → (IsTrue d → ls ≡ l ∷ more) → cond c ((10 ∷ []) ∷ ls) (byte_before_lines b ls) ≡ (b ∷ l) ∷ more
 text-at true d b l ls more t e = absurd (cc)
-text-at false d b l ls more t e = ap (put b) (e t)
+text-at false d b l ls more t e = ap (byte_before_lines b) (e t)
 
-lines-text : (text rest : List ℕ) → NoFeed text → lines_of (text ++ 10 ∷ rest) ≡ (text ++ 10 ∷ []) ∷ lines_of rest
-unfolding lines_of
+lines-text : (text rest : List ℕ) → NoFeed text → whole_lines (text ++ 10 ∷ rest) ≡ (text ++ 10 ∷ []) ∷ whole_lines rest
+unfolding whole_lines
 lines-text [] rest t = refl
 lines-text (b ∷ text) rest t =
-    text-at (b == 10) (list_all (λ b. not (b == 10)) text) b (text ++ 10 ∷ []) (lines_of (text ++ 10 ∷ rest)) (lines_of rest) t (λ u. lines-text text rest u)
+    text-at (b == 10) (list_all (λ b. not (b == 10)) text) b (text ++ 10 ∷ []) (whole_lines (text ++ 10 ∷ rest)) (whole_lines rest) t (λ u. lines-text text rest u)
 
 -- a line stands before the lines of what follows it
-pub lines-line : (l rest : List ℕ) → IsLine l → lines_of (l ++ rest) ≡ l ∷ lines_of rest
+pub lines-line : (l rest : List ℕ) → IsLine l → whole_lines (l ++ rest) ≡ l ∷ whole_lines rest
 lines-line l rest is =
     rw is.is (rw append_assoc (lines-text is.text rest is.no_feed))
 
 -- and so do several
-pub lines-concat : (ls : List (List ℕ)) (rest : List ℕ) → All IsLine ls → lines_of (concat ls ++ rest) ≡ ls ++ lines_of rest
+pub lines-concat : (ls : List (List ℕ)) (rest : List ℕ) → All IsLine ls → whole_lines (concat ls ++ rest) ≡ ls ++ whole_lines rest
 lines-concat [] rest all = refl
 lines-concat (l ∷ ls) rest all =
     rw append_assoc (lines-line l (concat ls ++ rest) (All-head IsLine l ls all) ∙ ap (λ (xs : List (List ℕ)). l ∷ xs) (lines-concat ls rest (All-tail IsLine l ls all)))
@@ -71,7 +71,7 @@ pub record AreLines (bytes : List ℕ) (ls : List (List ℕ)) : Type 0 where
   pub rest : List ℕ
   pub is : bytes ≡ concat ls ++ rest
 
-are-put : (b : ℕ) (bs : List ℕ) (ls : List (List ℕ)) → ((b == 10) ≡ true → ⊥) → AreLines bs ls → AreLines (b ∷ bs) (put b ls)
+are-put : (b : ℕ) (bs : List ℕ) (ls : List (List ℕ)) → ((b == 10) ≡ true → ⊥) → AreLines bs ls → AreLines (b ∷ bs) (byte_before_lines b ls)
 are-put b bs [] n are = record { all = are.all; rest = b ∷ bs; is = refl }
 are-put b bs (l ∷ ls) n are =
     record {
@@ -80,7 +80,7 @@ are-put b bs (l ∷ ls) n are =
       is = ap (λ (xs : List ℕ). b ∷ xs) are.is;
     }
 
-are-at : (c : Bool) (b : ℕ) (bs : List ℕ) (ls : List (List ℕ)) → (b == 10) ≡ c → AreLines bs ls → AreLines (b ∷ bs) (cond c ((10 ∷ []) ∷ ls) (put b ls))
+are-at : (c : Bool) (b : ℕ) (bs : List ℕ) (ls : List (List ℕ)) → (b == 10) ≡ c → AreLines bs ls → AreLines (b ∷ bs) (cond c ((10 ∷ []) ∷ ls) (byte_before_lines b ls))
 are-at true b bs ls e are =
     record {
       all = All-cons IsLine (10 ∷ []) ls (record { text = []; is = refl; no_feed = refl }) are.all;
@@ -89,7 +89,7 @@ are-at true b bs ls e are =
     }
 are-at false b bs ls e are = are-put b bs ls (λ hit. absurd (cc)) are
 
-pub are-lines : (bs : List ℕ) → AreLines bs (lines_of bs)
-unfolding lines_of
+pub are-lines : (bs : List ℕ) → AreLines bs (whole_lines bs)
+unfolding whole_lines
 are-lines [] = record { all = All-nil IsLine; rest = []; is = refl }
-are-lines (b ∷ bs) = are-at (b == 10) b bs (lines_of bs) refl (are-lines bs)
+are-lines (b ∷ bs) = are-at (b == 10) b bs (whole_lines bs) refl (are-lines bs)

@@ -6,7 +6,7 @@ use Rattle.std.specs.Prelude.{◌==◌, ◌&&◌, ◌||◌, ◌≢◌, filter, s
 use Rattle.std.specs.Char.{eq_ignore_ascii_case, to_ascii_lowercase}
 use Rattle.std.specs.List.{list_any}
 use Rattle.std.specs.Str.{str_eq_ignore_ascii_case}
-use Rattle.px_head.specs.Names.{begins_with, connection_names, is_among, is_held_back_of_request, is_held_back_of_response, request_names}
+use Rattle.px_head.specs.Names.{begins_with_letter, connection_names, is_among_names, is_held_back_of_request, is_held_back_of_response, request_names}
 
 and-false : (b : Bool) → (b && false) ≡ false
 and-false true = refl
@@ -19,12 +19,12 @@ other-length (x ∷ a) [] other = refl
 other-length (x ∷ a) (y ∷ b) other = ap (λ r. eq_ignore_ascii_case x y && r) (other-length a b (λ same. other (ap suc same))) ∙ and-false _
 
 -- only those of the name's length count
-pub of-length : (names : List (List ℕ)) (name : List ℕ) (n : ℕ) → length name ≡ n → is_among names name ≡ is_among (filter (λ one. length one == n) names) name
+pub of-length : (names : List (List ℕ)) (name : List ℕ) (n : ℕ) → length name ≡ n → is_among_names names name ≡ is_among_names (filter (λ one. length one == n) names) name
 of-length [] name n is = refl
 of-length (one ∷ names) name n is =
     elim (cases_Bool (length one == n)) [
       | inl same ↦ rw same (ap (λ r. str_eq_ignore_ascii_case one name || r) (of-length names name n is))
-      | inr other ↦ rw other (ap (λ b. b || is_among names name) (other-length one name (λ same. eqb-false (length one) n other (same ∙ is))) ∙ of-length names name n is)
+      | inr other ↦ rw other (ap (λ b. b || is_among_names names name) (other-length one name (λ same. eqb-false (length one) n other (same ∙ is))) ∙ of-length names name n is)
     ]
 
 -- each name has another length
@@ -33,9 +33,9 @@ Others [] n = Unit {0}
 Others (one ∷ names) n = (length one ≢ n) × Others names n
 
 -- none of another length counts
-pub of-none : (names : List (List ℕ)) (name : List ℕ) → Others names (length name) → is_among names name ≡ false
+pub of-none : (names : List (List ℕ)) (name : List ℕ) → Others names (length name) → is_among_names names name ≡ false
 of-none [] name others = refl
-of-none (one ∷ names) name others = ap (λ b. b || is_among names name) (other-length one name others.0) ∙ of-none names name others.1
+of-none (one ∷ names) name others = ap (λ b. b || is_among_names names name) (other-length one name others.0) ∙ of-none names name others.1
 
 -- the one of its length
 pub alone : (r a all : Bool) → r ≡ a → all ≡ (a || false) → r ≡ all
@@ -50,7 +50,7 @@ second r first a all other is found = alone r a all is (found ∙ ap (λ b. b ||
 flipped : (a b : ℕ) → (a == b) ≡ false → (b == a) ≡ false
 flipped a b other = false_from_ne_true (b == a) (λ same. eqb-false a b other (sym (eqb-true b a same)))
 
-other-first : (one name : List ℕ) → begins_with name (to_ascii_lowercase (slice_index one 0)) ≡ false → str_eq_ignore_ascii_case one name ≡ false
+other-first : (one name : List ℕ) → begins_with_letter name (to_ascii_lowercase (slice_index one 0)) ≡ false → str_eq_ignore_ascii_case one name ≡ false
 other-first [] [] other = absurd (eqb-false (to_ascii_lowercase (slice_index [] 0)) (to_ascii_lowercase (slice_index [] 0)) other refl)
 other-first [] (y ∷ name) other = refl
 other-first (x ∷ one) [] other = refl
@@ -58,19 +58,19 @@ other-first (x ∷ one) (y ∷ name) other = and_left _ _ (flipped (to_ascii_low
 
 -- one of the names has that length and the first letter of this one
 abbrev pub some_begins : List (List ℕ) → ℕ → List ℕ → Bool
-some_begins names n name = list_any (λ one. length one == n && begins_with name (to_ascii_lowercase (slice_index one 0))) names
+some_begins names n name = list_any (λ one. length one == n && begins_with_letter name (to_ascii_lowercase (slice_index one 0))) names
 
-other-begin : (one name : List ℕ) (n : ℕ) → length name ≡ n → (length one == n && begins_with name (to_ascii_lowercase (slice_index one 0))) ≡ false → str_eq_ignore_ascii_case one name ≡ false
+other-begin : (one name : List ℕ) (n : ℕ) → length name ≡ n → (length one == n && begins_with_letter name (to_ascii_lowercase (slice_index one 0))) ≡ false → str_eq_ignore_ascii_case one name ≡ false
 other-begin one name n is other =
     elim (and_cases (length one == n) _ other) [
       | inl long ↦ other-length one name (λ same. eqb-false (length one) n long (same ∙ is))
       | inr letter ↦ other-first one name letter
     ]
 
-none-begins : (names : List (List ℕ)) (name : List ℕ) (n : ℕ) → length name ≡ n → some_begins names n name ≡ false → is_among names name ≡ false
+none-begins : (names : List (List ℕ)) (name : List ℕ) (n : ℕ) → length name ≡ n → some_begins names n name ≡ false → is_among_names names name ≡ false
 none-begins [] name n is other = refl
 none-begins (one ∷ names) name n is other =
-    let both = or_parts (length one == n && begins_with name (to_ascii_lowercase (slice_index one 0))) _ other in
+    let both = or_parts (length one == n && begins_with_letter name (to_ascii_lowercase (slice_index one 0))) _ other in
     or_from _ _ (other-begin one name n is both.0) (none-begins names name n is both.1)
 
 -- a name is passed on where no name that is held back has its length and its first letter
@@ -86,4 +86,4 @@ passed-whole name connection request = or_from _ _ (of-none connection_names nam
 -- what isn't held back of a request isn't of a response
 pub passed-too : (name : List ℕ) → is_held_back_of_request name ≡ false → is_held_back_of_response name ≡ false
 unfolding is_held_back_of_request is_held_back_of_response
-passed-too name is = (or_parts (is_among connection_names name) (is_among request_names name) is).0
+passed-too name is = (or_parts (is_among_names connection_names name) (is_among_names request_names name) is).0

@@ -6,7 +6,7 @@ use Rattle.std.proofs.lemmas.List.{nil_from_length}
 use Rattle.std.proofs.lemmas.List.Elements.{All-head, All-tail, All-cons, All-nil, All-append}
 use Rattle.std.proofs.lemmas.List.Folds.{concat-append}
 use Rattle.std.proofs.Math.Seq.{take-nil, take-append_seam, drop-append_seam}
-use Rattle.px_head.specs.Blocks.{lines_of, is_empty_line, up_to_empty, block_of, block_len, end_of, NoFeed, IsLine, IsEmptyLine, IsFullLine, IsHeadBlock, IsFirstLine}
+use Rattle.px_head.specs.Blocks.{whole_lines, is_empty_line, up_to_empty, block_of, block_len, head_block_end, NoFeed, IsLine, IsEmptyLine, IsFullLine, IsHeadBlock, IsFirstLine}
 use Rattle.px_head.specs.Searches.{HasPassed, Searched, BeginsSearched, SearchedOrAnew}
 use Rattle.px_head.specs.declared.searches.HeadSearch.{HeadSearch}
 use Rattle.px_head.proofs.LineLemmas.{lines-none, lines-concat, feed-join, line-behind}
@@ -109,8 +109,8 @@ no-block bytes s p all =
     let full : All IsLine p.lines = λ k d l. (p.lines_full k d l).0 in
     let whole : bytes ≡ concat p.front ++ (concat p.lines ++ p.text) =
     p.bytes_are ∙ ap (λ (xs : List ℕ). seen ++ p.text ++ xs) none ∙ append-nil (seen ++ p.text) ∙ append_assoc (concat p.front) (concat p.lines) p.text in
-    let lines : lines_of bytes ≡ p.front ++ (p.lines ++ []) =
-    ap lines_of whole ∙ lines-concat p.front (concat p.lines ++ p.text) front
+    let lines : whole_lines bytes ≡ p.front ++ (p.lines ++ []) =
+    ap whole_lines whole ∙ lines-concat p.front (concat p.lines ++ p.text) front
     ∙ ap (λ (xs : List (List ℕ)). p.front ++ xs) (lines-concat p.lines p.text full ∙ ap (λ (xs : List (List ℕ)). p.lines ++ xs) (lines-none p.text p.no_feed)) in
     rw (lines, block-none p.front p.lines p.front_empty p.lines_full) refl
 
@@ -199,7 +199,7 @@ passes-empty bytes s len n begun is =
 
 -- where a search stands behind an answer
 pub searched-or-anew : (limit : ℕ) (bytes : List ℕ) (len : Option ℕ) (below : Bool) (s : HeadSearch) → IfNone len (HasPassed (take limit bytes) s) → IfNone len (s.looked ≡ length (take limit bytes)) → IfSome len (λ _. (l : ℕ) → Searched l [] s)
-    → SearchedOrAnew limit bytes (end_of len below) s
+    → SearchedOrAnew limit bytes (head_block_end len below) s
 searched-or-anew limit bytes (Some n) below s passed looked anew = anew
 searched-or-anew limit bytes None true s passed looked anew = record { passed = passed; looked = looked }
 searched-or-anew limit bytes None false s passed looked anew = record { passed = passed; looked = looked }

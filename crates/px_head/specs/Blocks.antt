@@ -6,14 +6,14 @@ use Rattle.px_head.specs.declared.blocks.HeadEnd.{HeadEnd}
 use Rattle.px_head.specs.declared.blocks.HeadEnd.TheVariants.{At, NotYet, Over}
 
 -- the line that the byte begins, before these lines; without one it is in no whole line
-abbrev pub put : ℕ → List (List ℕ) → List (List ℕ)
-put b [] = []
-put b (l ∷ ls) = (b ∷ l) ∷ ls
+abbrev pub byte_before_lines : ℕ → List (List ℕ) → List (List ℕ)
+byte_before_lines b [] = []
+byte_before_lines b (l ∷ ls) = (b ∷ l) ∷ ls
 
 -- the whole lines of the bytes, each with its LF
-unfoldable pub lines_of : List ℕ → List (List ℕ)
-lines_of [] = []
-lines_of (b ∷ bs) = if b == 10 then (10 ∷ []) ∷ lines_of bs else put b (lines_of bs)
+unfoldable pub whole_lines : List ℕ → List (List ℕ)
+whole_lines [] = []
+whole_lines (b ∷ bs) = if b == 10 then (10 ∷ []) ∷ whole_lines bs else byte_before_lines b (whole_lines bs)
 
 -- the line is LF or CR LF
 abbrev pub is_empty_line : List ℕ → Bool
@@ -34,17 +34,17 @@ block_of (l ∷ ls) = if is_empty_line l then option_map (λ block. l ∷ block)
 
 -- the length of the block at the front of the bytes, if there is one
 unfoldable pub block_len : List ℕ → Option ℕ
-block_len bytes = option_map (λ block. sum_by length block) (block_of (lines_of bytes))
+block_len bytes = option_map (λ block. sum_by length block) (block_of (whole_lines bytes))
 
 -- where the block ends, if there is one, and whether there are fewer bytes than the limit
-abbrev pub end_of : Option ℕ → Bool → HeadEnd
-end_of (Some n) below = At n
-end_of None true = NotYet
-end_of None false = Over
+abbrev pub head_block_end : Option ℕ → Bool → HeadEnd
+head_block_end (Some n) below = At n
+head_block_end None true = NotYet
+head_block_end None false = Over
 
 -- where the block ends among the first bytes up to the limit
 unfoldable pub head_end : ℕ → List ℕ → HeadEnd
-head_end limit bytes = end_of (block_len (take limit bytes)) (nat_lt (length bytes) limit)
+head_end limit bytes = head_block_end (block_len (take limit bytes)) (nat_lt (length bytes) limit)
 
 -- a block isn't empty and ends within the bytes and the limit; one that isn't whole has fewer bytes than the limit
 abbrev pub EndsWithin : ℕ → ℕ → HeadEnd → Type 0

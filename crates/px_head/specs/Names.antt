@@ -28,8 +28,8 @@ abbrev pub is_connection_word : List ℕ → List Field → Bool
 is_connection_word word fields = list_any (λ (f : Field). has_name (codes "Connection") f && lists_word word f.value) fields
 
 -- the name is one of these
-abbrev pub is_among : List (List ℕ) → List ℕ → Bool
-is_among names name = list_any (λ one. str_eq_ignore_ascii_case one name) names
+abbrev pub is_among_names : List (List ℕ) → List ℕ → Bool
+is_among_names names name = list_any (λ one. str_eq_ignore_ascii_case one name) names
 
 -- the names of fields that speak of one connection alone (RFC 9110, section 7.6.1), and Content-Length, which says where
 -- a body ends there
@@ -44,12 +44,12 @@ request_names = codes "Host" ∷ codes "Expect" ∷ codes "Proxy-Authorization" 
 
 -- a field of that name isn't passed on of a response
 unfoldable pub is_held_back_of_response : List ℕ → Bool
-is_held_back_of_response name = is_among connection_names name
+is_held_back_of_response name = is_among_names connection_names name
 
 -- a field of that name isn't passed on of a request
 unfoldable pub is_held_back_of_request : List ℕ → Bool
-is_held_back_of_request name = is_among connection_names name || is_among request_names name
+is_held_back_of_request name = is_among_names connection_names name || is_among_names request_names name
 
 -- the first byte is that small letter, without case
-abbrev pub begins_with : List ℕ → ℕ → Bool
-begins_with name letter = to_ascii_lowercase (slice_index name 0) == letter
+abbrev pub begins_with_letter : List ℕ → ℕ → Bool
+begins_with_letter name letter = to_ascii_lowercase (slice_index name 0) == letter

@@ -1,6 +1,6 @@
 // What a head reader refuses.
 ghost use Rattle.std.specs.Prelude.{◌≡◌, ◌≢◌};
-ghost use Rattle.px_head.specs.Faults.{fault_number, fault_name};
+ghost use Rattle.px_head.specs.Faults.{head_fault_number, head_fault_name};
 
 use px_base::Mem;
 use std::alloc::AllocError;
@@ -28,7 +28,7 @@ impl HeadFault {
     /// The number of the refusal. Want of memory has none.
     pub fn number(self) -> u8
         requires { self ≢ HeadFault.Mem }
-        ensures { result ≡ fault_number self }
+        ensures { result ≡ head_fault_number self }
     {
         match self {
             HeadFault::Malformed => 34,
@@ -39,7 +39,7 @@ impl HeadFault {
 
     /// The name of the refusal.
     pub fn name(self) -> &'static str
-        ensures { result.now ≡ fault_name self }
+        ensures { result.now ≡ head_fault_name self }
     {
         match self {
             HeadFault::Malformed => "Malformed",
@@ -51,9 +51,9 @@ impl HeadFault {
 
 impl fmt::Display for HeadFault {
     ghost use Rattle.std.specs.Prelude.{Some};
-    ghost use Rattle.px_head.specs.Faults.{fault_name};
+    ghost use Rattle.px_head.specs.Faults.{head_fault_name};
 
-    ghost output = { λ fault. Some (fault_name fault) };
+    ghost output = { λ fault. Some (head_fault_name fault) };
 
     fn fmt<W: fmt::Write>(&self, f: &mut fmt::Formatter<W>) -> fmt::Result {
         let name = self.name();

@@ -1,7 +1,7 @@
 // Fields by their names, the words of Connection fields, and the fields that a proxy doesn't pass on.
 ghost use Rattle.std.specs.Prelude.{◌≡◌, ◌<◌, ◌≤◌, false, length, option_copied};
 ghost use Rattle.std.specs.Str.{str_eq_ignore_ascii_case};
-ghost use Rattle.px_head.specs.Names.{has_name as has_name_spec, has_field as has_field_spec, first_field as first_field_spec, lists_word as lists_word_spec, is_connection_word as is_connection_word_spec, begins_with, is_among, connection_names, request_names, is_held_back_of_request as is_held_back_of_request_spec, is_held_back_of_response as is_held_back_of_response_spec};
+ghost use Rattle.px_head.specs.Names.{has_name as has_name_spec, has_field as has_field_spec, first_field as first_field_spec, lists_word as lists_word_spec, is_connection_word as is_connection_word_spec, begins_with_letter, is_among_names, connection_names, request_names, is_held_back_of_request as is_held_back_of_request_spec, is_held_back_of_response as is_held_back_of_response_spec};
 
 use crate::fields::Field;
 use px_base::{cut, same_without_case, trim};
@@ -97,7 +97,7 @@ fn may_be_held_back(name: &[u8]) -> bool
 fn begins_with(name: &[u8], letter: u8) -> bool
     requires some { 0 < length name.now }
     requires letter { 32 ≤ letter }
-    ensures { result ≡ false → begins_with name.now letter ≡ false }
+    ensures { result ≡ false → begins_with_letter name.now letter ≡ false }
 {
     name[0] == letter || name[0] == letter - 32
 }
@@ -113,7 +113,7 @@ fn is_name(own: &[u8], name: &[u8]) -> bool
 /// Whether fields of that name speak of one connection alone (RFC 9110, section 7.6.1), or it is Content-Length. A name is
 /// compared only with those of its length.
 fn is_connection_name(name: &[u8]) -> bool
-    ensures { result ≡ is_among connection_names name.now }
+    ensures { result ≡ is_among_names connection_names name.now }
 {
     match name.len() {
         2 => is_name(b"TE", name),
@@ -128,7 +128,7 @@ fn is_connection_name(name: &[u8]) -> bool
 
 /// Whether it is a further name that a proxy answers for in a request.
 fn is_request_name(name: &[u8]) -> bool
-    ensures { result ≡ is_among request_names name.now }
+    ensures { result ≡ is_among_names request_names name.now }
 {
     match name.len() {
         4 => is_name(b"Host", name),

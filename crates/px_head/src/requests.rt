@@ -28,7 +28,7 @@ pub struct RequestHead {
 }
 
 impl RequestHead {
-    ghost use Rattle.px_head.specs.Faults.{ComesExactly, IsReadAs};
+    ghost use Rattle.px_head.specs.Faults.{ComesExactly, IsHeadReadAs};
     ghost use Rattle.px_head.specs.Heads.{IsRequest, IsNoRequest, HasManyRequestFields};
     ghost use Rattle.px_head.specs.Prints.{request_line};
 
@@ -41,7 +41,7 @@ impl RequestHead {
         ensures head { IfOk result (IsRequest block.now) }
         ensures malformed { ComesExactly result HeadFault.Malformed (IsNoRequest block.now) }
         ensures too_many { ComesExactly result HeadFault.TooManyFields (HasManyRequestFields block.now) }
-        ensures read { (head : RequestHead) → IsRequest block.now head → IsReadAs result head }
+        ensures read { (head : RequestHead) → IsRequest block.now head → IsHeadReadAs result head }
     {
         let mut room = room_for(alloc, block)?;
         let spans = room.as_mut_slice();

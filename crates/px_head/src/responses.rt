@@ -29,7 +29,7 @@ pub struct ResponseHead {
 }
 
 impl ResponseHead {
-    ghost use Rattle.px_head.specs.Faults.{ComesExactly, IsReadAs};
+    ghost use Rattle.px_head.specs.Faults.{ComesExactly, IsHeadReadAs};
     ghost use Rattle.px_head.specs.Heads.{IsResponse, IsNoResponse, HasManyResponseFields};
     ghost use Rattle.px_head.specs.Prints.{status_line};
 
@@ -42,7 +42,7 @@ impl ResponseHead {
         ensures head { IfOk result (IsResponse block.now) }
         ensures malformed { ComesExactly result HeadFault.Malformed (IsNoResponse block.now) }
         ensures too_many { ComesExactly result HeadFault.TooManyFields (HasManyResponseFields block.now) }
-        ensures read { (head : ResponseHead) → IsResponse block.now head → IsReadAs result head }
+        ensures read { (head : ResponseHead) → IsResponse block.now head → IsHeadReadAs result head }
     {
         let mut room = room_for(alloc, block)?;
         let spans = room.as_mut_slice();

@@ -1,6 +1,6 @@
 // A search for the end of a head block that goes on as bytes come.
 ghost use Rattle.std.specs.Prelude.{◌≡◌, ◌≢◌, ◌≤◌, ◌++◌, ◌↔◌, ℕ, List, [], length, take, IfSome, IfNone};
-ghost use Rattle.px_head.specs.Blocks.{head_end, block_len, end_of as end_of_spec, EndsWithin, IsHeadBlock, IsFirstLine, is_empty_line as is_empty_line_spec};
+ghost use Rattle.px_head.specs.Blocks.{head_end, block_len, head_block_end as end_of_spec, EndsWithin, IsHeadBlock, IsFirstLine, is_empty_line as is_empty_line_spec};
 ghost use Rattle.px_head.specs.Searches.{HasPassed, Searched, BeginsSearched, SearchedOrAnew};
 
 use crate::blocks::HeadEnd;

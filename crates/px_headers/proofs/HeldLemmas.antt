@@ -8,9 +8,9 @@ use Rattle.std.specs.Str.{str_eq_ignore_ascii_case, str_to_ascii_lowercase}
 use Rattle.std.proofs.lemmas.Slice.Eq.{bytes_eq-Decides}
 use Rattle.px_base.specs.Blanks.{trimmed}
 use Rattle.px_head.specs.declared.fields.Field.{Field}
-use Rattle.px_head.specs.Names.{has_name, connection_names, is_among, is_connection_word, is_held_back_of_request, is_held_back_of_response, lists_word, request_names}
-use Rattle.px_headers.specs.declared.held_back.Message.{Message}
-use Rattle.px_headers.specs.declared.held_back.Message.TheVariants.{Request, Response}
+use Rattle.px_head.specs.Names.{has_name, connection_names, is_among_names, is_connection_word, is_held_back_of_request, is_held_back_of_response, lists_word, request_names}
+use Rattle.px_headers.specs.declared.held_back.MessageKind.{MessageKind}
+use Rattle.px_headers.specs.declared.held_back.MessageKind.TheVariants.{Request, Response}
 use Rattle.px_headers.specs.declared.held_back.HeldBack.{HeldBack}
 use Rattle.px_headers.specs.HeldBack.{connection_words, is_fixed, is_held, is_held_back, names_more, passed_on, words_in, IsHeldBackOf}
 use Rattle.px_headers.specs.Rows.{without_those}
@@ -59,34 +59,34 @@ back-true : (a b : Bool) → b ≡ true → (a || b) ≡ true
 back-true a b is = ap (λ t. a || t) is ∙ or-true a
 
 -- it is one of the fixed names
-keep-alive-listed : (name : List ℕ) → str_eq_ignore_ascii_case name (codes "Keep-Alive") ≡ true → is_among connection_names name ≡ true
+keep-alive-listed : (name : List ℕ) → str_eq_ignore_ascii_case name (codes "Keep-Alive") ≡ true → is_among_names connection_names name ≡ true
 keep-alive-listed name is =
     back-true (str_eq_ignore_ascii_case (codes "Connection") name) _
     (back-true (str_eq_ignore_ascii_case (codes "Proxy-Connection") name) _
     (front-true (str_eq_ignore_ascii_case (codes "Keep-Alive") name) _ (turned name (codes "Keep-Alive") is)))
 
-keep-alive-fixed : (message : Message) (name : List ℕ) → str_eq_ignore_ascii_case name (codes "Keep-Alive") ≡ true → is_fixed message name ≡ true
+keep-alive-fixed : (message : MessageKind) (name : List ℕ) → str_eq_ignore_ascii_case name (codes "Keep-Alive") ≡ true → is_fixed message name ≡ true
 unfolding is_held_back_of_request is_held_back_of_response
-keep-alive-fixed Request name is = front-true (is_among connection_names name) (is_among request_names name) (keep-alive-listed name is)
+keep-alive-fixed Request name is = front-true (is_among_names connection_names name) (is_among_names request_names name) (keep-alive-listed name is)
 keep-alive-fixed Response name is = keep-alive-listed name is
 
 -- the other words tell of every other name
 more-same : (name word : List ℕ) (words : List (List ℕ)) (b rest : Bool) → str_eq_ignore_ascii_case name (codes "Keep-Alive") ≡ false
-    → str_eq_ignore_ascii_case word (codes "Keep-Alive") ≡ b → is_among words name ≡ rest
-    → is_among (cond (not b) (word ∷ words) words) name ≡ (str_eq_ignore_ascii_case word name || rest)
+    → str_eq_ignore_ascii_case word (codes "Keep-Alive") ≡ b → is_among_names words name ≡ rest
+    → is_among_names (cond (not b) (word ∷ words) words) name ≡ (str_eq_ignore_ascii_case word name || rest)
 more-same name word words false rest other is later = ap (λ r. str_eq_ignore_ascii_case word name || r) later
 more-same name word words true rest other is later = at (str_eq_ignore_ascii_case word name) refl
   where
-    at : (t : Bool) → str_eq_ignore_ascii_case word name ≡ t → is_among words name ≡ (t || rest)
+    at : (t : Bool) → str_eq_ignore_ascii_case word name ≡ t → is_among_names words name ≡ (t || rest)
     at true same = absurd (true≢false (sym (same-as word name (codes "Keep-Alive") same is) ∙ other))
     at false same = later
 
-among-more : (name : List ℕ) (words : List (List ℕ)) → str_eq_ignore_ascii_case name (codes "Keep-Alive") ≡ false → is_among (filter names_more words) name ≡ is_among words name
+among-more : (name : List ℕ) (words : List (List ℕ)) → str_eq_ignore_ascii_case name (codes "Keep-Alive") ≡ false → is_among_names (filter names_more words) name ≡ is_among_names words name
 among-more name [] other = refl
 among-more name (word ∷ words) other = more-same name word (filter names_more words) (str_eq_ignore_ascii_case word (codes "Keep-Alive")) _ other refl (among-more name words other)
 
 -- another name than Keep-Alive is among those words of a value where the value lists it
-among-words : (name value : List ℕ) → str_eq_ignore_ascii_case name (codes "Keep-Alive") ≡ false → is_among (words_in value) name ≡ lists_word name value
+among-words : (name value : List ℕ) → str_eq_ignore_ascii_case name (codes "Keep-Alive") ≡ false → is_among_names (words_in value) name ≡ lists_word name value
 unfolding lists_word
 among-words name value other =
     among-more name (map (λ part. trimmed part) (slice_split (λ b. b == 44) value)) other
@@ -96,31 +96,31 @@ any-same : {X : Type 0} (p q : X → Bool) (xs : List X) → ((x : X) → p x �
 any-same p q [] same = refl
 any-same p q (x ∷ xs) same = ap (λ b. b || list_any p xs) (same x) ∙ ap (λ r. q x || r) (any-same p q xs same)
 
-listed : (name : List ℕ) (fields : List Field) → str_eq_ignore_ascii_case name (codes "Keep-Alive") ≡ false → is_among (connection_words fields) name ≡ is_connection_word name fields
+listed : (name : List ℕ) (fields : List Field) → str_eq_ignore_ascii_case name (codes "Keep-Alive") ≡ false → is_among_names (connection_words fields) name ≡ is_connection_word name fields
 listed name fields other =
     any-filtered (has_name (codes "Connection")) (λ (f : Field). words_in f.value) (λ word. str_eq_ignore_ascii_case word name) fields
     ∙ any-same _ _ fields (λ f. ap (λ b. has_name (codes "Connection") f && b) (among-words name f.value other))
 
 -- a name is a fixed one or among those words where it is a fixed one or a Connection field names it
-known : (message : Message) (name : List ℕ) (fields : List Field) (b : Bool) → str_eq_ignore_ascii_case name (codes "Keep-Alive") ≡ b →
-    (is_fixed message name || is_among (connection_words fields) name) ≡ (is_fixed message name || is_connection_word name fields)
+known : (message : MessageKind) (name : List ℕ) (fields : List Field) (b : Bool) → str_eq_ignore_ascii_case name (codes "Keep-Alive") ≡ b →
+    (is_fixed message name || is_among_names (connection_words fields) name) ≡ (is_fixed message name || is_connection_word name fields)
 known message name fields true is =
     let fixed = keep-alive-fixed message name is in
-    front-true (is_fixed message name) (is_among (connection_words fields) name) fixed ∙ sym (front-true (is_fixed message name) (is_connection_word name fields) fixed)
+    front-true (is_fixed message name) (is_among_names (connection_words fields) name) fixed ∙ sym (front-true (is_fixed message name) (is_connection_word name fields) fixed)
 known message name fields false is = ap (λ r. is_fixed message name || r) (listed name fields is)
 
 -- what is kept of a message tells which names are held back of it
-pub held-is : (message : Message) (fields : List Field) (held : HeldBack) (name : List ℕ) → IsHeldBackOf message fields held → is_held held name ≡ is_held_back message fields name
+pub held-is : (message : MessageKind) (fields : List Field) (held : HeldBack) (name : List ℕ) → IsHeldBackOf message fields held → is_held held name ≡ is_held_back message fields name
 unfolding is_held_back
 held-is message fields held name is =
-    ap (λ m. is_fixed m name || is_among held.words name) is.message_is
-    ∙ (ap (λ words. is_fixed message name || is_among words name) is.words_are ∙ known message name fields (str_eq_ignore_ascii_case name (codes "Keep-Alive")) refl)
+    ap (λ m. is_fixed m name || is_among_names held.words name) is.message_is
+    ∙ (ap (λ words. is_fixed message name || is_among_names words name) is.words_are ∙ known message name fields (str_eq_ignore_ascii_case name (codes "Keep-Alive")) refl)
 
 pub same-filtered : {X : Type 0} (p q : X → Bool) (xs : List X) → ((x : X) → p x ≡ q x) → filter p xs ≡ filter q xs
 same-filtered p q [] same = refl
 same-filtered p q (x ∷ xs) same = ap (λ b. cond b (x ∷ filter p xs) (filter p xs)) (same x) ∙ ap (λ ys. cond (q x) (x ∷ ys) ys) (same-filtered p q xs same)
 
-pub passed-is : (message : Message) (fields : List Field) (held : HeldBack) → IsHeldBackOf message fields held →
+pub passed-is : (message : MessageKind) (fields : List Field) (held : HeldBack) → IsHeldBackOf message fields held →
     without_those (λ f. is_held held f.name) fields ≡ passed_on message fields
 unfolding passed_on
 passed-is message fields held is = same-filtered (λ (f : Field). not (is_held held f.name)) _ fields (λ f. ap not (held-is message fields held f.name is))

@@ -13,7 +13,7 @@ use Rattle.px_head.specs.Names.{has_field, has_name}
 use Rattle.px_patterns.specs.declared.urls.Url.{Url}
 use Rattle.px_headers.specs.Cookies.{cap_of, capped_cookie, session_cookie}
 use Rattle.px_headers.specs.Referrers.{has_foreign_referrer, is_foreign, root_of, with_hidden_referrer}
-use Rattle.px_headers.specs.Rows.{with_more, with_value, with_values, without, without_those}
+use Rattle.px_headers.specs.Rows.{with_more, with_value, with_values, without_field, without_those}
 use Rattle.px_headers.specs.ServerRows.{limit_cookies, with_capped_cookies, with_limited_cookies, with_session_cookies}
 
 or-none : (a b : Bool) → (a || b) ≡ false → (a ≡ false) × (b ≡ false)
@@ -66,7 +66,7 @@ any-and p q (f ∷ fields) none =
 
 -- a head without a referrer stays as it is
 pub hidden_none : (url : Url) (v : List ℕ) (fields : List Field) → has_field (codes "Referer") fields ≡ false → with_hidden_referrer url v fields ≡ fields
-unfolding with_hidden_referrer without with_value
+unfolding with_hidden_referrer without_field with_value
 hidden_none url v fields none =
     let foreign = any-and (has_name (codes "Referer")) (λ (f : Field). is_foreign url.host f.value) fields none in
     either _ _ _ fields (without-none (has_name (codes "Referer")) fields none)

@@ -7,12 +7,12 @@ use Rattle.px_head.specs.declared.requests.RequestHead.{RequestHead}
 use Rattle.px_head.specs.FieldLines.{read_field}
 use Rattle.px_head.specs.Prints.{request_line}
 use Rattle.px_patterns.specs.declared.urls.Url.{Url}
-use Rattle.px_actions.specs.Sets.{is_on, value, values}
+use Rattle.px_actions.specs.Sets.{is_on, value, set_values}
 use Rattle.px_actions.specs.declared.kinds.Kind.TheVariants as kind
 use Rattle.px_actions.specs.declared.settings.Setting.{Setting}
 use Rattle.px_filter_files.specs.FilterFiles.{FiltersOfFiles}
 use Rattle.px_subst.specs.declared.words.Vars.{Vars}
-use Rattle.px_headers.specs.declared.held_back.Message.TheVariants.{Request}
+use Rattle.px_headers.specs.declared.held_back.MessageKind.TheVariants.{Request}
 use Rattle.px_headers.specs.declared.client.ClientOut.{ClientOut}
 use Rattle.px_headers.specs.declared.faults.HeaderFault.{HeaderFault}
 use Rattle.px_headers.specs.declared.faults.HeaderFault.TheVariants.{BadRewrite, Mem}
@@ -20,19 +20,19 @@ use Rattle.px_headers.specs.Filtering.{filter_lines}
 use Rattle.px_headers.specs.HeldBack.{passed_on}
 use Rattle.px_headers.specs.Referrers.{with_hidden_referrer}
 use Rattle.px_headers.specs.Rewrites.{destination}
-use Rattle.px_headers.specs.Rows.{◌▷◌, with_more, with_value, without, without_holding}
+use Rattle.px_headers.specs.Rows.{◌▷◌, with_more, with_value, without_field, without_holding}
 
 -- `block` removes the fields of that name
-unfoldable pub blocked : List ℕ → List ℕ → List Field → List Field
-blocked name v fields = if bytes_eq v (codes "block") then without name fields else fields
+unfoldable pub blocked_fields : List ℕ → List ℕ → List Field → List Field
+blocked_fields name v fields = if bytes_eq v (codes "block") then without_field name fields else fields
 
 -- `block` removes them, any other text is set
 unfoldable pub blocked_or_set : List ℕ → List ℕ → List Field → List Field
-blocked_or_set name v fields = if bytes_eq v (codes "block") then without name fields else with_value name v fields
+blocked_or_set name v fields = if bytes_eq v (codes "block") then without_field name fields else with_value name v fields
 
 -- crunch-outgoing-cookies
 unfoldable pub crunch_outgoing_cookies : List Setting → List Field → List Field
-crunch_outgoing_cookies set fields = if is_on set kind.CrunchOutgoingCookies then without (codes "Cookie") fields else fields
+crunch_outgoing_cookies set fields = if is_on set kind.CrunchOutgoingCookies then without_field (codes "Cookie") fields else fields
 
 -- hide-referrer
 unfoldable pub hide_referrer : List Setting → Url → List Field → List Field
@@ -52,20 +52,20 @@ hide_accept_language set fields = option_map_or (λ v. blocked_or_set (codes "Ac
 
 -- hide-if-modified-since
 unfoldable pub hide_if_modified_since : List Setting → List Field → List Field
-hide_if_modified_since set fields = option_map_or (λ v. blocked (codes "If-Modified-Since") v fields) (value set kind.HideIfModifiedSince) fields
+hide_if_modified_since set fields = option_map_or (λ v. blocked_fields (codes "If-Modified-Since") v fields) (value set kind.HideIfModifiedSince) fields
 
 -- crunch-if-none-match
 unfoldable pub crunch_if_none_match : List Setting → List Field → List Field
-crunch_if_none_match set fields = if is_on set kind.CrunchIfNoneMatch then without (codes "If-None-Match") fields else fields
+crunch_if_none_match set fields = if is_on set kind.CrunchIfNoneMatch then without_field (codes "If-None-Match") fields else fields
 
 -- prevent-compression
 unfoldable pub prevent_compression : List Setting → List Field → List Field
-prevent_compression set fields = if is_on set kind.PreventCompression then without (codes "Accept-Encoding") fields else fields
+prevent_compression set fields = if is_on set kind.PreventCompression then without_field (codes "Accept-Encoding") fields else fields
 
 -- change-x-forwarded-for: `block` removes, `add` adds the client's address
 unfoldable pub change_forwarded_for : List Setting → List ℕ → List Field → List Field
 change_forwarded_for set peer fields =
-    option_map_or (λ v. if bytes_eq v (codes "block") then without (codes "X-Forwarded-For") fields else with_more (codes "X-Forwarded-For") (codes ", ") peer fields)
+    option_map_or (λ v. if bytes_eq v (codes "block") then without_field (codes "X-Forwarded-For") fields else with_more (codes "X-Forwarded-For") (codes ", ") peer fields)
     (value set kind.ChangeXForwardedFor) fields
 
 -- crunch-client-header
@@ -74,7 +74,7 @@ crunch_client_header set fields = option_map_or (λ v. without_holding v fields)
 
 -- add-header
 unfoldable pub add_headers : List Setting → List Field → List Field
-add_headers set fields = fields ++ filter_map read_field (values set kind.AddHeader)
+add_headers set fields = fields ++ filter_map read_field (set_values set kind.AddHeader)
 
 -- the rows of single fields, in their order
 unfoldable pub client_rows : List Setting → Url → List ℕ → List Field → List Field

@@ -35,13 +35,13 @@ abbrev pub is_lifetime : List ℕ → Bool
 is_lifetime piece = is_expires piece || is_max_age piece
 
 -- attributes as they are written behind a cookie
-abbrev pub written : List (List ℕ) → List ℕ
-written attributes = flat_map (λ piece. byte ";" ∷ piece) attributes
+abbrev pub written_attributes : List (List ℕ) → List ℕ
+written_attributes attributes = flat_map (λ piece. byte ";" ∷ piece) attributes
 
 -- a cookie with attributes made of its own
 abbrev pub with_attributes : (List (List ℕ) → List (List ℕ)) → List (List ℕ) → List ℕ
 with_attributes change [] = []
-with_attributes change (first ∷ attributes) = first ++ written (change attributes)
+with_attributes change (first ∷ attributes) = first ++ written_attributes (change attributes)
 
 -- ---- cookies of a session, which have no lifetime
 

@@ -5,7 +5,7 @@ use Rattle.std.specs.Str.{bytes_eq}
 use Rattle.px_head.specs.declared.fields.Field.{Field}
 use Rattle.px_head.specs.FieldLines.{read_field}
 use Rattle.px_head.specs.Prints.{field_line}
-use Rattle.px_actions.specs.Sets.{values}
+use Rattle.px_actions.specs.Sets.{set_values}
 use Rattle.px_actions.specs.declared.kinds.Kind.TheVariants.{ClientHeaderFilter, ServerHeaderFilter}
 use Rattle.px_actions.specs.declared.settings.Setting.{Setting}
 use Rattle.px_subst.specs.Jobs.{run_filter}
@@ -13,28 +13,28 @@ use Rattle.px_subst.specs.declared.words.Vars.{Vars}
 use Rattle.px_filter_files.specs.FilterFiles.{FiltersOfFiles, found, jobs_of}
 use Rattle.px_filter_files.specs.declared.kinds.FilterKind.{FilterKind}
 use Rattle.px_filter_files.specs.declared.kinds.FilterKind.TheVariants.{ClientHeader, ServerHeader}
-use Rattle.px_headers.specs.declared.held_back.Message.{Message}
-use Rattle.px_headers.specs.declared.held_back.Message.TheVariants.{Request, Response}
+use Rattle.px_headers.specs.declared.held_back.MessageKind.{MessageKind}
+use Rattle.px_headers.specs.declared.held_back.MessageKind.TheVariants.{Request, Response}
 use Rattle.px_headers.specs.HeldBack.{is_held_back}
 use Rattle.px_headers.specs.Rows.{without_those}
 
 -- the kind of a message's header filters
-abbrev pub filter_kind : Message → FilterKind
+abbrev pub filter_kind : MessageKind → FilterKind
 filter_kind Request = ClientHeader
 filter_kind Response = ServerHeader
 
 -- the names of those that are in force, in list order
-abbrev pub filter_names : Message → List Setting → List (List ℕ)
-filter_names Request set = values set ClientHeaderFilter
-filter_names Response set = values set ServerHeaderFilter
+abbrev pub header_filter_names : MessageKind → List Setting → List (List ℕ)
+header_filter_names Request set = set_values set ClientHeaderFilter
+header_filter_names Response set = set_values set ServerHeaderFilter
 
 -- what the filter of that name makes of a text
-abbrev pub run_named : FiltersOfFiles → FilterKind → Vars → List ℕ → List ℕ → List ℕ
-run_named all kind vars text name = (run_filter (jobs_of all (record { kind = kind; name = name })) vars text).text
+abbrev pub run_header_filter : FiltersOfFiles → FilterKind → Vars → List ℕ → List ℕ → List ℕ
+run_header_filter all kind vars text name = (run_filter (jobs_of all (record { kind = kind; name = name })) vars text).text
 
 -- what the filters of those names make of a text, each of the text of the one before
 unfoldable pub run_all : FiltersOfFiles → FilterKind → Vars → List (List ℕ) → List ℕ → List ℕ
-run_all all kind vars names text = fold (run_named all kind vars) text names
+run_all all kind vars names text = fold (run_header_filter all kind vars) text names
 
 -- there is a filter of one of those names
 unfoldable pub some_found : FiltersOfFiles → FilterKind → List (List ℕ) → Bool
@@ -56,15 +56,15 @@ made_fields run fields = filter_map (made_field run) fields
 abbrev pub filtered_fields : (List ℕ → Bool) → (List ℕ → List ℕ) → List Field → List Field
 filtered_fields held run fields = without_those (λ f. held f.name) (made_fields run fields)
 
-unfoldable pub filter_lines : Message → List Field → List Setting → FiltersOfFiles → Vars → List Field → List Field
+unfoldable pub filter_lines : MessageKind → List Field → List Setting → FiltersOfFiles → Vars → List Field → List Field
 filter_lines message received set all vars fields =
-    if some_found all (filter_kind message) (filter_names message set)
-    then filtered_fields (is_held_back message received) (run_all all (filter_kind message) vars (filter_names message set)) fields
+    if some_found all (filter_kind message) (header_filter_names message set)
+    then filtered_fields (is_held_back message received) (run_all all (filter_kind message) vars (header_filter_names message set)) fields
     else fields
 
 -- a first line through the filters, where there is one of them
-unfoldable pub filter_line : Message → List Setting → FiltersOfFiles → Vars → List ℕ → Option (List ℕ)
+unfoldable pub filter_line : MessageKind → List Setting → FiltersOfFiles → Vars → List ℕ → Option (List ℕ)
 filter_line message set all vars line =
-    if some_found all (filter_kind message) (filter_names message set)
-    then Some (run_all all (filter_kind message) vars (filter_names message set) line)
+    if some_found all (filter_kind message) (header_filter_names message set)
+    then Some (run_all all (filter_kind message) vars (header_filter_names message set) line)
     else None

@@ -9,24 +9,24 @@ use Rattle.px_head.specs.declared.fields.Field.{Field}
 use Rattle.px_head.specs.Names.{has_name}
 use Rattle.px_patterns.specs.declared.urls.Url.{Url}
 use Rattle.px_patterns.specs.Urls.{shown_host_port}
-use Rattle.px_headers.specs.Rows.{with_value, with_values, without, without_those}
+use Rattle.px_headers.specs.Rows.{with_value, with_values, without_field, without_those}
 
 -- what ends the host of a referrer
-abbrev pub ends_host : ℕ → Bool
-ends_host b = (b == byte "/" || b == byte "?") || b == byte "#"
+abbrev pub ends_referrer_host : ℕ → Bool
+ends_referrer_host b = (b == byte "/" || b == byte "?") || b == byte "#"
 
 -- how far a host and its port go
 abbrev pub part_len : List ℕ → ℕ
 part_len [] = 0
-part_len (b ∷ bs) = if ends_host b then 0 else part_len bs + 1
+part_len (b ∷ bs) = if ends_referrer_host b then 0 else part_len bs + 1
 
 -- how far a host goes in front of a port, which is a colon behind which only digits stand
 abbrev pub host_len : List ℕ → ℕ
 host_len [] = 0
 host_len (b ∷ bs) = if b == byte ":" && list_all is_ascii_digit bs then 0 else host_len bs + 1
 
-abbrev pub host_part : List ℕ → List ℕ
-host_part rest = take (part_len rest) rest
+abbrev pub referrer_host_part : List ℕ → List ℕ
+referrer_host_part rest = take (part_len rest) rest
 
 abbrev pub without_port : List ℕ → List ℕ
 without_port part = take (host_len part) part
@@ -40,7 +40,7 @@ without_brackets host =
 
 -- the host in what stands behind `://`
 abbrev pub host_behind : List ℕ → List ℕ
-host_behind rest = without_brackets (without_port (host_part rest))
+host_behind rest = without_brackets (without_port (referrer_host_part rest))
 
 -- a referrer's host differs from a URL's; so does a value without `://`
 unfoldable pub is_foreign : List ℕ → List ℕ → Bool
@@ -58,7 +58,7 @@ root_of url = codes "http://" ++ shown_host_port url ++ codes "/"
 -- what a value of the action makes of fields
 unfoldable pub with_hidden_referrer : Url → List ℕ → List Field → List Field
 with_hidden_referrer url v fields =
-    if bytes_eq v (codes "block") then without (codes "Referer") fields
+    if bytes_eq v (codes "block") then without_field (codes "Referer") fields
     else if bytes_eq v (codes "forge") then with_value (codes "Referer") (root_of url) fields
     else if bytes_eq v (codes "conditional-block") then without_those (has_foreign_referrer url.host) fields
     else if bytes_eq v (codes "conditional-forge") then with_values (has_foreign_referrer url.host) (λ _. root_of url) fields

@@ -13,7 +13,7 @@ use Rattle.px_patterns.specs.Urls.{url_of}
 use Rattle.px_actions.specs.declared.settings.Setting.{Setting}
 use Rattle.px_subst.specs.declared.words.Vars.{Vars}
 use Rattle.px_filter_files.specs.FilterFiles.{FiltersOfFiles}
-use Rattle.px_headers.specs.declared.held_back.Message.TheVariants.{Request, Response}
+use Rattle.px_headers.specs.declared.held_back.MessageKind.TheVariants.{Request, Response}
 use Rattle.px_headers.specs.Filtering.{filter_line}
 
 -- ---- request lines
@@ -24,12 +24,12 @@ before_version rest =
     if ends_with nat_eq rest (codes " HTTP/1.0") || ends_with nat_eq rest (codes " HTTP/1.1") then Some (take (length rest - 9) rest) else None
 
 -- what stands behind a front
-unfoldable pub behind : List ℕ → List ℕ → Option (List ℕ)
-behind front line = if starts_with nat_eq line front then Some (drop (length front) line) else None
+unfoldable pub behind_prefix : List ℕ → List ℕ → Option (List ℕ)
+behind_prefix front line = if starts_with nat_eq line front then Some (drop (length front) line) else None
 
 -- the target of a request line of that method
 unfoldable pub target_in : List ℕ → List ℕ → Option (List ℕ)
-target_in method line = option_and_then before_version (option_and_then (λ rest. behind (codes " ") rest) (behind method line))
+target_in method line = option_and_then before_version (option_and_then (λ rest. behind_prefix (codes " ") rest) (behind_prefix method line))
 
 -- where a changed request line leads: to a URL, by the same method
 unfoldable pub rewritten : List ℕ → List ℕ → Option Url
@@ -62,7 +62,7 @@ is_status_part status rest =
 
 -- what stands behind `HTTP/1.0` or `HTTP/1.1` and a space
 unfoldable pub behind_version : List ℕ → Option (List ℕ)
-behind_version line = option_or (behind (codes "HTTP/1.0 ") line) (behind (codes "HTTP/1.1 ") line)
+behind_version line = option_or (behind_prefix (codes "HTTP/1.0 ") line) (behind_prefix (codes "HTTP/1.1 ") line)
 
 -- a status line of that status
 abbrev pub is_status_line : ℕ → List ℕ → Bool

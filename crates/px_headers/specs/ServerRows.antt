@@ -11,7 +11,7 @@ use Rattle.px_actions.specs.declared.kinds.Kind.TheVariants as kind
 use Rattle.px_actions.specs.declared.settings.Setting.{Setting}
 use Rattle.px_filter_files.specs.FilterFiles.{FiltersOfFiles}
 use Rattle.px_subst.specs.declared.words.Vars.{Vars}
-use Rattle.px_headers.specs.declared.held_back.Message.TheVariants.{Response}
+use Rattle.px_headers.specs.declared.held_back.MessageKind.TheVariants.{Response}
 use Rattle.px_headers.specs.declared.server.ServerOut.{ServerOut}
 use Rattle.px_headers.specs.ClientRows.{blocked_or_set}
 use Rattle.px_headers.specs.Cookies.{cap_of, capped_cookie, session_cookie}
@@ -20,11 +20,11 @@ use Rattle.px_headers.specs.Filtering.{filter_lines}
 use Rattle.px_headers.specs.HeldBack.{passed_on}
 use Rattle.px_headers.specs.Kinds.{is_text}
 use Rattle.px_headers.specs.Rewrites.{answer_line}
-use Rattle.px_headers.specs.Rows.{◌▷◌, with_value, with_values, without, without_holding}
+use Rattle.px_headers.specs.Rows.{◌▷◌, with_value, with_values, without_field, without_holding}
 
 -- crunch-incoming-cookies
 unfoldable pub crunch_incoming_cookies : List Setting → List Field → List Field
-crunch_incoming_cookies set fields = if is_on set kind.CrunchIncomingCookies then without (codes "Set-Cookie") fields else fields
+crunch_incoming_cookies set fields = if is_on set kind.CrunchIncomingCookies then without_field (codes "Set-Cookie") fields else fields
 
 -- each cookie is one of a session
 unfoldable pub with_session_cookies : List Field → List Field
@@ -59,7 +59,7 @@ reset_modified moment fields = option_map_or (λ date. with_value (codes "Last-M
 -- `block` removes the date, `reset-to-request-time` sets it to the moment, where that isn't past the year 9999
 unfoldable pub with_modified : ℕ → List ℕ → List Field → List Field
 with_modified moment v fields =
-    if bytes_eq v (codes "block") then without (codes "Last-Modified") fields
+    if bytes_eq v (codes "block") then without_field (codes "Last-Modified") fields
     else if bytes_eq v (codes "reset-to-request-time") then reset_modified moment fields
     else fields
 

@@ -7,7 +7,7 @@ ghost use Rattle.px_head.specs.Prints.{request_line};
 use crate::client_rows::{add_headers, client_rows};
 use crate::faults::HeaderFault;
 use crate::filtering::{filter_lines, filtered_line, has_filters};
-use crate::held_back::{HeldBack, Message, pass_on};
+use crate::held_back::{HeldBack, MessageKind, pass_on};
 use crate::rewrites::leads_to;
 use px_actions::ActionSet;
 use px_base::{List, Mem, Peer};
@@ -42,7 +42,7 @@ fn client_fields(
     ensures value { IfOk result (λ fields. fields ≡ client_fields set.now filters.now vars.now url.now peer.now.address received) }
     ensures same { warm.new ≡ warm.old }
 {
-    let held = HeldBack::of(alloc, Message::Request, received.as_slice())?;
+    let held = HeldBack::of(alloc, MessageKind::Request, received.as_slice())?;
     let fields = pass_on(received, &held);
     let fields = client_rows(alloc, fields, set, url, peer.address.as_bytes())?;
     let fields = filter_lines(alloc, fields, &held, set, filters, warm, vars)?;
@@ -64,11 +64,18 @@ fn destination(
     ensures value { IfOk result (λ to. to ≡ destination set.now filters.now vars.now url head.now.method (request_line head.now)) }
     ensures same { warm.new ≡ warm.old }
 {
-    if !has_filters(Message::Request, set, filters) {
+    if !has_filters(MessageKind::Request, set, filters) {
         return Ok(Some(url));
     }
     let line = head.first_line(alloc)?;
-    let new = filtered_line(alloc, Message::Request, set, warm, vars, line.as_bytes())?;
+    let new = filtered_line(
+        alloc,
+        MessageKind::Request,
+        set,
+        warm,
+        vars,
+        line.as_bytes(),
+    )?;
     leads_to(alloc, url, head.method.as_bytes(), line.as_bytes(), new)
 }
 

@@ -2,9 +2,9 @@
 ghost use Rattle.std.specs.Prelude.{◌≡◌, ◌++◌, IfOk, IsTrue, filter_map};
 ghost use Rattle.std.specs.List.{list_all};
 ghost use Rattle.px_actions.specs.Kinds.{entry_of};
-ghost use Rattle.px_actions.specs.Rules.{keeps};
+ghost use Rattle.px_actions.specs.Rules.{keeps_rule};
 ghost use Rattle.px_head.specs.FieldLines.{read_field};
-ghost use Rattle.px_headers.specs.ClientRows.{add_headers, blocked, blocked_or_set, change_forwarded_for, client_rows, crunch_client_header, crunch_if_none_match, crunch_outgoing_cookies, hide_accept_language, hide_from_header, hide_if_modified_since, hide_referrer, hide_user_agent, prevent_compression};
+ghost use Rattle.px_headers.specs.ClientRows.{add_headers, blocked_fields, blocked_or_set, change_forwarded_for, client_rows, crunch_client_header, crunch_if_none_match, crunch_outgoing_cookies, hide_accept_language, hide_from_header, hide_if_modified_since, hide_referrer, hide_user_agent, prevent_compression};
 
 use crate::referrers::with_hidden_referrer;
 use crate::rows::{push_field, with_more, with_value, without, without_holding};
@@ -15,9 +15,9 @@ use px_patterns::Url;
 use std::alloc::Global;
 
 /// `block` removes the fields of that name.
-#[tactic(auto, unfolding(crate::specs::ClientRows::blocked))]
+#[tactic(auto, unfolding(crate::specs::ClientRows::blocked_fields))]
 fn blocked(fields: List<Field>, name: &[u8], value: &[u8]) -> List<Field>
-    ensures { result ≡ blocked name.now value.now fields }
+    ensures { result ≡ blocked_fields name.now value.now fields }
 {
     if value == b"block".as_slice() {
         without(fields, name)
@@ -197,7 +197,7 @@ pub(crate) fn client_rows(
 
 /// Adds the field of each value at the end.
 fn add_fields(alloc: Global, fields: List<Field>, values: &[Text]) -> Result<List<Field>, Mem>
-    requires { IsTrue (list_all (keeps (entry_of Kind.AddHeader).rule) values.now) }
+    requires { IsTrue (list_all (keeps_rule (entry_of Kind.AddHeader).rule) values.now) }
     ensures { IfOk result (λ more. more ≡ fields ++ filter_map read_field values.now) }
 {
     let mut more = fields;

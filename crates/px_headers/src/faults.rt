@@ -15,12 +15,12 @@ pub enum HeaderFault {
 }
 
 impl HeaderFault {
-    ghost use Rattle.px_headers.specs.Faults.{fault_number, fault_name};
+    ghost use Rattle.px_headers.specs.Faults.{header_fault_number, header_fault_name};
 
     /// The number of the refusal. Want of memory has none.
     pub fn number(self) -> u8
         requires { self ≢ HeaderFault.Mem }
-        ensures { result ≡ fault_number self }
+        ensures { result ≡ header_fault_number self }
     {
         match self {
             HeaderFault::BadRewrite => 41,
@@ -30,7 +30,7 @@ impl HeaderFault {
 
     /// The name of the refusal.
     pub fn name(self) -> &'static str
-        ensures { result.now ≡ fault_name self }
+        ensures { result.now ≡ header_fault_name self }
     {
         match self {
             HeaderFault::BadRewrite => "BadRewrite",
@@ -41,9 +41,9 @@ impl HeaderFault {
 
 impl fmt::Display for HeaderFault {
     ghost use Rattle.std.specs.Prelude.{Some};
-    ghost use Rattle.px_headers.specs.Faults.{fault_name};
+    ghost use Rattle.px_headers.specs.Faults.{header_fault_name};
 
-    ghost output = { λ fault. Some (fault_name fault) };
+    ghost output = { λ fault. Some (header_fault_name fault) };
 
     fn fmt<W: fmt::Write>(&self, f: &mut fmt::Formatter<W>) -> fmt::Result {
         let name = self.name();

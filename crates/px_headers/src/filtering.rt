@@ -5,9 +5,9 @@ ghost use Rattle.px_head.specs.FieldLines.{read_field};
 ghost use Rattle.px_head.specs.Prints.{field_line};
 ghost use Rattle.px_filter_files.specs.FilterFiles.{found};
 ghost use Rattle.px_headers.specs.HeldBack.{is_held, IsHeldBackOf};
-ghost use Rattle.px_headers.specs.Filtering.{filter_kind, filter_lines, filter_names, filtered_fields, made_field, made_fields, read_again, run_all, run_named, some_found};
+ghost use Rattle.px_headers.specs.Filtering.{filter_kind, filter_lines, header_filter_names, filtered_fields, made_field, made_fields, read_again, run_all, run_header_filter, some_found};
 
-use crate::held_back::{HeldBack, Message, pass_on};
+use crate::held_back::{HeldBack, MessageKind, pass_on};
 use crate::rows::write_line;
 use px_actions::{ActionSet, Kind};
 use px_base::{List, Mem, Text};
@@ -16,22 +16,22 @@ use px_head::{Field, read_field_line};
 use px_subst::Vars;
 use std::alloc::Global;
 
-pub(crate) fn filter_kind(message: Message) -> FilterKind
+pub(crate) fn filter_kind(message: MessageKind) -> FilterKind
     ensures { result ≡ filter_kind message }
 {
     match message {
-        Message::Request => FilterKind::ClientHeader,
-        Message::Response => FilterKind::ServerHeader,
+        MessageKind::Request => FilterKind::ClientHeader,
+        MessageKind::Response => FilterKind::ServerHeader,
     }
 }
 
 /// The names of the header filters that are in force.
-pub(crate) fn filter_names(message: Message, set: &ActionSet) -> &[Text]
-    ensures { result.now ≡ filter_names message set.now }
+pub(crate) fn filter_names(message: MessageKind, set: &ActionSet) -> &[Text]
+    ensures { result.now ≡ header_filter_names message set.now }
 {
     match message {
-        Message::Request => set.values(Kind::ClientHeaderFilter),
-        Message::Response => set.values(Kind::ServerHeaderFilter),
+        MessageKind::Request => set.values(Kind::ClientHeaderFilter),
+        MessageKind::Response => set.values(Kind::ServerHeaderFilter),
     }
 }
 
@@ -65,7 +65,7 @@ fn run_next(
     given: &[u8],
     vars: &Vars,
 ) -> Result<Option<Text>, Mem>
-    ensures value { IfOk result (λ next. unwrap_or next given.now ≡ run_named warm.old kind vars.now (unwrap_or done given.now) name.now) }
+    ensures value { IfOk result (λ next. unwrap_or next given.now ≡ run_header_filter warm.old kind vars.now (unwrap_or done given.now) name.now) }
     ensures same { warm.new ≡ warm.old }
 {
     match warm.try_run(alloc, kind, name, text_of(&done, given), vars)? {
@@ -213,8 +213,8 @@ pub(crate) fn filter_lines(
 }
 
 /// Whether there is one of the header filters that are in force for a message.
-pub(crate) fn has_filters(message: Message, set: &ActionSet, filters: &Filters) -> bool
-    ensures { result ≡ some_found filters.now (filter_kind message) (filter_names message set.now) }
+pub(crate) fn has_filters(message: MessageKind, set: &ActionSet, filters: &Filters) -> bool
+    ensures { result ≡ some_found filters.now (filter_kind message) (header_filter_names message set.now) }
 {
     some_found(filters, filter_kind(message), filter_names(message, set))
 }
@@ -222,13 +222,13 @@ pub(crate) fn has_filters(message: Message, set: &ActionSet, filters: &Filters) 
 /// A first line behind the header filters that are in force.
 pub(crate) fn filtered_line(
     alloc: Global,
-    message: Message,
+    message: MessageKind,
     set: &ActionSet,
     warm: &mut WarmFilters<'_>,
     vars: &Vars,
     line: &[u8],
 ) -> Result<Text, Mem>
-    ensures value { IfOk result (λ done. done ≡ run_all warm.old (filter_kind message) vars.now (filter_names message set.now) line.now) }
+    ensures value { IfOk result (λ done. done ≡ run_all warm.old (filter_kind message) vars.now (header_filter_names message set.now) line.now) }
     ensures same { warm.new ≡ warm.old }
 {
     let names = filter_names(message, set);

@@ -1,7 +1,7 @@
 // The fields that a proxy doesn't pass on.
 ghost use Rattle.std.specs.Prelude.{◌≡◌, ◌++◌, IfOk, OnOk};
 ghost use Rattle.std.specs.Str.{str_eq_ignore_ascii_case};
-ghost use Rattle.px_head.specs.Names.{is_among};
+ghost use Rattle.px_head.specs.Names.{is_among_names};
 ghost use Rattle.px_headers.specs.HeldBack.{is_fixed, is_held, names_more, passed_on, without_held, words_in, IsHeldBackOf};
 
 use px_base::{List, Mem, Text, cut, same_without_case, trim};
@@ -13,7 +13,7 @@ const KEEP_ALIVE: &[u8] = b"Keep-Alive";
 
 /// What a head belongs to.
 #[derive(Clone, Copy, Debug, PartialEq, Eq)]
-pub(crate) enum Message {
+pub(crate) enum MessageKind {
     Request,
     Response,
 }
@@ -21,17 +21,17 @@ pub(crate) enum Message {
 /// The names that are held back of a message: the fixed ones, and those that its Connection fields name.
 #[derive(Drop)]
 pub(crate) struct HeldBack {
-    pub(crate) message: Message,
+    pub(crate) message: MessageKind,
     /// The words of its Connection fields but Keep-Alive, which is a fixed name.
     words: List<Text>,
 }
 
-fn is_fixed(message: Message, name: &[u8]) -> bool
+fn is_fixed(message: MessageKind, name: &[u8]) -> bool
     ensures { result ≡ is_fixed message name.now }
 {
     match message {
-        Message::Request => is_held_back_of_request(name),
-        Message::Response => is_held_back_of_response(name),
+        MessageKind::Request => is_held_back_of_request(name),
+        MessageKind::Response => is_held_back_of_response(name),
     }
 }
 
@@ -60,7 +60,7 @@ fn add_words(alloc: Global, value: &[u8], words: &mut List<Text>) -> Result<(), 
 
 impl HeldBack {
     /// The names that are held back of a message with these fields.
-    pub(crate) fn of(alloc: Global, message: Message, fields: &[Field]) -> Result<HeldBack, Mem>
+    pub(crate) fn of(alloc: Global, message: MessageKind, fields: &[Field]) -> Result<HeldBack, Mem>
         ensures { IfOk result (IsHeldBackOf message fields.now) }
     {
         let mut words = List::new(alloc);
@@ -82,14 +82,14 @@ fn is_name(word: &Text, name: &[u8]) -> bool
 
 /// Whether the name is one of the words, without case.
 fn is_among(words: &[Text], name: &[u8]) -> bool
-    ensures { result ≡ is_among words.now name.now }
+    ensures { result ≡ is_among_names words.now name.now }
 {
     words.iter().any(|word| is_name(word, name))
 }
 
 /// Whether a name is a fixed one of a message or one of the words, without case.
 #[inline(always)]
-fn is_held(message: Message, words: &[Text], name: &[u8]) -> bool
+fn is_held(message: MessageKind, words: &[Text], name: &[u8]) -> bool
     ensures { result ≡ is_held (record { message = message; words = words.now }) name.now }
 {
     is_fixed(message, name) || is_among(words, name)

@@ -3,7 +3,7 @@ ghost use Rattle.std.specs.Prelude.{◌≡◌, ◌+◌, ◌≤◌, codes, IfOk, 
 ghost use Rattle.std.specs.Char.{is_ascii_digit};
 ghost use Rattle.std.specs.List.{list_all};
 ghost use Rattle.memchr.specs.Find.{first_of, matches};
-ghost use Rattle.px_headers.specs.Referrers.{ends_host, has_foreign_referrer, host_behind, host_len, is_foreign, part_len, root_of, with_hidden_referrer, without_brackets};
+ghost use Rattle.px_headers.specs.Referrers.{ends_referrer_host, has_foreign_referrer, host_behind, host_len, is_foreign, part_len, root_of, with_hidden_referrer, without_brackets};
 ghost use Rattle.px_headers.specs.Rows.{with_values, without_those};
 
 use crate::rows::{with_value, without};
@@ -25,7 +25,7 @@ fn are_digits(bytes: &[u8]) -> bool
 }
 
 fn ends_host(byte: u8) -> bool
-    ensures { result ≡ ends_host byte }
+    ensures { result ≡ ends_referrer_host byte }
 {
     byte == b'/' || byte == b'?' || byte == b'#'
 }

@@ -4,7 +4,7 @@ ghost use Rattle.std.specs.List.{list_all};
 ghost use Rattle.std.specs.Result.{result_ok};
 ghost use Rattle.px_head.specs.FieldLines.{is_value_byte};
 ghost use Rattle.px_patterns.specs.Urls.{url_of};
-ghost use Rattle.px_headers.specs.Rewrites.{before_version, behind, behind_version, is_reason_part, is_status, is_status_line, is_status_part, kept_status_line, leads_to, rewritten, target_in};
+ghost use Rattle.px_headers.specs.Rewrites.{before_version, behind_prefix, behind_version, is_reason_part, is_status, is_status_line, is_status_part, kept_status_line, leads_to, rewritten, target_in};
 
 use px_base::{Mem, Text, read_decimal};
 use px_patterns::{Url, UrlFault};
@@ -23,9 +23,9 @@ fn before_version(rest: &[u8]) -> Option<&[u8]>
 }
 
 /// What stands behind a front.
-#[tactic(auto, unfolding(crate::specs::Rewrites::behind))]
+#[tactic(auto, unfolding(crate::specs::Rewrites::behind_prefix))]
 fn behind<'l>(front: &[u8], line: &'l [u8]) -> Option<&'l [u8]>
-    ensures { option_map (λ rest. rest.now) result ≡ behind front.now line.now }
+    ensures { option_map (λ rest. rest.now) result ≡ behind_prefix front.now line.now }
 {
     if line.starts_with(front) {
         Some(&line[front.len()..])

@@ -1,7 +1,7 @@
 // What header actions do to the fields of a head.
 ghost use Rattle.std.specs.Prelude.{◌≡◌, ◌++◌, ◌∷◌, [], IfOk, OnOk};
 ghost use Rattle.px_head.specs.Prints.{field_line};
-ghost use Rattle.px_headers.specs.Rows.{holds, with_more, with_value, without, without_holding};
+ghost use Rattle.px_headers.specs.Rows.{holds_word, with_more, with_value, without_field, without_holding};
 
 use memchr::memmem::Finder;
 use px_base::{List, Mem, Text};
@@ -12,9 +12,9 @@ use std::alloc::Global;
 const FIELD_SEPARATOR: &[u8] = b": ";
 
 /// Without the fields of that name.
-#[tactic(auto, unfolding(crate::specs::Rows::without))]
+#[tactic(auto, unfolding(crate::specs::Rows::without_field))]
 pub(crate) fn without(fields: List<Field>, name: &[u8]) -> List<Field>
-    ensures { result ≡ without name.now fields }
+    ensures { result ≡ without_field name.now fields }
 {
     let mut kept = fields.into_vec();
     kept.retain(|field| !has_name(field, name));
@@ -57,7 +57,7 @@ pub(crate) fn write_line(line: &mut Text, field: &Field) -> Result<(), Mem>
 
 /// Whether the word stands in the text, with case.
 fn holds(word: &Finder<'_>, text: &[u8]) -> bool
-    ensures { result ≡ holds word.now text.now }
+    ensures { result ≡ holds_word word.now text.now }
 {
     word.find(text).is_some()
 }

@@ -4,7 +4,7 @@ ghost use Rattle.px_headers.specs.Rewrites.{answer_line};
 ghost use Rattle.px_headers.specs.ServerRows.{server_fields, server_out};
 
 use crate::filtering::{filter_lines, filtered_line, has_filters};
-use crate::held_back::{HeldBack, Message, pass_on};
+use crate::held_back::{HeldBack, MessageKind, pass_on};
 use crate::rewrites::kept_status_line;
 use crate::server_rows::{new_content_type, server_rows};
 use px_actions::ActionSet;
@@ -38,7 +38,7 @@ fn server_fields(
     ensures value { IfOk result (λ fields. fields ≡ server_fields set.now filters.now vars.now moment received) }
     ensures same { warm.new ≡ warm.old }
 {
-    let held = HeldBack::of(alloc, Message::Response, received.as_slice())?;
+    let held = HeldBack::of(alloc, MessageKind::Response, received.as_slice())?;
     let content_type = new_content_type(set, received.as_slice());
     let fields = pass_on(received, &held);
     let fields = server_rows(alloc, fields, set, moment, content_type)?;
@@ -60,10 +60,17 @@ fn answer_line(
     ensures same { warm.new ≡ warm.old }
 {
     let line = head.first_line(alloc)?;
-    if !has_filters(Message::Response, set, filters) {
+    if !has_filters(MessageKind::Response, set, filters) {
         return Ok(line);
     }
-    let new = filtered_line(alloc, Message::Response, set, warm, vars, line.as_bytes())?;
+    let new = filtered_line(
+        alloc,
+        MessageKind::Response,
+        set,
+        warm,
+        vars,
+        line.as_bytes(),
+    )?;
     Ok(kept_status_line(head.status, line, new))
 }
 

@@ -6,9 +6,9 @@ use Rattle.px_patterns.specs.Faults.{url_fault_name}
 use Rattle.px_patterns.specs.Urls.{shown_url, shown_host}
 use Rattle.px_patterns.specs.declared.faults.UrlFault.{UrlFault}
 use Rattle.px_patterns.specs.declared.urls.Url.{Url}
-use Rattle.px_head.specs.Faults.{fault_name as head_fault_name}
+use Rattle.px_head.specs.Faults.{head_fault_name}
 use Rattle.px_head.specs.declared.faults.HeadFault.TheVariants as head_fault
-use Rattle.px_framing.specs.Rules.{fault_name}
+use Rattle.px_framing.specs.Rules.{body_fault_name}
 use Rattle.px_framing.specs.declared.rules.BodyFault.{BodyFault}
 use Rattle.px_framing.specs.declared.rules.BodyRule.{BodyRule}
 use Rattle.px_actions.specs.Sets.{value, is_on}
@@ -22,25 +22,25 @@ use Rattle.px_decide.specs.Routes.{route_of}
 use Rattle.px_decide.specs.declared.decisions.Decision.{Decision}
 use Rattle.px_decide.specs.declared.decisions.Decision.TheVariants as decision
 use Rattle.px_decide.specs.declared.routes.Route.{Route}
-use Rattle.px_sending.specs.Heads.{has_body, expects_continue}
+use Rattle.px_sending.specs.Heads.{request_has_body, expects_continue}
 use Rattle.px_sending.specs.declared.messages.Message.{Message}
 use Rattle.px_headers.specs.ClientRows.{client_out}
-use Rattle.px_headers.specs.Faults.{fault_name as header_fault_name}
+use Rattle.px_headers.specs.Faults.{header_fault_name}
 use Rattle.px_headers.specs.declared.client.ClientOut.{ClientOut}
 use Rattle.px_headers.specs.declared.faults.HeaderFault.TheVariants as header_fault
 use Rattle.px_judging.specs.Given.{Given}
 use Rattle.px_judging.specs.Readings.{ReadsAs}
-use Rattle.px_judging.specs.Requests.{target_read, body_read, is_connect, is_head, keeps, tagged, vars_of}
+use Rattle.px_judging.specs.Requests.{target_read, body_read, is_connect, is_head, keeps_behind_request, tagged_request, vars_of}
 use Rattle.px_judging.specs.declared.requests.Request.{Request}
-use Rattle.px_judging.specs.declared.requests.Tags.{Tags}
+use Rattle.px_judging.specs.declared.requests.RequestTags.{RequestTags}
 use Rattle.px_judging.specs.Replies.{bare_symbols, job_symbols, url_symbols}
-use Rattle.px_judging.specs.Sending.{sent_head, greeting, tunnel_head}
-use Rattle.px_judging.specs.declared.readings.Reading.{Reading}
-use Rattle.px_judging.specs.declared.readings.Reading.TheVariants.{Overlong, Malformed, TooManyFields, Head}
+use Rattle.px_judging.specs.Sending.{sent_head, tunnel_greeting, tunnel_head}
+use Rattle.px_judging.specs.declared.readings.HeadReading.{HeadReading}
+use Rattle.px_judging.specs.declared.readings.HeadReading.TheVariants.{Overlong, Malformed, TooManyFields, Head}
 use Rattle.px_judging.specs.declared.judgements.Judgement.{Judgement}
 use Rattle.px_judging.specs.declared.judgements.Judgement.TheVariants.{Local, Forward, Tunnel}
 use Rattle.px_judging.specs.declared.judgements.Plan.{Plan}
-use Rattle.px_judging.specs.declared.plans.Front.{Front}
+use Rattle.px_judging.specs.declared.plans.RequestFront.{RequestFront}
 use Rattle.px_subst.specs.declared.words.Vars.{Vars}
 use Rattle.px_judging.specs.declared.judgements.TunnelPlan.{TunnelPlan}
 use Rattle.px_judging.specs.declared.replies.LocalReply.{LocalReply}
@@ -59,32 +59,32 @@ invalid error bodiless = closing_page page.InvalidRequest (bare_symbols error) b
 
 -- a reply to a request; the connection is kept where the request lets it and has no body
 abbrev pub reply_to : Given → Request → ReplyKind → Judgement
-reply_to g r k = Local (record { kind = k; close = not (keeps g.last r.head && not (has_body r.rule)); bodiless = is_head r.head })
+reply_to g r k = Local (record { kind = k; close = not (keeps_behind_request g.last r.head && not (request_has_body r.rule)); bodiless = is_head r.head })
 
 -- the page of a blocked request
-abbrev pub blocked : Given → Request → List ℕ → Judgement
-blocked g r reason = reply_to g r (kind.Page page.Blocked (url_symbols r.url reason [] []))
+abbrev pub blocked_reply : Given → Request → List ℕ → Judgement
+blocked_reply g r reason = reply_to g r (kind.Page page.Blocked (url_symbols r.url reason [] []))
 
 -- an image, or the page where the image is missing
-abbrev pub image_or_page : Given → Request → Tags → Option (List ℕ) → ReplyKind → Judgement
+abbrev pub image_or_page : Given → Request → RequestTags → Option (List ℕ) → ReplyKind → Judgement
 image_or_page g r t (Some bytes) k = reply_to g r k
-image_or_page g r t None k = blocked g r (unwrap_or (value t.set action.Block) [])
+image_or_page g r t None k = blocked_reply g r (unwrap_or (value t.set action.Block) [])
 
 -- ---- requests that are sent on
 
 -- what of a request's head is needed when its fields are gone
-abbrev pub front_of : Given → Request → Front
+abbrev pub front_of : Given → Request → RequestFront
 front_of g r = record {
   method = r.head.method;
   minor = r.head.minor;
   rule = r.rule;
-  keep = keeps g.last r.head;
+  keep = keeps_behind_request g.last r.head;
   expects = expects_continue r.head.minor r.head.fields r.rule;
   bodiless = is_head r.head;
 }
 
 -- the plan of a request whose head became that
-unfoldable pub plan_by : Given → Front → Tags → Vars → ClientOut → Plan
+unfoldable pub plan_by : Given → RequestFront → RequestTags → Vars → ClientOut → Plan
 plan_by g front t vars out =
     let route : Route = route_of out.url t.set g.config.forwards in
     record {
@@ -107,32 +107,32 @@ plan_by g front t vars out =
       bodiless = front.bodiless;
     }
 
-abbrev pub plan_of : Given → Request → Tags → ClientOut → Plan
+abbrev pub plan_of : Given → Request → RequestTags → ClientOut → Plan
 plan_of g r t out = plan_by g (front_of g r) t (vars_of g.peer r.url) out
 
 -- the plan of a tunnel
-unfoldable pub tunnel_of : Given → Request → Tags → TunnelPlan
+unfoldable pub tunnel_of : Given → Request → RequestTags → TunnelPlan
 tunnel_of g r t =
     let route : Route = route_of r.url t.set g.config.forwards in
-    record { url = r.url; route = route; head = tunnel_head route.parent r.url; greeting = greeting route.parent }
+    record { url = r.url; route = route; head = tunnel_head route.parent r.url; greeting = tunnel_greeting route.parent }
 
 -- ---- the steps
 
 -- by what the header rows make of the head; a rewritten request line that isn't one is refused
-abbrev pub by_headers : Given → Request → Tags → Option ClientOut → Judgement
+abbrev pub by_headers : Given → Request → RequestTags → Option ClientOut → Judgement
 by_headers g r t (Some out) = Forward (plan_of g r t out)
 by_headers g r t None = closing_page page.BadRewrite (job_symbols (vars_of g.peer r.url) r.url.port (header_fault_name header_fault.BadRewrite)) (is_head r.head)
 
 -- a request that passes
-abbrev pub by_method : Given → Request → Tags → Judgement
+abbrev pub by_method : Given → Request → RequestTags → Judgement
 by_method g r t =
     if is_connect r.head then Tunnel (tunnel_of g r t)
     else by_headers g r t (client_out t.set g.config.filters (vars_of g.peer r.url) r.url g.peer r.head)
 
 -- by what the actions decide
-abbrev pub by_decision : Given → Request → Tags → Decision → Judgement
+abbrev pub by_decision : Given → Request → RequestTags → Decision → Judgement
 by_decision g r t decision.Pass = by_method g r t
-by_decision g r t (decision.Blocked reason) = blocked g r reason
+by_decision g r t (decision.Blocked reason) = blocked_reply g r reason
 by_decision g r t decision.ImageBlank = image_or_page g r t g.config.image_blank kind.BlankImage
 by_decision g r t decision.ImagePattern = image_or_page g r t g.config.image_pattern kind.PatternImage
 by_decision g r t decision.Empty = reply_to g r kind.EmptyDocument
@@ -140,16 +140,16 @@ by_decision g r t (decision.Redirect target) = reply_to g r (kind.Redirect targe
 by_decision g r t decision.ConnectDenied = closing_page page.ConnectDenied (url_symbols r.url [] [] []) false
 
 -- by the actions that are set for the request
-abbrev pub by_tags : Given → Request → Tags → Judgement
+abbrev pub by_tags : Given → Request → RequestTags → Judgement
 by_tags g r t = by_decision g r t (decision_of r.url (is_connect r.head) t.set (vars_of g.peer r.url))
 
 -- the body's rule is refused
 abbrev pub body_refused : RequestHead → Url → BodyFault → Judgement
-body_refused head url fault = closing_page page.InvalidRequest (url_symbols url [] (fault_name fault) []) (is_head head)
+body_refused head url fault = closing_page page.InvalidRequest (url_symbols url [] (body_fault_name fault) []) (is_head head)
 
 -- by the rule of the body
 abbrev pub by_rule : Given → RequestHead → Url → Result BodyRule BodyFault → Judgement
-by_rule g head url (Ok rule) = by_tags g (record { head = head; url = url; rule = rule }) (tagged g head url)
+by_rule g head url (Ok rule) = by_tags g (record { head = head; url = url; rule = rule }) (tagged_request g head url)
 by_rule g head url (Err fault) = body_refused head url fault
 
 -- by the target
@@ -158,7 +158,7 @@ by_url g head (Ok url) = by_rule g head url (body_read head)
 by_url g head (Err fault) = invalid (url_fault_name fault) (is_head head)
 
 -- what is done for a request that reads so
-abbrev pub judged : Given → Reading → Judgement
+abbrev pub judged : Given → HeadReading → Judgement
 judged g Overlong = closing_page page.HeadTooLong (bare_symbols []) false
 judged g Malformed = invalid (head_fault_name head_fault.Malformed) false
 judged g TooManyFields = invalid (head_fault_name head_fault.TooManyFields) false
@@ -166,6 +166,6 @@ judged g (Head head) = by_url g head (target_read head)
 
 -- what was seen reads as something, by which that is done
 pub record Judged (g : Given) (j : Judgement) : Type 0 where
-  pub reading : Reading
+  pub reading : HeadReading
   pub reads : ReadsAs g.seen reading
   pub is : j ≡ judged g reading

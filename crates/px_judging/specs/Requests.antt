@@ -19,7 +19,7 @@ use Rattle.px_merge.specs.Merging.{url_actions}
 use Rattle.px_merge.specs.declared.sides.Side.TheVariants as side
 use Rattle.px_taggers.specs.Tagging.{Tagged, tag_headers}
 use Rattle.px_judging.specs.Given.{Given}
-use Rattle.px_judging.specs.declared.requests.Tags.{Tags}
+use Rattle.px_judging.specs.declared.requests.RequestTags.{RequestTags}
 
 -- the method asks for a tunnel (RFC 9110, section 9.3.6)
 abbrev pub is_connect : RequestHead → Bool
@@ -38,25 +38,25 @@ abbrev pub body_read : RequestHead → Result BodyRule BodyFault
 body_read head = if is_connect head then Ok rule.Absent else request_rule head.fields
 
 -- the connection may be kept behind the request, as far as its head says (RFC 9112, section 9.3)
-unfoldable pub keeps : Bool → RequestHead → Bool
-keeps last head = (head.minor == 1 && not last) && not (is_connection_word (codes "close") head.fields)
+unfoldable pub keeps_behind_request : Bool → RequestHead → Bool
+keeps_behind_request last head = (head.minor == 1 && not last) && not (is_connection_word (codes "close") head.fields)
 
 -- the values of a job's words
 abbrev pub vars_of : List ℕ → Url → Vars
 vars_of peer url = record { host = url.host; origin = peer; path = url.path; url = shown_url url }
 
 -- the lines of a head as taggers see them: as received
-abbrev pub lines_of : RequestHead → List (List ℕ)
-lines_of head = request_line head ∷ map field_line head.fields
+abbrev pub head_lines : RequestHead → List (List ℕ)
+head_lines head = request_line head ∷ map field_line head.fields
 
-abbrev pub tags_of : Tagged → Tags
-tags_of t = record { set = t.set; tags = t.tags }
+abbrev pub request_tags : Tagged → RequestTags
+request_tags t = record { set = t.set; tags = t.tags }
 
 -- what is set for a request, and its tags: those of the URL and of the client's tags, and then by the taggers. With `toggle 0`
 -- nothing is set, and no tagger runs
-unfoldable pub tagged : Given → RequestHead → Url → Tags
-tagged g head url =
+unfoldable pub tagged_request : Given → RequestHead → Url → RequestTags
+tagged_request g head url =
     if g.config.settings.toggle
-    then tags_of (tag_headers g.config.sections.sections g.config.filters (url_actions g.config.sections.sections url g.tags) []
-    (lines_of head) side.Request (vars_of g.peer url))
+    then request_tags (tag_headers g.config.sections.sections g.config.filters (url_actions g.config.sections.sections url g.tags) []
+    (head_lines head) side.Request (vars_of g.peer url))
     else record { set = empty_set; tags = [] }

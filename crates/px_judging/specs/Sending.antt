@@ -37,5 +37,5 @@ abbrev pub tunnel_head : Bool → Url → List ℕ
 tunnel_head parent url = if parent then connect_head url else []
 
 -- what the client is told before anything is carried
-abbrev pub greeting : Bool → List ℕ
-greeting parent = if parent then [] else codes "HTTP/1.1 200 Connection established" ++ crlf ++ crlf
+abbrev pub tunnel_greeting : Bool → List ℕ
+tunnel_greeting parent = if parent then [] else codes "HTTP/1.1 200 Connection established" ++ crlf ++ crlf

@@ -1,6 +1,6 @@
 // What a tunnel begins with.
 ghost use Rattle.std.specs.Prelude.{◌≡◌, IfOk};
-ghost use Rattle.px_judging.specs.Sending.{authority_text, connect_head, tunnel_head, greeting};
+ghost use Rattle.px_judging.specs.Sending.{authority_text, connect_head, tunnel_head, tunnel_greeting};
 
 use itoa::Buffer;
 use px_base::{List, Mem, Text};
@@ -59,7 +59,7 @@ pub fn tunnel_head(alloc: Global, parent: bool, url: &Url) -> Result<Text, Mem>
 
 /// What the client is told before anything is carried.
 pub fn greeting(alloc: Global, parent: bool) -> Result<Text, Mem>
-    ensures { IfOk result (λ text. text ≡ greeting parent) }
+    ensures { IfOk result (λ text. text ≡ tunnel_greeting parent) }
 {
     if parent {
         Ok(Text::new(alloc))

@@ -1,17 +1,17 @@
 // Judging: what is done for a request, before any dial. Each step refuses, or goes on to the next.
 ghost use Rattle.std.specs.Prelude.{◌≡◌, IfOk};
-ghost use Rattle.px_judging.specs.Judging.{judged, body_refused, by_url, by_rule, by_tags, by_decision, by_method, by_headers, front_of, closing_page, invalid, reply_to, blocked, image_or_page};
-ghost use Rattle.px_judging.specs.Requests.{tagged, vars_of, body_read, target_read};
+ghost use Rattle.px_judging.specs.Judging.{judged, body_refused, by_url, by_rule, by_tags, by_decision, by_method, by_headers, front_of, closing_page, invalid, reply_to, blocked_reply, image_or_page};
+ghost use Rattle.px_judging.specs.Requests.{tagged_request, vars_of, body_read, target_read};
 ghost use Rattle.px_judging.specs.Replies.{job_symbols};
 ghost use Rattle.px_headers.specs.ClientRows.{client_out};
-ghost use Rattle.px_headers.specs.Faults.{fault_name};
+ghost use Rattle.px_headers.specs.Faults.{header_fault_name};
 
 use crate::handed::Handed;
 use crate::judgements::Judgement;
-use crate::plans::{Front, plan_by, tunnel_of};
-use crate::readings::Reading;
+use crate::plans::{RequestFront, plan_by, tunnel_of};
+use crate::readings::HeadReading;
 use crate::replies::{LocalReply, ReplyKind, bare_symbols, job_symbols, url_symbols};
-use crate::requests::{Request, Tags};
+use crate::requests::{Request, RequestTags};
 use crate::tagging::{tag_request, vars_of};
 use crate::targets::{is_connect, is_head, keeps, read_body, read_target};
 use px_actions::Kind;
@@ -65,7 +65,7 @@ fn blocked(
     request: &Request,
     reason: &[u8],
 ) -> Result<Judgement, Mem>
-    ensures { IfOk result (λ j. j ≡ blocked handed.now request.now reason.now) }
+    ensures { IfOk result (λ j. j ≡ blocked_reply handed.now request.now reason.now) }
 {
     let symbols = url_symbols(alloc, &request.url, reason, &[], &[])?;
     let page = Page::Blocked;
@@ -77,7 +77,7 @@ fn image_or_page(
     alloc: Global,
     handed: &Handed<'_>,
     request: &Request,
-    tags: &Tags,
+    tags: &RequestTags,
     image: &Option<Text>,
     kind: ReplyKind,
 ) -> Result<Judgement, Mem>
@@ -93,11 +93,11 @@ fn image_or_page(
 }
 
 /// What of a request's head is needed when its fields are gone.
-fn front_of(alloc: Global, handed: &Handed<'_>, request: &Request) -> Result<Front, Mem>
+fn front_of(alloc: Global, handed: &Handed<'_>, request: &Request) -> Result<RequestFront, Mem>
     ensures { IfOk result (λ front. front ≡ front_of handed.now request.now) }
 {
     let head = &request.head;
-    Ok(Front {
+    Ok(RequestFront {
         method: Text::from_bytes(alloc, head.method.as_bytes())?,
         minor: head.minor,
         rule: request.rule,
@@ -109,7 +109,7 @@ fn front_of(alloc: Global, handed: &Handed<'_>, request: &Request) -> Result<Fro
 
 /// The page of a request whose line was rewritten badly.
 fn bad_rewrite(alloc: Global, vars: &Vars, port: u16, bodiless: bool) -> Result<Judgement, Mem>
-    ensures { IfOk result (λ j. j ≡ closing_page Page.BadRewrite (job_symbols vars.now port (fault_name HeaderFault.BadRewrite)) bodiless) }
+    ensures { IfOk result (λ j. j ≡ closing_page Page.BadRewrite (job_symbols vars.now port (header_fault_name HeaderFault.BadRewrite)) bodiless) }
 {
     let error = HeaderFault::BadRewrite.name();
     let symbols = job_symbols(alloc, vars, port, error.as_bytes())?;
@@ -122,7 +122,7 @@ fn judge_headers(
     handed: &Handed<'_>,
     warm: &mut Warm<'_>,
     request: Request,
-    tags: Tags,
+    tags: RequestTags,
     vars: Vars,
 ) -> Result<Judgement, Mem>
     requires filters { warm.old.filters ≡ handed.now.config.filters }
@@ -160,7 +160,7 @@ fn judge_method(
     handed: &Handed<'_>,
     warm: &mut Warm<'_>,
     request: Request,
-    tags: Tags,
+    tags: RequestTags,
     vars: Vars,
 ) -> Result<Judgement, Mem>
     requires filters { warm.old.filters ≡ handed.now.config.filters }
@@ -182,7 +182,7 @@ fn judge_decision(
     handed: &Handed<'_>,
     warm: &mut Warm<'_>,
     request: Request,
-    tags: Tags,
+    tags: RequestTags,
     vars: Vars,
     decision: Decision,
 ) -> Result<Judgement, Mem>
@@ -227,7 +227,7 @@ fn judge_tags(
     handed: &Handed<'_>,
     warm: &mut Warm<'_>,
     request: Request,
-    tags: Tags,
+    tags: RequestTags,
     vars: Vars,
 ) -> Result<Judgement, Mem>
     requires filters { warm.old.filters ≡ handed.now.config.filters }
@@ -250,7 +250,7 @@ fn judge_request(
 ) -> Result<Judgement, Mem>
     requires sections { warm.old.sections ≡ handed.now.config.sections }
     requires filters { warm.old.filters ≡ handed.now.config.filters }
-    ensures value { IfOk result (λ j. j ≡ by_tags handed.now request (tagged handed.now request.head request.url)) }
+    ensures value { IfOk result (λ j. j ≡ by_tags handed.now request (tagged_request handed.now request.head request.url)) }
     ensures same_sections { warm.new.sections ≡ warm.old.sections }
     ensures same_filters { warm.new.filters ≡ warm.old.filters }
 {
@@ -318,7 +318,7 @@ pub fn judge(
     alloc: Global,
     handed: &Handed<'_>,
     warm: &mut Warm<'_>,
-    reading: Reading,
+    reading: HeadReading,
 ) -> Result<Judgement, Mem>
     requires sections { warm.old.sections ≡ handed.now.config.sections }
     requires filters { warm.old.filters ≡ handed.now.config.filters }
@@ -327,12 +327,16 @@ pub fn judge(
     ensures same_filters { warm.new.filters ≡ warm.old.filters }
 {
     match reading {
-        Reading::Overlong => {
+        HeadReading::Overlong => {
             let symbols = bare_symbols(alloc, &[])?;
             Ok(closing_page(Page::HeadTooLong, symbols, false))
         }
-        Reading::Malformed => invalid(alloc, HeadFault::Malformed.name().as_bytes(), false),
-        Reading::TooManyFields => invalid(alloc, HeadFault::TooManyFields.name().as_bytes(), false),
-        Reading::Head(head) => judge_head(alloc, handed, warm, head),
+        HeadReading::Malformed => invalid(alloc, HeadFault::Malformed.name().as_bytes(), false),
+        HeadReading::TooManyFields => invalid(
+            alloc,
+            HeadFault::TooManyFields.name().as_bytes(),
+            false,
+        ),
+        HeadReading::Head(head) => judge_head(alloc, handed, warm, head),
     }
 }

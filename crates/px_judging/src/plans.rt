@@ -6,7 +6,7 @@ ghost use Rattle.px_judging.specs.Sending.{next_target, sent_head};
 use crate::connects::{greeting, tunnel_head};
 use crate::handed::Handed;
 use crate::judgements::{Plan, TunnelPlan};
-use crate::requests::{Request, Tags};
+use crate::requests::{Request, RequestTags};
 use px_actions::Kind;
 use px_answers::Asked;
 use px_base::{Mem, Text};
@@ -59,7 +59,7 @@ fn sent_head(
 
 /// What of a request's head is needed when its fields are gone.
 #[derive(Drop)]
-pub struct Front {
+pub struct RequestFront {
     pub method: Text,
     pub minor: u8,
     pub rule: BodyRule,
@@ -73,8 +73,8 @@ pub struct Front {
 pub fn plan_by(
     alloc: Global,
     handed: &Handed<'_>,
-    front: Front,
-    tags: Tags,
+    front: RequestFront,
+    tags: RequestTags,
     vars: Vars,
     out: ClientOut,
 ) -> Result<Plan, Mem>
@@ -120,7 +120,7 @@ pub fn tunnel_of(
     alloc: Global,
     handed: &Handed<'_>,
     request: Request,
-    tags: Tags,
+    tags: RequestTags,
 ) -> Result<TunnelPlan, Mem>
     ensures { IfOk result (λ plan. plan ≡ tunnel_of handed.now request tags) }
 {

@@ -17,7 +17,7 @@ pub enum HeadSeen {
 
 /// What the bytes that were seen read as.
 #[derive(Drop)]
-pub enum Reading {
+pub enum HeadReading {
     /// No block within the limit.
     Overlong,
     /// A block that isn't one whole head.
@@ -28,22 +28,22 @@ pub enum Reading {
 }
 
 /// Reads what was seen.
-pub fn read_request(alloc: Global, seen: &HeadSeen) -> Result<Reading, Mem>
+pub fn read_request(alloc: Global, seen: &HeadSeen) -> Result<HeadReading, Mem>
     ensures { IfOk result (ReadsAs seen.now) }
 {
     match seen {
         HeadSeen::Block(block) => read_block(alloc, block.as_bytes()),
-        HeadSeen::Over => Ok(Reading::Overlong),
+        HeadSeen::Over => Ok(HeadReading::Overlong),
     }
 }
 
-fn read_block(alloc: Global, block: &[u8]) -> Result<Reading, Mem>
+fn read_block(alloc: Global, block: &[u8]) -> Result<HeadReading, Mem>
     ensures { IfOk result (BlockReads block.now) }
 {
     match RequestHead::read(alloc, block) {
-        Ok(head) => Ok(Reading::Head(head)),
-        Err(HeadFault::Malformed) => Ok(Reading::Malformed),
-        Err(HeadFault::TooManyFields) => Ok(Reading::TooManyFields),
+        Ok(head) => Ok(HeadReading::Head(head)),
+        Err(HeadFault::Malformed) => Ok(HeadReading::Malformed),
+        Err(HeadFault::TooManyFields) => Ok(HeadReading::TooManyFields),
         Err(HeadFault::Mem) => Err(Mem),
     }
 }

@@ -15,7 +15,7 @@ pub struct Request {
 
 /// What is set for a request, and its tags.
 #[derive(Drop)]
-pub struct Tags {
+pub struct RequestTags {
     pub set: ActionSet,
     pub tags: List<Text>,
 }

@@ -4,15 +4,15 @@ ghost use Rattle.px_head.specs.Prints.{field_line};
 ghost use Rattle.px_merge.specs.Merging.{url_actions};
 ghost use Rattle.px_merge.specs.declared.sides.Side.TheVariants as side;
 ghost use Rattle.px_taggers.specs.Tagging.{TagsLike};
-ghost use Rattle.px_judging.specs.Requests.{tagged, lines_of, vars_of};
+ghost use Rattle.px_judging.specs.Requests.{tagged_request, head_lines, vars_of};
 
 use crate::handed::Handed;
-use crate::requests::Tags;
+use crate::requests::RequestTags;
 use px_actions::ActionSet;
 use px_base::{List, Mem, Peer, Steps, Text};
 use px_config::Warm;
 use px_head::RequestHead;
-use px_merge::{Side, Warm as WarmSections};
+use px_merge::{Side, WarmSections};
 use px_patterns::Url;
 use px_subst::Vars;
 use px_taggers::{has_taggers, tag_headers_with};
@@ -34,7 +34,7 @@ pub fn vars_of(alloc: Global, peer: &Peer, url: &Url) -> Result<Vars, Mem>
 
 /// The lines of a head as taggers see them: as received.
 fn lines_of(alloc: Global, head: &RequestHead) -> Result<List<Text>, Mem>
-    ensures { IfOk result (λ lines. lines ≡ lines_of head.now) }
+    ensures { IfOk result (λ lines. lines ≡ head_lines head.now) }
 {
     let fields = head.fields.as_slice();
     let mut lines = List::with_capacity(alloc, fields.len().saturating_add(1))?;
@@ -47,7 +47,7 @@ fn lines_of(alloc: Global, head: &RequestHead) -> Result<List<Text>, Mem>
 
 /// The lines of a head as far as taggers of the set need them: none where there are none.
 fn lines_for(alloc: Global, head: &RequestHead, set: &ActionSet) -> Result<List<Text>, Mem>
-    ensures { IfOk result (λ lines. TagsLike set.now side.Request lines (lines_of head.now)) }
+    ensures { IfOk result (λ lines. TagsLike set.now side.Request lines (head_lines head.now)) }
 {
     if has_taggers(set, Side::Request) {
         lines_of(alloc, head)
@@ -88,7 +88,7 @@ fn actions_of(
 }
 
 /// What is set for a request, and its tags: those of the URL and of the client's tags, and then by the taggers.
-#[tactic(auto, unfolding(crate::specs::Requests::tagged))]
+#[tactic(auto, unfolding(crate::specs::Requests::tagged_request))]
 pub fn tag_request(
     alloc: Global,
     handed: &Handed<'_>,
@@ -96,18 +96,18 @@ pub fn tag_request(
     head: &RequestHead,
     url: &Url,
     vars: &Vars,
-) -> Result<Tags, Mem>
+) -> Result<RequestTags, Mem>
     requires sections { warm.old.sections ≡ handed.now.config.sections }
     requires filters { warm.old.filters ≡ handed.now.config.filters }
     requires vars { vars.now ≡ vars_of handed.now.peer url.now }
-    ensures value { IfOk result (λ t. t ≡ tagged handed.now head.now url.now) }
+    ensures value { IfOk result (λ t. t ≡ tagged_request handed.now head.now url.now) }
     ensures same_sections { warm.new.sections ≡ warm.old.sections }
     ensures same_filters { warm.new.filters ≡ warm.old.filters }
 {
     let mut tags = List::new(alloc);
     if !handed.config.settings.toggle {
         let set = ActionSet::empty(alloc);
-        return Ok(Tags { set, tags });
+        return Ok(RequestTags { set, tags });
     }
     let Warm { sections, filters } = warm;
     let mut set = actions_of(alloc, sections, url, handed.tags)?;
@@ -122,5 +122,5 @@ pub fn tag_request(
         Side::Request,
         vars,
     )?;
-    Ok(Tags { set, tags })
+    Ok(RequestTags { set, tags })
 }

@@ -1,6 +1,6 @@
 // What the target of a request asks for, and by which rule its body is read.
 ghost use Rattle.std.specs.Prelude.{◌≡◌, ◌≢◌, Ok, Err, IfOk};
-ghost use Rattle.px_judging.specs.Requests.{is_connect, is_head, target_read, body_read, keeps};
+ghost use Rattle.px_judging.specs.Requests.{is_connect, is_head, target_read, body_read, keeps_behind_request};
 
 use px_base::Mem;
 use px_framing::{BodyFault, BodyRule, request_body};
@@ -24,9 +24,9 @@ pub fn is_head(head: &RequestHead) -> bool
 
 /// Whether the connection may be kept behind the request, as far as its head says (RFC 9112, section 9.3). `last` is the last
 /// request of a connection.
-#[tactic(auto, unfolding(crate::specs::Requests::keeps))]
+#[tactic(auto, unfolding(crate::specs::Requests::keeps_behind_request))]
 pub fn keeps(last: bool, head: &RequestHead) -> bool
-    ensures { result ≡ keeps last head.now }
+    ensures { result ≡ keeps_behind_request last head.now }
 {
     head.minor == 1 && !last && !is_connection_word(b"close", head.fields.as_slice())
 }

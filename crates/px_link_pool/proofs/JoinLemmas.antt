@@ -12,17 +12,17 @@ use Rattle.px_base.specs.declared.dials.DialOutcome.TheVariants as outcome
 use Rattle.px_base.specs.Sources.{SourceState, given}
 use Rattle.px_base.specs.Sinks.{SinkState}
 use Rattle.px_base.specs.Dials.{dial_to, DialerState, LinkState, Traffic, IsTold, is_open, finish, traffic, dialed, linked}
-use Rattle.px_pool_ends.specs.Incomings.{Hearing, outer_source, inner_source, heard, IsLater}
+use Rattle.px_pool_ends.specs.Incomings.{Hearing, outer_source, inner_source, heard, IsLaterSource}
 use Rattle.px_pool_ends.specs.Outgoings.{Sending, outer_sink, inner_sink, sent, IsSent}
 use Rattle.px_link_pool.specs.declared.histories.History.{History}
-use Rattle.px_link_pool.specs.declared.shelves.Kept.{Kept}
+use Rattle.px_link_pool.specs.declared.shelves.KeptLink.{KeptLink}
 use Rattle.px_link_pool.specs.declared.shelves.Shelf.{Shelf}
-use Rattle.px_link_pool.specs.Histories.{Views, dials_of, kept_of, from_there, with_closed, all_closed, Tells}
-use Rattle.px_pool_ends.specs.Names.{so_far}
+use Rattle.px_link_pool.specs.Histories.{Views, dials_of, kept_links, from_there, with_closed, all_closed, HistoryTells}
+use Rattle.px_pool_ends.specs.Names.{passed_so_far}
 use Rattle.px_link_pool.specs.Joins.{again_over, fresh_over, dials_over, anew, joined_with, over, traffic_by, with_joined, inner_by, all_joined, inner_at_end, is_joined, are_joined, open_marks, names, Joins}
 use Rattle.px_pool_ends.specs.Names.{Passed, lent_mark}
 use Rattle.px_link_pool.specs.Shelves.{items, in_front, is_at}
-use Rattle.px_link_pool.specs.Standing.{KeptState, kept_state, kept_states, tally, opens, held, is_told, Stands}
+use Rattle.px_link_pool.specs.Standing.{KeptState, kept_state, kept_states, tally, open_count, held_count, is_told, PoolStands}
 use Rattle.px_link_pool.proofs.MarkLemmas.{IsLent}
 use Rattle.px_link_pool.proofs.StandingLemmas.{open_some, open_none, none_open, opens-finish, same_mark, kept_states-append}
 use Rattle.px_link_pool.proofs.HandingLemmas.{Shelved, some_is_none, same_one}
@@ -51,13 +51,13 @@ both false b h k = (cc)
 same_passed : (a b c d e f : List ℕ) → a ≡ b → c ≡ d → e ≡ f → ◌≡◌ {A = Passed} (record { offered = a; heard = c; sent = e }) (record { offered = b; heard = d; sent = f })
 same_passed a b c d e f g h i = cc
 
-pub joined_parts : (w : ℕ → Passed) (k : KeptState) → IsTrue (is_joined w k) → so_far k.link_in k.link_out ≡ w k.link_in.mark
+pub joined_parts : (w : ℕ → Passed) (k : KeptState) → IsTrue (is_joined w k) → passed_so_far k.link_in k.link_out ≡ w k.link_in.mark
 joined_parts w k h =
     let p = and_parts (bytes_eq k.link_in.offered (w k.link_in.mark).offered) (bytes_eq (given k.link_in) (w k.link_in.mark).heard && bytes_eq k.link_out.taken (w k.link_in.mark).sent) h in
     let q = and_parts (bytes_eq (given k.link_in) (w k.link_in.mark).heard) (bytes_eq k.link_out.taken (w k.link_in.mark).sent) p.1 in
     same_passed _ _ _ _ _ _ (same_bytes _ _ p.0) (same_bytes _ _ q.0) (same_bytes _ _ q.1)
 
-pub joined_whole : (w : ℕ → Passed) (k : KeptState) → so_far k.link_in k.link_out ≡ w k.link_in.mark → IsTrue (is_joined w k)
+pub joined_whole : (w : ℕ → Passed) (k : KeptState) → passed_so_far k.link_in k.link_out ≡ w k.link_in.mark → IsTrue (is_joined w k)
 joined_whole w k e =
     both (bytes_eq k.link_in.offered (w k.link_in.mark).offered) (bytes_eq (given k.link_in) (w k.link_in.mark).heard && bytes_eq k.link_out.taken (w k.link_in.mark).sent) (bytes_same _ _ (ap (λ x. x.offered) e))
     (both (bytes_eq (given k.link_in) (w k.link_in.mark).heard) (bytes_eq k.link_out.taken (w k.link_in.mark).sent) (bytes_same _ _ (ap (λ x. x.heard) e)) (bytes_same _ _ (ap (λ x. x.sent) e)))
@@ -69,10 +69,10 @@ none_tallied : (b : Bool) (n : ℕ) → tally b + n ≡ 0 → (b ≡ false) × (
 none_tallied true n h = absurd (omega (arith, h))
 none_tallied false n h = (refl, omega (arith, h))
 
-pub joined_same : (m : ℕ) (w u : ℕ → Passed) (ks : List KeptState) → Others m w u → held m ks ≡ 0 → IsTrue (are_joined w ks) → IsTrue (are_joined u ks)
+pub joined_same : (m : ℕ) (w u : ℕ → Passed) (ks : List KeptState) → Others m w u → held_count m ks ≡ 0 → IsTrue (are_joined w ks) → IsTrue (are_joined u ks)
 joined_same m w u [] others h j = refl
 joined_same m w u (k ∷ ks) others h j =
-    let p = none_tallied (k.link_in.mark == m) (held m ks) h in
+    let p = none_tallied (k.link_in.mark == m) (held_count m ks) h in
     let q = and_parts (is_joined w k) (are_joined w ks) j in
     both (is_joined u k) (are_joined u ks) (joined_still w u k (others k.link_in.mark (turned k.link_in.mark m p.0)) q.0) (joined_same m w u ks others p.1 q.1)
 
@@ -106,9 +106,9 @@ none_more : (host : List ℕ) (port : ℕ) (f : DialFault) (ds now : List Dial) 
 none_more host port f ds now e = ap open_marks e ∙ open_marks-append ds (dialed host port (Err f)) ∙ ap (λ ms. open_marks ds ++ ms) (none_marked host port f) ∙ append-none (open_marks ds)
 
 -- a mark that isn't open at the inner dialer is none of a lent or of a kept link
-pub unknown : (inner : DialerState) (plain : List Dial) (kept : List KeptState) (m : ℕ) → Stands inner plain kept → IsTrue inner.tells → is_open m inner.dials ≡ false → (is_open m plain ≡ false) × (held m kept ≡ 0)
+pub unknown : (inner : DialerState) (plain : List Dial) (kept : List KeptState) (m : ℕ) → PoolStands inner plain kept → IsTrue inner.tells → is_open m inner.dials ≡ false → (is_open m plain ≡ false) × (held_count m kept ≡ 0)
 unknown inner plain kept m s tells new =
-    let none : opens m inner.dials ≡ 0 = none_open m inner.dials new in
+    let none : open_count m inner.dials ≡ 0 = none_open m inner.dials new in
     (open_none m plain (omega (arith, s.backed tells m, none)), omega (arith, s.backed tells m, none))
 
 -- a link that isn't open under its inner mark has a new mark
@@ -125,7 +125,7 @@ told_by old w plain l t s m n x named new i o one a b c d = record {
 -- ---- a kept link is lent again
 
 -- a kept link that was found is the first of that place
-there : {S T : Type 0} (ins : S → SourceState) (outs : T → SinkState) (host : List ℕ) (port : ℕ) (ks : List (Kept S T)) (k : Kept S T) → Some k ≡ find (is_at host port) ks
+there : {S T : Type 0} (ins : S → SourceState) (outs : T → SinkState) (host : List ℕ) (port : ℕ) (ks : List (KeptLink S T)) (k : KeptLink S T) → Some k ≡ find (is_at host port) ks
     → (rest : List KeptState) × (from_there host port (kept_states ins outs ks) ≡ kept_state ins outs k ∷ rest)
 there ins outs host port [] k h = absurd (some_is_none k (sym h))
 there ins outs host port (j ∷ ks) k h =
@@ -134,12 +134,12 @@ there ins outs host port (j ∷ ks) k h =
       | false ↦ λ e. let r = there ins outs host port ks k (rw e at h) in (r.0, rw e r.1)
     ] refl
 
-pub there_by : {S T : Type 0} (ins : S → SourceState) (outs : T → SinkState) (host : List ℕ) (port : ℕ) (shelf was : Shelf (Kept S T)) (found : Option (Kept S T)) (k : Kept S T) → was ≡ shelf → found ≡ find (is_at host port) (items was) → found ≡ Some k
+pub there_by : {S T : Type 0} (ins : S → SourceState) (outs : T → SinkState) (host : List ℕ) (port : ℕ) (shelf was : Shelf (KeptLink S T)) (found : Option (KeptLink S T)) (k : KeptLink S T) → was ≡ shelf → found ≡ find (is_at host port) (items was) → found ≡ Some k
     → (rest : List KeptState) × (from_there host port (kept_states ins outs (items shelf)) ≡ kept_state ins outs k ∷ rest)
 there_by ins outs host port shelf was found k e f is = there ins outs host port (items shelf) k (sym is ∙ f ∙ ap (λ x. find (is_at host port) (items x)) e)
 
 -- it offers what is left
-again_offers : (host : List ℕ) (port : ℕ) (w : ℕ → Passed) (k : KeptState) (rest : List KeptState) (l : LinkState) → so_far k.link_in k.link_out ≡ w k.link_in.mark → k.link_in.offered ≡ given k.link_in ++ k.link_in.left
+again_offers : (host : List ℕ) (port : ℕ) (w : ℕ → Passed) (k : KeptState) (rest : List KeptState) (l : LinkState) → passed_so_far k.link_in k.link_out ≡ w k.link_in.mark → k.link_in.offered ≡ given k.link_in ++ k.link_in.left
     → l.link_in.mark ≡ lent_mark true k.link_in.mark (w k.link_in.mark) → l.link_in.offered ≡ k.link_in.left → dialed host port (Ok l) ≡ again_over host port w (k ∷ rest)
 again_offers host port w k rest l passed whole mark left =
     let after : l.link_in.offered ≡ drop (length (w k.link_in.mark).heard) (w k.link_in.mark).offered =
@@ -147,19 +147,19 @@ again_offers host port w k rest l passed whole mark left =
     ap (λ m. dial_to host port (Some (outcome.Open m l.link_in.offered))) mark ∙ ap (λ xs. dial_to host port (Some (outcome.Open (lent_mark true k.link_in.mark (w k.link_in.mark)) xs))) after
 
 pub joins_again : {S T : Type 0} (v : Views S T) (base inner : List Dial) (kept others : List KeptState) (before after : History Hearing Sending S T) (host name : List ℕ) (port : ℕ) (k : KeptState) (rest : List KeptState) (l p : LinkState)
-    → Joins v base inner kept before → kept ≡ kept_of v before → name ≡ host → over v after ≡ over v before → inner_by base v after ≡ inner_by base v before
-    → dials_over v after ≡ dials_over v before ++ again_over name port (over v before) (from_there name port (kept_of v before)) → from_there host port kept ≡ k ∷ rest
+    → Joins v base inner kept before → kept ≡ kept_links v before → name ≡ host → over v after ≡ over v before → inner_by base v after ≡ inner_by base v before
+    → dials_over v after ≡ dials_over v before ++ again_over name port (over v before) (from_there name port (kept_links v before)) → from_there host port kept ≡ k ∷ rest
     → dials_of outer_source outer_sink after ≡ dials_of outer_source outer_sink before ++ dialed name port (Ok l) → dials_of inner_source inner_sink after ≡ dials_of inner_source inner_sink before ++ dialed name port (Ok p)
-    → l.link_in.mark ≡ lent_mark k.link_in.tells k.link_in.mark (so_far k.link_in k.link_out) → l.link_in.offered ≡ k.link_in.left → p.link_in.mark ≡ k.link_in.mark → IsTrue (is_told k)
+    → l.link_in.mark ≡ lent_mark k.link_in.tells k.link_in.mark (passed_so_far k.link_in k.link_out) → l.link_in.offered ≡ k.link_in.left → p.link_in.mark ≡ k.link_in.mark → IsTrue (is_told k)
     → (IsTrue k.link_in.tells → k.link_in.offered ≡ given k.link_in ++ k.link_in.left)
     → ((w : ℕ → Passed) → IsTrue (are_joined w kept) → IsTrue (is_joined w k) × IsTrue (are_joined w others)) → Joins v base inner others after
 joins_again v base inner kept others before after host name port k rest l p was kept_is same_host same by lent first coded plain mark left is told whole off =
     let w : ℕ → Passed = over v before in
     let j = off w was.kept_joined in
-    let passed : so_far k.link_in k.link_out ≡ w k.link_in.mark = joined_parts w k j.0 in
+    let passed : passed_so_far k.link_in k.link_out ≡ w k.link_in.mark = joined_parts w k j.0 in
     let tells : IsTrue k.link_in.tells = (and_parts k.link_in.tells (k.link_out.tells && (k.link_out.mark == k.link_in.mark)) told).0 in
-    let named : l.link_in.mark ≡ lent_mark true k.link_in.mark (w k.link_in.mark) = mark ∙ ap (λ t. lent_mark t k.link_in.mark (so_far k.link_in k.link_out)) tells ∙ ap (λ x. lent_mark true k.link_in.mark x) passed in
-    let here : from_there name port (kept_of v before) ≡ k ∷ rest = ap (λ h. from_there h port (kept_of v before)) same_host ∙ ap (from_there host port) (sym kept_is) ∙ first in
+    let named : l.link_in.mark ≡ lent_mark true k.link_in.mark (w k.link_in.mark) = mark ∙ ap (λ t. lent_mark t k.link_in.mark (passed_so_far k.link_in k.link_out)) tells ∙ ap (λ x. lent_mark true k.link_in.mark x) passed in
+    let here : from_there name port (kept_links v before) ≡ k ∷ rest = ap (λ h. from_there h port (kept_links v before)) same_host ∙ ap (from_there host port) (sym kept_is) ∙ first in
     record {
       inner_is = was.inner_is ∙ sym by;
       kept_joined = rw same j.1;
@@ -181,8 +181,8 @@ pub joins_dialled : {S T : Type 0} (v : Views S T) (base inner new : List Dial) 
     → over v after ≡ (λ n. anew n (linked v.ins v.outs asked) (over v before n))
     → inner_by base v after ≡ inner_by base v before ++ dialed name port (linked v.ins v.outs asked) → dials_over v after ≡ dials_over v before ++ fresh_over name port (linked v.ins v.outs asked)
     → dials_of outer_source outer_sink after ≡ dials_of outer_source outer_sink before ++ dialed name port (Ok l) → dials_of inner_source inner_sink after ≡ dials_of inner_source inner_sink before ++ dialed name port (Ok p)
-    → l.link_in.mark ≡ lent_mark i.link_in.tells i.link_in.mark (so_far i.link_in i.link_out) → l.link_in.offered ≡ i.link_in.offered → p.link_in.mark ≡ i.link_in.mark
-    → IsTrue i.link_in.tells → given i.link_in ≡ [] → i.link_out.taken ≡ [] → is_open i.link_in.mark (dials_of inner_source inner_sink before) ≡ false → held i.link_in.mark kept ≡ 0 → others ≡ kept
+    → l.link_in.mark ≡ lent_mark i.link_in.tells i.link_in.mark (passed_so_far i.link_in i.link_out) → l.link_in.offered ≡ i.link_in.offered → p.link_in.mark ≡ i.link_in.mark
+    → IsTrue i.link_in.tells → given i.link_in ≡ [] → i.link_out.taken ≡ [] → is_open i.link_in.mark (dials_of inner_source inner_sink before) ≡ false → held_count i.link_in.mark kept ≡ 0 → others ≡ kept
     → Joins v base new others after
 joins_dialled v base inner new kept others before after host name port r asked i l p was same e ok grown went by lent coded plain mark left is tells heard sent fresh unheld alike =
     let w : ℕ → Passed = over v before in
@@ -191,10 +191,10 @@ joins_dialled v base inner new kept others before after host name port r asked i
     let same_names : names u (open_marks (dials_of inner_source inner_sink before)) ≡ names w (open_marks (dials_of inner_source inner_sink before)) = names-same i.link_in.mark w u _ (anew_others w i) (sym (open_has i.link_in.mark (dials_of inner_source inner_sink before)) ∙ fresh) in
     let begun : Passed = record { offered = i.link_in.offered; heard = []; sent = [] } in
     let named_first : l.link_in.mark ≡ lent_mark true i.link_in.mark begun =
-    mark ∙ ap (λ t. lent_mark t i.link_in.mark (so_far i.link_in i.link_out)) tells ∙ ap (λ x. lent_mark true i.link_in.mark x) (same_passed i.link_in.offered i.link_in.offered (given i.link_in) [] i.link_out.taken [] refl heard sent) in
+    mark ∙ ap (λ t. lent_mark t i.link_in.mark (passed_so_far i.link_in i.link_out)) tells ∙ ap (λ x. lent_mark true i.link_in.mark x) (same_passed i.link_in.offered i.link_in.offered (given i.link_in) [] i.link_out.taken [] refl heard sent) in
     let first : dialed name port (Ok l) ≡ fresh_over name port (Ok i) =
     ap (λ m. dial_to name port (Some (outcome.Open m l.link_in.offered))) named_first ∙ ap (λ xs. dial_to name port (Some (outcome.Open (lent_mark true i.link_in.mark begun) xs))) left in
-    let none : so_far i.link_in i.link_out ≡ u i.link_in.mark = same_passed i.link_in.offered i.link_in.offered (given i.link_in) [] i.link_out.taken [] refl heard sent ∙ sym (anew_here w i) in
+    let none : passed_so_far i.link_in i.link_out ≡ u i.link_in.mark = same_passed i.link_in.offered i.link_in.offered (given i.link_in) [] i.link_out.taken [] refl heard sent ∙ sym (anew_here w i) in
     record {
       inner_is = grown ∙ ap (λ ds. ds ++ dialed host port (linked v.ins v.outs r)) was.inner_is ∙ ap (λ h. inner_by base v before ++ dialed h port (linked v.ins v.outs r)) (sym same)
           ∙ ap (λ a. inner_by base v before ++ dialed name port (linked v.ins v.outs a)) (sym e) ∙ sym by;
@@ -202,7 +202,7 @@ joins_dialled v base inner new kept others before after host name port r asked i
       dials_is = coded ∙ ap (λ ds. ds ++ dialed name port (Ok l)) was.dials_is ∙ ap (λ ds. dials_over v before ++ ds) first
           ∙ ap (λ a. dials_over v before ++ fresh_over name port a) (sym (ap (λ a. linked v.ins v.outs a) e ∙ ok)) ∙ sym lent;
       named = rw now (named_more w u (dials_of outer_source outer_sink before) (dials_of outer_source outer_sink after) (dials_of inner_source inner_sink before) (dials_of inner_source inner_sink after) name port l p was.named coded plain same_names
-          (mark ∙ ap (λ t. lent_mark t i.link_in.mark (so_far i.link_in i.link_out)) tells ∙ ap (λ x. lent_mark true i.link_in.mark x) none ∙ ap (λ m. lent_mark true m (u m)) (sym is)));
+          (mark ∙ ap (λ t. lent_mark t i.link_in.mark (passed_so_far i.link_in i.link_out)) tells ∙ ap (λ x. lent_mark true i.link_in.mark x) none ∙ ap (λ m. lent_mark true m (u m)) (sym is)));
     }
 
 pub joins_refused : {S T : Type 0} (v : Views S T) (base inner new : List Dial) (kept others : List KeptState) (before after : History Hearing Sending S T) (host name : List ℕ) (port : ℕ) (r asked : Result (S × T) DialFault) (f : DialFault)
@@ -231,7 +231,7 @@ with_here : (w : ℕ → Passed) (m : ℕ) (h : Hearing) (s : Sending) → joine
 with_here w m h s = rw (eq-eqb m m refl) refl
 
 -- those that were kept, with the one that is hung up
-front_joined : {S T : Type 0} (ins : S → SourceState) (outs : T → SinkState) (w : ℕ → Passed) (shelf slot : Shelf (Kept S T)) (closing : Option (Kept S T)) (k : Kept S T) (keeps : Bool) → Shelved shelf slot closing k keeps
+front_joined : {S T : Type 0} (ins : S → SourceState) (outs : T → SinkState) (w : ℕ → Passed) (shelf slot : Shelf (KeptLink S T)) (closing : Option (KeptLink S T)) (k : KeptLink S T) (keeps : Bool) → Shelved shelf slot closing k keeps
     → IsTrue (are_joined w (kept_states ins outs (items shelf))) → IsTrue (is_joined w (kept_state ins outs k)) → IsTrue (are_joined w (kept_states ins outs (in_front closing (items slot))))
 front_joined ins outs w shelf slot closing k true h all one =
     rw (h.kept refl, kept_states-append ins outs (items shelf) (k ∷ [])) (joined-append w (kept_states ins outs (items shelf)) (kept_state ins outs k) all one)
@@ -243,7 +243,7 @@ same_traffic : (w : Passed) (i : SourceState) (o : SinkState) → given i ≡ w.
 same_traffic w i o e f = cc
 
 -- the one that is hung up is told by what went over it
-closed_joined : {S T : Type 0} (ins : S → SourceState) (outs : T → SinkState) (w : ℕ → Passed) (closing : Option (Kept S T)) (rest : List (Kept S T)) (ds : List Dial) → IsTrue (are_joined w (kept_states ins outs (in_front closing rest)))
+closed_joined : {S T : Type 0} (ins : S → SourceState) (outs : T → SinkState) (w : ℕ → Passed) (closing : Option (KeptLink S T)) (rest : List (KeptLink S T)) (ds : List Dial) → IsTrue (are_joined w (kept_states ins outs (in_front closing rest)))
     → (with_closed ins outs closing ds ≡ with_joined ins outs w closing ds) × IsTrue (are_joined w (kept_states ins outs rest))
 closed_joined ins outs w None rest ds h = (refl, h)
 closed_joined ins outs w (Some c) rest ds h =
@@ -253,16 +253,16 @@ closed_joined ins outs w (Some c) rest ds h =
 
 -- the marks of those that stay lent
 named_less : (w u : ℕ → Passed) (coded coded_now plain plain_now : List Dial) (m mark : ℕ) (s t : Traffic) → open_marks coded ≡ names w (open_marks plain) → coded_now ≡ finish mark s coded → plain_now ≡ finish m t plain
-    → mark ≡ lent_mark true m (w m) → is_open m plain ≡ true → opens m plain ≤ 1 → Others m w u → open_marks coded_now ≡ names u (open_marks plain_now)
+    → mark ≡ lent_mark true m (w m) → is_open m plain ≡ true → open_count m plain ≤ 1 → Others m w u → open_marks coded_now ≡ names u (open_marks plain_now)
 named_less w u coded coded_now plain plain_now m mark s t named e f is here once others =
-    let gone : opens m (finish m t plain) ≡ 0 = omega (arith, opens-finish m m t plain here, same_mark m m refl, once) in
+    let gone : open_count m (finish m t plain) ≡ 0 = omega (arith, opens-finish m m t plain here, same_mark m m refl, once) in
     let shut : has m (open_marks plain_now) ≡ false = ap (λ ds. has m (open_marks ds)) f ∙ sym (open_has m (finish m t plain)) ∙ open_none m (finish m t plain) gone in
     ap open_marks e ∙ finish_marks mark s coded ∙ ap (without mark) named ∙ ap (λ x. without x (names w (open_marks plain))) is ∙ names-without w (open_marks plain) m
     ∙ ap (names w) (sym (ap open_marks f ∙ finish_marks m t plain)) ∙ sym (names-same m w u (open_marks plain_now) others shut)
 
-joins_handed : {S T : Type 0} (v : Views S T) (base inner new : List Dial) (state : DialerState) (shelf slot : Shelf (Kept S T)) (closing : Option (Kept S T)) (k : Kept S T) (keeps : Bool) (before after : History Hearing Sending S T) (mark : ℕ) (h : Hearing) (s : Sending) (t p : Traffic)
+joins_handed : {S T : Type 0} (v : Views S T) (base inner new : List Dial) (state : DialerState) (shelf slot : Shelf (KeptLink S T)) (closing : Option (KeptLink S T)) (k : KeptLink S T) (keeps : Bool) (before after : History Hearing Sending S T) (mark : ℕ) (h : Hearing) (s : Sending) (t p : Traffic)
     → Joins v base inner (kept_states v.ins v.outs (items shelf)) before → Shelved shelf slot closing k keeps
-    → Stands state (dials_of inner_source inner_sink before) (kept_states v.ins v.outs (items shelf)) → IsTrue state.tells → is_open (v.ins k.source).mark (dials_of inner_source inner_sink before) ≡ true
+    → PoolStands state (dials_of inner_source inner_sink before) (kept_states v.ins v.outs (items shelf)) → IsTrue state.tells → is_open (v.ins k.source).mark (dials_of inner_source inner_sink before) ≡ true
     → over v after ≡ (λ n. joined_with ((v.ins k.source).mark == n) h s (over v before n)) → inner_by base v after ≡ with_joined v.ins v.outs (over v after) closing (inner_by base v before)
     → new ≡ with_closed v.ins v.outs closing inner
     → dials_of outer_source outer_sink after ≡ finish mark t (dials_of outer_source outer_sink before) → dials_of inner_source inner_sink after ≡ finish (v.ins k.source).mark p (dials_of inner_source inner_sink before)
@@ -275,8 +275,8 @@ joins_handed v base inner new state shelf slot closing k keeps before after mark
     let w : ℕ → Passed = over v before in
     let u : ℕ → Passed = λ n. joined_with (m == n) h s (w n) in
     let ds : List Dial = dials_of inner_source inner_sink before in
-    let once : opens m ds + held m (kept_states v.ins v.outs (items shelf)) ≤ 1 = stands.once tells m in
-    let some : 1 ≤ opens m ds = open_some m ds here in
+    let once : open_count m ds + held_count m (kept_states v.ins v.outs (items shelf)) ≤ 1 = stands.once tells m in
+    let some : 1 ≤ open_count m ds = open_some m ds here in
     let one : IsTrue (is_joined u (kept_state v.ins v.outs k)) = joined_whole u (kept_state v.ins v.outs k) (same_passed _ _ _ _ _ _ offered heard sent ∙ sym (with_here w m h s)) in
     let all : IsTrue (are_joined u (kept_states v.ins v.outs (items shelf))) = joined_same m w u (kept_states v.ins v.outs (items shelf)) (with_others w m h s) (omega (arith, once, some)) was.kept_joined in
     let front = front_joined v.ins v.outs u shelf slot closing k keeps shelved all one in
@@ -289,10 +289,10 @@ joins_handed v base inner new state shelf slot closing k keeps before after mark
     }
 
 -- the same, by what both ends say of the inner link
-pub joins_back : {S T : Type 0} (v : Views S T) (base inner new : List Dial) (state : DialerState) (shelf slot : Shelf (Kept S T)) (closing : Option (Kept S T)) (k : Kept S T) (keeps : Bool) (before after : History Hearing Sending S T) (h : Hearing) (s : Sending) (t p : Traffic)
+pub joins_back : {S T : Type 0} (v : Views S T) (base inner new : List Dial) (state : DialerState) (shelf slot : Shelf (KeptLink S T)) (closing : Option (KeptLink S T)) (k : KeptLink S T) (keeps : Bool) (before after : History Hearing Sending S T) (h : Hearing) (s : Sending) (t p : Traffic)
     → Joins v base inner (kept_states v.ins v.outs (items shelf)) before → Shelved shelf slot closing k keeps
-    → Stands state (dials_of inner_source inner_sink before) (kept_states v.ins v.outs (items shelf)) → IsTrue state.tells
-    → v.ins k.source ≡ h.source → v.outs k.sink ≡ s.sink → IsLent (over v before) (dials_of inner_source inner_sink before) h s → IsLater h.begun h.source → IsSent s
+    → PoolStands state (dials_of inner_source inner_sink before) (kept_states v.ins v.outs (items shelf)) → IsTrue state.tells
+    → v.ins k.source ≡ h.source → v.outs k.sink ≡ s.sink → IsLent (over v before) (dials_of inner_source inner_sink before) h s → IsLaterSource h.begun h.source → IsSent s
     → over v after ≡ (λ n. joined_with (h.source.mark == n) h s (over v before n)) → inner_by base v after ≡ with_joined v.ins v.outs (over v after) closing (inner_by base v before)
     → new ≡ with_closed v.ins v.outs closing inner
     → dials_of outer_source outer_sink after ≡ finish (outer_source h).mark t (dials_of outer_source outer_sink before) → dials_of inner_source inner_sink after ≡ finish h.source.mark p (dials_of inner_source inner_sink before)
@@ -314,11 +314,11 @@ all_closed_joined w (k ∷ ks) ds h =
 pub fresh_given : (i : SourceState) → i.left ≡ i.offered → given i ≡ []
 fresh_given i e = front_of i.offered [] i.left (sym e)
 
-pub nothing_left : {S T : Type 0} (ins : S → SourceState) (outs : T → SinkState) (ks : List (Kept S T)) (ds : List Dial) → length ks ≡ 0 → ds ≡ all_closed (kept_states ins outs ks) ds
+pub nothing_left : {S T : Type 0} (ins : S → SourceState) (outs : T → SinkState) (ks : List (KeptLink S T)) (ds : List Dial) → length ks ≡ 0 → ds ≡ all_closed (kept_states ins outs ks) ds
 nothing_left ins outs [] ds h = refl
 nothing_left ins outs (k ∷ ks) ds h = absurd (omega (arith, h))
 
-pub ended : {S T : Type 0} (v : Views S T) (base inner : List Dial) (kept : List KeptState) (history : History Hearing Sending S T) → Tells v base inner kept history → Joins v base inner kept history
+pub ended : {S T : Type 0} (v : Views S T) (base inner : List Dial) (kept : List KeptState) (history : History Hearing Sending S T) → HistoryTells v base inner kept history → Joins v base inner kept history
     → all_closed kept inner ≡ inner_at_end base v history
 ended v base inner kept history tells joins =
     all_closed_joined (over v history) kept inner joins.kept_joined ∙ ap (all_joined (over v history) kept) joins.inner_is ∙ ap (λ ks. all_joined (over v history) ks (inner_by base v history)) tells.kept_is

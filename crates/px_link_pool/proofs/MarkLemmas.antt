@@ -8,21 +8,21 @@ use Rattle.px_base.specs.Dials.{Traffic, is_open_at, is_open, closed, finish}
 use Rattle.px_base.specs.Sources.{given}
 use Rattle.px_pool_ends.specs.Incomings.{Hearing, outer_source}
 use Rattle.px_pool_ends.specs.Outgoings.{Sending, outer_sink}
-use Rattle.px_pool_ends.specs.Names.{Passed, pair, name, so_far, lent_mark}
-use Rattle.px_link_pool.specs.Joins.{open_mark, open_marks, names, IsNamed}
+use Rattle.px_pool_ends.specs.Names.{Passed, pair_number, name, passed_so_far, lent_mark}
+use Rattle.px_link_pool.specs.Joins.{open_mark, open_marks, names, IsNamedLink}
 use Rattle.px_link_pool.proofs.NameLemmas.{pair_some, pair_first, name_of_one}
 
 same_passed : (a b c d e f : List ℕ) → a ≡ b → c ≡ d → e ≡ f → ◌≡◌ {A = Passed} (record { offered = a; heard = c; sent = e }) (record { offered = b; heard = d; sent = f })
 same_passed a b c d e f g h i = cc
 
-pub one_name : (t : Bool) (m : ℕ) (w : Passed) (n : ℕ) (u : Passed) → lent_mark t m w ≡ lent_mark true n u → IsNamed t m w n u
+pub one_name : (t : Bool) (m : ℕ) (w : Passed) (n : ℕ) (u : Passed) → lent_mark t m w ≡ lent_mark true n u → IsNamedLink t m w n u
 unfolding lent_mark
 one_name true m w n u e =
-    let p = pair_first m (pair (name w.offered) (pair (name w.heard) (name w.sent))) n (pair (name u.offered) (pair (name u.heard) (name u.sent))) e in
-    let q = pair_first (name w.offered) (pair (name w.heard) (name w.sent)) (name u.offered) (pair (name u.heard) (name u.sent)) p.1 in
+    let p = pair_first m (pair_number (name w.offered) (pair_number (name w.heard) (name w.sent))) n (pair_number (name u.offered) (pair_number (name u.heard) (name u.sent))) e in
+    let q = pair_first (name w.offered) (pair_number (name w.heard) (name w.sent)) (name u.offered) (pair_number (name u.heard) (name u.sent)) p.1 in
     let r = pair_first (name w.heard) (name w.sent) (name u.heard) (name u.sent) q.1 in
     record { tells = refl; mark = p.0; passed = same_passed w.offered u.offered w.heard u.heard w.sent u.sent (name_of_one w.offered u.offered q.0) (name_of_one w.heard u.heard r.0) (name_of_one w.sent u.sent r.1) }
-one_name false m w n u e = absurd (omega (arith, e, pair_some n (pair (name u.offered) (pair (name u.heard) (name u.sent)))))
+one_name false m w n u e = absurd (omega (arith, e, pair_some n (pair_number (name u.offered) (pair_number (name u.heard) (name u.sent)))))
 
 abbrev pub has : ℕ → List ℕ → Bool
 has m [] = false
@@ -141,10 +141,10 @@ pub record IsLent (w : ℕ → Passed) (plain : List Dial) (h : Hearing) (s : Se
 pub lent_by : (w : ℕ → Passed) (coded plain : List Dial) (h : Hearing) (s : Sending) → open_marks coded ≡ names w (open_marks plain)
     → is_open (outer_source h).mark coded ≡ true → (outer_sink s).mark ≡ (outer_source h).mark → IsLent w plain h s
 lent_by w coded plain h s named here one =
-    let mark : ℕ = lent_mark h.source.tells h.source.mark (so_far h.begun h.begun_out) in
+    let mark : ℕ = lent_mark h.source.tells h.source.mark (passed_so_far h.begun h.begun_out) in
     let found = find_name w (open_marks plain) mark (ap (has mark) (sym named) ∙ sym (open_has mark coded) ∙ here) in
-    let is = one_name h.source.tells h.source.mark (so_far h.begun h.begun_out) found.0 (w found.0) (sym found.2) in
-    let out = one_name s.sink.tells s.sink.mark (so_far s.begun_in s.begun) found.0 (w found.0) (one ∙ sym found.2) in
+    let is = one_name h.source.tells h.source.mark (passed_so_far h.begun h.begun_out) found.0 (w found.0) (sym found.2) in
+    let out = one_name s.sink.tells s.sink.mark (passed_so_far s.begun_in s.begun) found.0 (w found.0) (one ∙ sym found.2) in
     record {
       here = ap (λ m. is_open m plain) is.mark ∙ open_has found.0 plain ∙ found.1;
       in_tells = is.tells;

@@ -1,12 +1,12 @@
 -- No two lists have one name.
 use Rattle.std.proofs.Common.{◌≡◌, ℕ, zero, suc, ◌<◌, List, [], ◌∷◌, ap, refl, arith}
-use Rattle.px_pool_ends.specs.Names.{pair, name}
+use Rattle.px_pool_ends.specs.Names.{pair_number, name}
 
-pub pair_some : (a b : ℕ) → 0 < pair a b
+pub pair_some : (a b : ℕ) → 0 < pair_number a b
 pair_some zero b = omega arith
 pair_some (suc a) b = omega (arith, pair_some a b)
 
-pub pair_first : (a b c d : ℕ) → pair a b ≡ pair c d → (a ≡ c) × (b ≡ d)
+pub pair_first : (a b c d : ℕ) → pair_number a b ≡ pair_number c d → (a ≡ c) × (b ≡ d)
 pair_first zero b zero d e = (refl, omega arith)
 pair_first zero b (suc c) d e = absurd (omega arith)
 pair_first (suc a) b zero d e = absurd (omega arith)

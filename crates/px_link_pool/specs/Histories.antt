@@ -7,11 +7,11 @@ use Rattle.px_base.specs.Sources.{SourceState}
 use Rattle.px_base.specs.Sinks.{SinkState}
 use Rattle.px_base.specs.Dials.{linked, dialed, finish, traffic}
 use Rattle.px_pool_ends.specs.Answers.{IsAnswer, is_answered, is_lost}
-use Rattle.px_pool_ends.specs.Incomings.{Hearing, IsLater, inner_source, heard}
+use Rattle.px_pool_ends.specs.Incomings.{Hearing, IsLaterSource, inner_source, heard}
 use Rattle.px_pool_ends.specs.Outgoings.{Sending, inner_sink, IsSent}
 use Rattle.px_link_pool.specs.Shelves.{is_place, without_first}
 use Rattle.px_link_pool.specs.Standing.{KeptState}
-use Rattle.px_link_pool.specs.declared.shelves.Kept.{Kept}
+use Rattle.px_link_pool.specs.declared.shelves.KeptLink.{KeptLink}
 use Rattle.px_link_pool.specs.declared.histories.History.{History, Start, Dialled', Again', HungUp'}
 
 -- the dials of the pool in order
@@ -22,7 +22,7 @@ dials_of ins outs (Again' shape before host port given) = dials_of ins outs befo
 dials_of ins outs (HungUp' shape before host port link_in link_out closing) = finish (ins link_in.value).mark (traffic (ins link_in.value) (outs link_out.value)) (dials_of ins outs before)
 
 -- an inner link is hung up, if any
-abbrev pub with_closed : {S T : Type 0} → (S → SourceState) → (T → SinkState) → Option (Kept S T) → List Dial → List Dial
+abbrev pub with_closed : {S T : Type 0} → (S → SourceState) → (T → SinkState) → Option (KeptLink S T) → List Dial → List Dial
 with_closed ins outs None ds = ds
 with_closed ins outs (Some k) ds = finish (ins k.source).mark (traffic (ins k.source) (outs k.sink)) ds
 
@@ -72,18 +72,18 @@ pub record Views (S T : Type 0) : Type 0 where
   pub outs : T → SinkState
 
 -- the kept links, oldest first, as they were when they were hung up
-abbrev pub kept_of : {S T : Type 0} → Views S T → History Hearing Sending S T → List KeptState
-kept_of v Start = []
-kept_of v (Dialled' shape before host port asked given) = gone_from host.value port.value (kept_of v before)
-kept_of v (Again' shape before host port given) = gone_from host.value port.value (kept_of v before)
-kept_of v (HungUp' shape before host port link_in link_out closing) =
-    back_on (may_keep link_in.value link_out.value) (record { host = host.value; port = port.value; link_in = inner_source link_in.value; link_out = inner_sink link_out.value }) (kept_of v before)
+abbrev pub kept_links : {S T : Type 0} → Views S T → History Hearing Sending S T → List KeptState
+kept_links v Start = []
+kept_links v (Dialled' shape before host port asked given) = gone_from host.value port.value (kept_links v before)
+kept_links v (Again' shape before host port given) = gone_from host.value port.value (kept_links v before)
+kept_links v (HungUp' shape before host port link_in link_out closing) =
+    back_on (may_keep link_in.value link_out.value) (record { host = host.value; port = port.value; link_in = inner_source link_in.value; link_out = inner_sink link_out.value }) (kept_links v before)
 
 -- the inner dialer was asked exactly where no link of that place was kept
 abbrev pub are_due : {S T : Type 0} → Views S T → History Hearing Sending S T → Bool
 are_due v Start = true
-are_due v (Dialled' shape before host port asked given) = not (has_place host.value port.value (kept_of v before)) && are_due v before
-are_due v (Again' shape before host port given) = has_place host.value port.value (kept_of v before) && are_due v before
+are_due v (Dialled' shape before host port asked given) = not (has_place host.value port.value (kept_links v before)) && are_due v before
+are_due v (Again' shape before host port given) = has_place host.value port.value (kept_links v before) && are_due v before
 are_due v (HungUp' shape before host port link_in link_out closing) = are_due v before
 
 -- those of that place
@@ -92,29 +92,29 @@ from_there host port [] = []
 from_there host port (k ∷ ks) = if is_there host port k then k ∷ ks else from_there host port ks
 
 -- what a history tells of a pool: the inner dialer's dials, the kept links, and which dials took one
-pub record Tells {S T : Type 0} (v : Views S T) (base inner : List Dial) (kept : List KeptState) (history : History Hearing Sending S T) : Type 0 where
+pub record HistoryTells {S T : Type 0} (v : Views S T) (base inner : List Dial) (kept : List KeptState) (history : History Hearing Sending S T) : Type 0 where
   pub inner_is : inner ≡ inner_of base v.ins v.outs history
-  pub kept_is : kept ≡ kept_of v history
+  pub kept_is : kept ≡ kept_links v history
   pub due : are_due v history ≡ true
 
 -- one more where it is so; a count at its end stays there
-abbrev pub counted : Bool → ℕ → ℕ
-counted true n = if nat_lt n 18446744073709551615 then n + 1 else n
-counted false n = n
+abbrev pub counted_up : Bool → ℕ → ℕ
+counted_up true n = if nat_lt n 18446744073709551615 then n + 1 else n
+counted_up false n = n
 
 -- how many links were handed back for which memory was wanting while their answer was followed
-abbrev pub wanted : {S T : Type 0} → History Hearing Sending S T → ℕ
-wanted Start = 0
-wanted (Dialled' shape before host port asked given) = wanted before
-wanted (Again' shape before host port given) = wanted before
-wanted (HungUp' shape before host port link_in link_out closing) = counted (is_lost link_in.value.following) (wanted before)
+abbrev pub wanting_count : {S T : Type 0} → History Hearing Sending S T → ℕ
+wanting_count Start = 0
+wanting_count (Dialled' shape before host port asked given) = wanting_count before
+wanting_count (Again' shape before host port given) = wanting_count before
+wanting_count (HungUp' shape before host port link_in link_out closing) = counted_up (is_lost link_in.value.following) (wanting_count before)
 
 -- What is so of a link that was handed back, where it tells: an answer is known exactly where one was heard, unless memory was
 -- wanting; the inner source is the one that was lent, later; and what was sent is what is sent for the bytes written, less what is
 -- held back.
 pub record IsJudged (h : Hearing) (s : Sending) : Type 0 where
   pub answered : is_lost h.following ≡ false → (is_answered h.following ≡ true) ↔ IsAnswer 8 (heard h)
-  pub later : IsLater h.begun h.source
+  pub later : IsLaterSource h.begun h.source
   pub sent : IsSent s
 
 -- that is so of each link that was handed back

@@ -11,9 +11,9 @@ use Rattle.px_base.specs.Dials.{LinkState, Traffic, linked, dialed, finish, traf
 use Rattle.px_pool_ends.specs.Names.{Passed, lent_mark}
 use Rattle.px_pool_ends.specs.Incomings.{Hearing, outer_source, inner_source, heard}
 use Rattle.px_pool_ends.specs.Outgoings.{Sending, outer_sink, inner_sink, sent}
-use Rattle.px_link_pool.specs.Histories.{Views, dials_of, kept_of, from_there}
+use Rattle.px_link_pool.specs.Histories.{Views, dials_of, kept_links, from_there}
 use Rattle.px_link_pool.specs.Standing.{KeptState}
-use Rattle.px_link_pool.specs.declared.shelves.Kept.{Kept}
+use Rattle.px_link_pool.specs.declared.shelves.KeptLink.{KeptLink}
 use Rattle.px_link_pool.specs.declared.histories.History.{History, Start, Dialled', Again', HungUp'}
 
 -- a link that is new begins with what it offers
@@ -40,7 +40,7 @@ abbrev pub traffic_by : Passed → SourceState → SinkState → Traffic
 traffic_by w i o = record { heard = w.heard; sent = w.sent; read_failed = not (i.faults == 0); write_failed = not (o.faults == 0) }
 
 -- an inner link is hung up, if any, and what went over it is that
-abbrev pub with_joined : {S T : Type 0} → (S → SourceState) → (T → SinkState) → (ℕ → Passed) → Option (Kept S T) → List Dial → List Dial
+abbrev pub with_joined : {S T : Type 0} → (S → SourceState) → (T → SinkState) → (ℕ → Passed) → Option (KeptLink S T) → List Dial → List Dial
 with_joined ins outs went None ds = ds
 with_joined ins outs went (Some k) ds = finish (ins k.source).mark (traffic_by (went (ins k.source).mark) (ins k.source) (outs k.sink)) ds
 
@@ -59,7 +59,7 @@ all_joined went (k ∷ ks) ds = all_joined went ks (finish k.link_in.mark (traff
 
 -- the dials of the inner dialer after the pool, told by the pool's dials
 abbrev pub inner_at_end : {S T : Type 0} → List Dial → Views S T → History Hearing Sending S T → List Dial
-inner_at_end base v history = all_joined (over v history) (kept_of v history) (inner_by base v history)
+inner_at_end base v history = all_joined (over v history) (kept_links v history) (inner_by base v history)
 
 -- that went over a kept link
 abbrev pub is_joined : (ℕ → Passed) → KeptState → Bool
@@ -85,7 +85,7 @@ fresh_over host port (Err f) = dialed host port (Err f)
 abbrev pub dials_over : {S T : Type 0} → Views S T → History Hearing Sending S T → List Dial
 dials_over v Start = []
 dials_over v (Dialled' shape before host port asked given) = dials_over v before ++ fresh_over host.value port.value (linked v.ins v.outs asked.value)
-dials_over v (Again' shape before host port given) = dials_over v before ++ again_over host.value port.value (over v before) (from_there host.value port.value (kept_of v before))
+dials_over v (Again' shape before host port given) = dials_over v before ++ again_over host.value port.value (over v before) (from_there host.value port.value (kept_links v before))
 dials_over v (HungUp' shape before host port link_in link_out closing) = finish (outer_source link_in.value).mark (traffic (outer_source link_in.value) (outer_sink link_out.value)) (dials_over v before)
 
 -- the marks of the open links in order
@@ -105,7 +105,7 @@ names went [] = []
 names went (m ∷ ms) = lent_mark true m (went m) ∷ names went ms
 
 -- an end with the mark of a lent link tells, and is one of that inner link, lent when that had gone over it
-pub record IsNamed (t : Bool) (m : ℕ) (w : Passed) (n : ℕ) (u : Passed) : Type 0 where
+pub record IsNamedLink (t : Bool) (m : ℕ) (w : Passed) (n : ℕ) (u : Passed) : Type 0 where
   pub tells : t ≡ true
   pub mark : m ≡ n
   pub passed : w ≡ u

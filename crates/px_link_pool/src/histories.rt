@@ -8,9 +8,9 @@ ghost use Rattle.px_base.specs.declared.dials.Dial.{Dial};
 ghost use Rattle.px_pool_ends.specs.Answers.{is_lost};
 ghost use Rattle.px_pool_ends.specs.Incomings.{Hearing, outer_source, inner_source};
 ghost use Rattle.px_pool_ends.specs.Outgoings.{Sending, outer_sink, inner_sink};
-ghost use Rattle.px_link_pool.specs.Histories.{Views, dials_of, inner_of, kept_of, are_due, with_closed, gone_from, has_place, back_on, may_keep, from_there, counted, wanted, IsJudged, AreJudged};
+ghost use Rattle.px_link_pool.specs.Histories.{Views, dials_of, inner_of, kept_links, are_due, with_closed, gone_from, has_place, back_on, may_keep, from_there, counted_up, wanting_count, IsJudged, AreJudged};
 
-use crate::shelves::Kept;
+use crate::shelves::KeptLink;
 use px_base::{DialFault, LocalSink, LocalSource, Text};
 use px_pool_ends::{Incoming, Outgoing};
 use std::snapshot::Snapshot;
@@ -41,7 +41,7 @@ pub enum History<I, O, S, T> {
         port: Snapshot<u16>,
         link_in: Snapshot<I>,
         link_out: Snapshot<O>,
-        closing: Snapshot<Option<Kept<S, T>>>,
+        closing: Snapshot<Option<KeptLink<S, T>>>,
     },
 }
 
@@ -61,12 +61,12 @@ pub fn dialled<S: LocalSource, O: LocalSink>(
 ) -> Past<S, O>
     ensures dials { (ins : Hearing → SourceState) (outs : Sending → SinkState) → dials_of ins outs result ≡ dials_of ins outs before.now ++ dialed host.value port (linked ins outs link.now) }
     ensures inner { (base : List Dial) (ins : S → SourceState) (outs : O → SinkState) → inner_of base ins outs result ≡ inner_of base ins outs before.now ++ dialed host.value port (linked ins outs asked.value) }
-    ensures kept { (v : Views S O) → kept_of v result ≡ gone_from host.value port (kept_of v before.now) }
-    ensures due { (v : Views S O) → are_due v result ≡ (not (has_place host.value port (kept_of v before.now)) && are_due v before.now) }
+    ensures kept { (v : Views S O) → kept_links v result ≡ gone_from host.value port (kept_links v before.now) }
+    ensures due { (v : Views S O) → are_due v result ≡ (not (has_place host.value port (kept_links v before.now)) && are_due v before.now) }
     ensures over { (v : Views S O) → over v result ≡ (λ mark. anew mark (linked v.ins v.outs asked.value) (over v before.now mark)) }
     ensures joined { (base : List Dial) (v : Views S O) → inner_by base v result ≡ inner_by base v before.now ++ dialed host.value port (linked v.ins v.outs asked.value) }
     ensures lent { (v : Views S O) → dials_over v result ≡ dials_over v before.now ++ fresh_over host.value port (linked v.ins v.outs asked.value) }
-    ensures wanted { wanted result ≡ wanted before.now }
+    ensures wanted { wanting_count result ≡ wanting_count before.now }
     ensures judged { AreJudged before.now → AreJudged result }
 {
     History::Dialled {
@@ -87,12 +87,12 @@ pub fn taken_again<S: LocalSource, O: LocalSink>(
 ) -> Past<S, O>
     ensures dials { (ins : Hearing → SourceState) (outs : Sending → SinkState) → dials_of ins outs result ≡ dials_of ins outs before.now ++ dialed host.value port (linked ins outs link.now) }
     ensures inner { (base : List Dial) (ins : S → SourceState) (outs : O → SinkState) → inner_of base ins outs result ≡ inner_of base ins outs before.now }
-    ensures kept { (v : Views S O) → kept_of v result ≡ gone_from host.value port (kept_of v before.now) }
-    ensures due { (v : Views S O) → are_due v result ≡ (has_place host.value port (kept_of v before.now) && are_due v before.now) }
+    ensures kept { (v : Views S O) → kept_links v result ≡ gone_from host.value port (kept_links v before.now) }
+    ensures due { (v : Views S O) → are_due v result ≡ (has_place host.value port (kept_links v before.now) && are_due v before.now) }
     ensures over { (v : Views S O) → over v result ≡ over v before.now }
     ensures joined { (base : List Dial) (v : Views S O) → inner_by base v result ≡ inner_by base v before.now }
-    ensures lent { (v : Views S O) → dials_over v result ≡ dials_over v before.now ++ again_over host.value port (over v before.now) (from_there host.value port (kept_of v before.now)) }
-    ensures wanted { wanted result ≡ wanted before.now }
+    ensures lent { (v : Views S O) → dials_over v result ≡ dials_over v before.now ++ again_over host.value port (over v before.now) (from_there host.value port (kept_links v before.now)) }
+    ensures wanted { wanting_count result ≡ wanting_count before.now }
     ensures judged { AreJudged before.now → AreJudged result }
 {
     History::Again {
@@ -110,16 +110,16 @@ pub fn hung_up<S: LocalSource, O: LocalSink>(
     port: u16,
     link_in: Snapshot<Incoming<S, O>>,
     link_out: Snapshot<Outgoing<S, O>>,
-    closing: &Option<Kept<S, O>>,
+    closing: &Option<KeptLink<S, O>>,
 ) -> Past<S, O>
     ensures dials { (ins : Hearing → SourceState) (outs : Sending → SinkState) → dials_of ins outs result ≡ finish (ins link_in.value).mark (traffic (ins link_in.value) (outs link_out.value)) (dials_of ins outs before.now) }
     ensures inner { (base : List Dial) (ins : S → SourceState) (outs : O → SinkState) → inner_of base ins outs result ≡ with_closed ins outs closing.now (inner_of base ins outs before.now) }
-    ensures kept { (v : Views S O) → kept_of v result ≡ back_on (may_keep link_in.value link_out.value) (record { host = host.value; port = port; link_in = inner_source link_in.value; link_out = inner_sink link_out.value }) (kept_of v before.now) }
+    ensures kept { (v : Views S O) → kept_links v result ≡ back_on (may_keep link_in.value link_out.value) (record { host = host.value; port = port; link_in = inner_source link_in.value; link_out = inner_sink link_out.value }) (kept_links v before.now) }
     ensures due { (v : Views S O) → are_due v result ≡ are_due v before.now }
     ensures over { (v : Views S O) → over v result ≡ (λ mark. joined_with ((inner_source link_in.value).mark == mark) link_in.value link_out.value (over v before.now mark)) }
     ensures joined { (base : List Dial) (v : Views S O) → inner_by base v result ≡ with_joined v.ins v.outs (over v result) closing.now (inner_by base v before.now) }
     ensures lent { (v : Views S O) → dials_over v result ≡ finish (outer_source link_in.value).mark (traffic (outer_source link_in.value) (outer_sink link_out.value)) (dials_over v before.now) }
-    ensures wanted { wanted result ≡ counted (is_lost link_in.value.following) (wanted before.now) }
+    ensures wanted { wanting_count result ≡ counted_up (is_lost link_in.value.following) (wanting_count before.now) }
     ensures judged { IsJudged link_in.value link_out.value → AreJudged before.now → AreJudged result }
 {
     History::HungUp {

@@ -2,11 +2,11 @@
 ghost use Rattle.std.specs.Prelude.{◌≡◌, ◌↔◌, ◌++◌, [], IsTrue, false, true};
 ghost use Rattle.px_base.specs.Sources.{given};
 ghost use Rattle.px_pool_ends.specs.Answers.{IsAnswer, is_answered, is_lost};
-ghost use Rattle.px_pool_ends.specs.Incomings.{IsLater, heard};
+ghost use Rattle.px_pool_ends.specs.Incomings.{IsLaterSource, heard};
 ghost use Rattle.px_pool_ends.specs.Outgoings.{outer_sink};
 ghost use Rattle.px_link_pool.specs.Histories.{is_left_open as is_left_open_spec, is_read_out as is_read_out_spec, may_keep, IsJudged};
 
-use crate::shelves::Kept;
+use crate::shelves::KeptLink;
 use px_base::{LocalSink, LocalSource, Text};
 use px_pool_ends::{Incoming, Outgoing};
 use std::alloc::Global;
@@ -44,20 +44,20 @@ pub fn lend<S: LocalSource, O: LocalSink>(
 pub fn handed<S: LocalSource, O: LocalSink>(
     link_in: Incoming<S, O>,
     link_out: Outgoing<S, O>,
-) -> (Kept<S, O>, bool)
+) -> (KeptLink<S, O>, bool)
     ensures source { S.state result.0.source ≡ link_in.source }
     ensures sink { O.state result.0.sink ≡ link_out.sink }
     ensures host { result.0.host ≡ link_in.host }
     ensures port { result.0.port ≡ link_in.port }
     ensures exactly { result.1 ≡ may_keep link_in link_out }
     ensures unfinished { IsTrue result.1 → link_out.sink.finished ≡ false }
-    ensures later { IsTrue link_in.source.tells → IsLater link_in.begun link_in.source }
+    ensures later { IsTrue link_in.source.tells → IsLaterSource link_in.begun link_in.source }
     ensures judged { IsTrue link_in.source.tells → IsTrue link_out.sink.tells → IsJudged link_in link_out }
 {
     let keeps = is_read_out(&link_in) && is_left_open(&link_out);
     let (source, host, port) = link_in.into_parts();
     let sink = link_out.into_inner();
-    let link = Kept {
+    let link = KeptLink {
         source,
         sink,
         host,

@@ -13,4 +13,4 @@ pub use bases::{Anew, Base};
 pub use histories::History;
 pub use laws::marks_are_one;
 pub use pools::LinkPool;
-pub use shelves::{Kept, Shelf};
+pub use shelves::{KeptLink, Shelf};

@@ -5,17 +5,17 @@ ghost use Rattle.px_base.specs.Dials.{DialerGoesOn, DialCause, HangsUp, IsFresh,
 ghost use Rattle.px_base.specs.declared.dials.Dial.{Dial};
 ghost use Rattle.px_pool_ends.specs.Incomings.{outer_source, inner_source};
 ghost use Rattle.px_pool_ends.specs.Outgoings.{outer_sink, inner_sink};
-ghost use Rattle.px_link_pool.specs.Histories.{dials_of, are_due, inner_of, kept_of, all_closed, counted, wanted, Tells, AreJudged};
+ghost use Rattle.px_link_pool.specs.Histories.{dials_of, are_due, inner_of, kept_links, all_closed, counted_up, wanting_count, HistoryTells, AreJudged};
 ghost use Rattle.px_link_pool.specs.Joins.{Joins, dials_over, inner_at_end};
 ghost use Rattle.px_link_pool.specs.Pools.{pool_state};
 ghost use Rattle.px_link_pool.specs.declared.histories.History.{Start};
 ghost use Rattle.px_link_pool.specs.Shelves.{items};
-ghost use Rattle.px_link_pool.specs.Standing.{Stands, kept_state, kept_states, is_told};
+ghost use Rattle.px_link_pool.specs.Standing.{PoolStands, kept_state, kept_states, is_told};
 
 use crate::bases::{Anew, Base};
 use crate::histories::{History, Past, dialled, hung_up, taken_again};
 use crate::lending::{handed, lend};
-use crate::shelves::{Kept, Shelf, done, fill, pop, shelve, take_at};
+use crate::shelves::{KeptLink, Shelf, done, fill, pop, shelve, take_at};
 use px_base::{DialFault, Dialer, LocalDialer, LocalSink, LocalSource, Sink, Source, Text};
 use px_pool_ends::{Incoming, Outgoing};
 use std::alloc::Global;
@@ -29,15 +29,15 @@ pub struct LinkPool<D: LocalDialer, N: Base = Anew> {
     alloc: Global,
     inner: D,
     base: PhantomData<N>,
-    kept: Shelf<Kept<D::In, D::Out>>,
+    kept: Shelf<KeptLink<D::In, D::Out>>,
     history: Past<D::In, D::Out>,
     link_reads: u64,
     link_writes: u64,
     wanting: u64,
-    ghost stands: { Stands (D.state inner) (dials_of inner_source inner_sink history) (kept_states D.In.state D.Out.state (items kept)) },
-    ghost told: { IsTrue (D.state inner).tells → Tells (record { ins = D.In.state; outs = D.Out.state }) N.dialled (D.state inner).dials (kept_states D.In.state D.Out.state (items kept)) history },
+    ghost stands: { PoolStands (D.state inner) (dials_of inner_source inner_sink history) (kept_states D.In.state D.Out.state (items kept)) },
+    ghost told: { IsTrue (D.state inner).tells → HistoryTells (record { ins = D.In.state; outs = D.Out.state }) N.dialled (D.state inner).dials (kept_states D.In.state D.Out.state (items kept)) history },
     ghost joins: { IsTrue (D.state inner).tells → Joins (record { ins = D.In.state; outs = D.Out.state }) N.dialled (D.state inner).dials (kept_states D.In.state D.Out.state (items kept)) history },
-    ghost counts: { wanting ≡ wanted history },
+    ghost counts: { wanting ≡ wanting_count history },
     ghost judged: { IsTrue (D.state inner).tells → ∥ AreJudged history ∥₁ },
 }
 
@@ -65,7 +65,7 @@ impl<D: LocalDialer, N: Base> LinkPool<D, N> {
     /// For how many links memory was wanting while their answer was followed; none of these was kept. At its end the number
     /// stays.
     pub fn wanting(&self) -> u64
-        ensures { result ≡ wanted self.now.history }
+        ensures { result ≡ wanting_count self.now.history }
     {
         self.wanting
     }
@@ -75,7 +75,7 @@ impl<D: LocalDialer, N: Base> LinkPool<D, N> {
         ensures joined { IsTrue (D.state self.inner).tells → (D.state result).dials ≡ inner_at_end N.dialled (record { ins = D.In.state; outs = D.Out.state }) self.history }
         ensures told { IsTrue (D.state self.inner).tells → dials_of outer_source outer_sink self.history ≡ dials_over (record { ins = D.In.state; outs = D.Out.state }) self.history }
         ensures due { IsTrue (D.state self.inner).tells → are_due (record { ins = D.In.state; outs = D.Out.state }) self.history ≡ true }
-        ensures kept { IsTrue (D.state self.inner).tells → kept_states D.In.state D.Out.state (items self.kept) ≡ kept_of (record { ins = D.In.state; outs = D.Out.state }) self.history }
+        ensures kept { IsTrue (D.state self.inner).tells → kept_states D.In.state D.Out.state (items self.kept) ≡ kept_links (record { ins = D.In.state; outs = D.Out.state }) self.history }
         ensures dials { IsTrue (D.state self.inner).tells → (D.state result).dials ≡ all_closed (kept_states D.In.state D.Out.state (items self.kept)) (inner_of N.dialled D.In.state D.Out.state self.history) }
         ensures judged { IsTrue (D.state self.inner).tells → ∥ AreJudged self.history ∥₁ }
         ensures goes_on { DialerGoesOn (D.state self.inner) (D.state result) }
@@ -102,10 +102,10 @@ impl<D: LocalDialer, N: Base> LinkPool<D, N> {
 /// Hangs up the oldest kept link, if there is one.
 fn close_oldest<D: LocalDialer>(
     inner: &mut D,
-    kept: Shelf<Kept<D::In, D::Out>>,
-) -> Shelf<Kept<D::In, D::Out>>
-    requires { (outer : List Dial) × Stands (D.state inner.old) outer (kept_states D.In.state D.Out.state (items kept)) }
-    ensures stands { (outer : List Dial) → Stands (D.state inner.old) outer (kept_states D.In.state D.Out.state (items kept)) → Stands (D.state inner.new) outer (kept_states D.In.state D.Out.state (items result)) }
+    kept: Shelf<KeptLink<D::In, D::Out>>,
+) -> Shelf<KeptLink<D::In, D::Out>>
+    requires { (outer : List Dial) × PoolStands (D.state inner.old) outer (kept_states D.In.state D.Out.state (items kept)) }
+    ensures stands { (outer : List Dial) → PoolStands (D.state inner.old) outer (kept_states D.In.state D.Out.state (items kept)) → PoolStands (D.state inner.new) outer (kept_states D.In.state D.Out.state (items result)) }
     ensures dials { IsTrue (D.state inner.old).tells → all_closed (kept_states D.In.state D.Out.state (items result)) (D.state inner.new).dials ≡ all_closed (kept_states D.In.state D.Out.state (items kept)) (D.state inner.old).dials }
     ensures tells { (D.state inner.new).tells ≡ (D.state inner.old).tells }
     ensures goes_on { DialerGoesOn (D.state inner.old) (D.state inner.new) }
@@ -115,7 +115,7 @@ fn close_oldest<D: LocalDialer>(
     let (rest, oldest) = pop(kept);
     match oldest {
         Some(oldest) => {
-            let Kept {
+            let KeptLink {
                 source,
                 sink,
                 host: _,
@@ -147,7 +147,7 @@ impl<D: Dialer, N: Base + Send> Dialer for LinkPool<D, N> {
         fill(&mut self.kept, rest);
         match found {
             Some(kept) => {
-                let Kept {
+                let KeptLink {
                     source,
                     sink,
                     host: kept_host,
@@ -198,7 +198,7 @@ impl<D: Dialer, N: Base + Send> Dialer for LinkPool<D, N> {
         );
         match closing {
             Some(closing) => {
-                let Kept {
+                let KeptLink {
                     source,
                     sink,
                     host: _,
@@ -215,7 +215,7 @@ impl<D: Dialer, N: Base + Send> Dialer for LinkPool<D, N> {
 fn raised(count: u64, by: bool) -> u64
     ensures later { count ≤ result }
     ensures rises { (n : ℕ) → by ≡ not (n == 0) → RisesWith count result n }
-    ensures counted { result ≡ counted by count }
+    ensures counted { result ≡ counted_up by count }
 {
     if by { count.saturating_add(1) } else { count }
 }

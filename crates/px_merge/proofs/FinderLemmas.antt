@@ -10,12 +10,12 @@ use Rattle.px_patterns.specs.Patterns.{path_matches, ports_match, url_matches}
 use Rattle.px_patterns.specs.declared.urls.Url.{Url}
 use Rattle.px_action_files.specs.declared.patterns.Pattern.{Pattern}
 use Rattle.px_action_files.specs.declared.patterns.Pattern.TheVariants as pattern
-use Rattle.px_merge.specs.Finders.{AreAsked, AreOnce, HasPath, Keeps, parted, with_places}
+use Rattle.px_merge.specs.Finders.{AreAsked, AreOnce, HasPath, KeepsPlaces, parted_places, with_places}
 use Rattle.px_merge.specs.Indexes.{IsIndexed, hit_of, host_keys, passes, pattern_at, slot_of, slots_weight, weight}
 use Rattle.px_merge.specs.Merging.{is_for_url}
-use Rattle.px_merge.specs.declared.indexes.Index.{Index}
-use Rattle.px_merge.specs.declared.parts.Parts.{Parts}
-use Rattle.px_merge.specs.declared.places.Place.{Place}
+use Rattle.px_merge.specs.declared.indexes.PlaceIndex.{PlaceIndex}
+use Rattle.px_merge.specs.declared.parts.PlaceParts.{PlaceParts}
+use Rattle.px_merge.specs.declared.places.PatternPlace.{PatternPlace}
 use Rattle.px_merge.specs.declared.places.Placed.{Placed}
 use Rattle.px_merge.proofs.ListLemmas.{any_either, any_left, any_right}
 use Rattle.px_merge.proofs.SlotLemmas.{weight_append}
@@ -23,7 +23,7 @@ use Rattle.px_merge.proofs.WalkLemmas.{hit_none}
 
 -- ---- a place that goes to one of the parts
 
-pub once_always : (old new : Parts) (place : Place) → new.always ≡ old.always ++ place ∷ [] → new.paths ≡ old.paths → AreOnce (parted old ++ place ∷ []) (parted new)
+pub once_always : (old new : PlaceParts) (place : PatternPlace) → new.always ≡ old.always ++ place ∷ [] → new.paths ≡ old.paths → AreOnce (parted_places old ++ place ∷ []) (parted_places new)
 once_always old new place always paths weigh =
     omega (
       arith,
@@ -36,7 +36,7 @@ once_always old new place always paths weigh =
 
 -- ---- one place of a list after the other
 
-pub keeps_step : (all old new others : List Place) (place : Place) → Keeps all (old ++ place ∷ others) → Keeps (old ++ place ∷ []) new → Keeps all (new ++ others)
+pub keeps_step : (all old new others : List PatternPlace) (place : PatternPlace) → KeepsPlaces all (old ++ place ∷ others) → KeepsPlaces (old ++ place ∷ []) new → KeepsPlaces all (new ++ others)
 keeps_step all old new others place before step test e =
     ⊎_elim (λ first. any_left test new others (step test (any_left test old (place ∷ []) first)))
     (λ later.
@@ -44,7 +44,7 @@ keeps_step all old new others place before step test e =
     (or_cases (test place) (list_any test others) later))
     (any_either test old (place ∷ others) (before test e))
 
-pub once_step : (all old new others : List Place) (place : Place) → AreOnce all (old ++ place ∷ others) → AreOnce (old ++ place ∷ []) new → AreOnce all (new ++ others)
+pub once_step : (all old new others : List PatternPlace) (place : PatternPlace) → AreOnce all (old ++ place ∷ others) → AreOnce (old ++ place ∷ []) new → AreOnce all (new ++ others)
 once_step all old new others place before step weigh =
     omega (arith, before weigh, step weigh, weight_append weigh old (place ∷ others), weight_append weigh old (place ∷ []), weight_append weigh new others)
 
@@ -72,7 +72,7 @@ not_left test xs ys e = ⊎_elim (λ some. absurd (false≢true (sym e ∙ any_l
 not_last : {X : Type 0} (test : X → Bool) (xs : List X) (x : X) → list_any test (xs ++ x ∷ []) ≡ false → test x ≡ false
 not_last test xs x e = ⊎_elim (λ some. absurd (false≢true (sym e ∙ any_right test xs (x ∷ []) (or_left (test x) false some)))) (λ none. none) (cases_Bool (test x))
 
-asked_push : (sections : List Placed) (texts : List (List ℕ)) (places : List Place) (text : List ℕ) (place : Place) → HasPath text (pattern_at sections place)
+asked_push : (sections : List Placed) (texts : List (List ℕ)) (places : List PatternPlace) (text : List ℕ) (place : PatternPlace) → HasPath text (pattern_at sections place)
     → AreAsked sections texts places → AreAsked sections (texts ++ text ∷ []) (places ++ place ∷ [])
 asked_push sections texts places text place has asked url tags e =
     let test = is_for_url url tags in
@@ -81,17 +81,17 @@ asked_push sections texts places text place has asked url tags e =
     (ap (λ hits. hits ++ [])
     (hit_none sections test place (path_fails text (pattern_at sections place) url tags has (not_last (λ t. finds t url.path) texts text e))))
 
-pub asked_path : (sections : List Placed) (old new : Parts) (text : List ℕ) (place : Place) → HasPath text (pattern_at sections place) → new.union ≡ old.union ++ text ∷ []
+pub asked_path : (sections : List Placed) (old new : PlaceParts) (text : List ℕ) (place : PatternPlace) → HasPath text (pattern_at sections place) → new.union ≡ old.union ++ text ∷ []
     → new.paths ≡ old.paths ++ place ∷ [] → AreAsked sections old.union old.paths → AreAsked sections new.union new.paths
 asked_path sections old new text place has union paths asked =
     subst (λ texts. AreAsked sections texts new.paths) (sym union) (subst (AreAsked sections (old.union ++ text ∷ [])) (sym paths) (asked_push sections old.union old.paths text place has asked))
 
-pub asked_same : (sections : List Placed) (old new : Parts) → new.union ≡ old.union → new.paths ≡ old.paths → AreAsked sections old.union old.paths → AreAsked sections new.union new.paths
+pub asked_same : (sections : List Placed) (old new : PlaceParts) → new.union ≡ old.union → new.paths ≡ old.paths → AreAsked sections old.union old.paths → AreAsked sections new.union new.paths
 asked_same sections old new union paths asked = subst (λ texts. AreAsked sections texts new.paths) (sym union) (subst (AreAsked sections old.union) (sym paths) asked)
 
 -- ---- an index whose places were parted
 
-pub parted_index : (raw index : Index) (paths : List Place) (sections : List Placed) → index.slots ≡ raw.slots → Keeps raw.always (index.always ++ paths)
+pub parted_index : (raw index : PlaceIndex) (paths : List PatternPlace) (sections : List Placed) → index.slots ≡ raw.slots → KeepsPlaces raw.always (index.always ++ paths)
     → AreOnce raw.always (index.always ++ paths) → IsIndexed raw sections → IsIndexed (with_places index paths) sections
 parted_index raw index paths sections slots keeps once indexed = record {
   has = λ i p below stands j pattern within at url tags fits test found.

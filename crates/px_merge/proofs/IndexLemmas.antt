@@ -6,21 +6,21 @@ use Rattle.std.proofs.lemmas.Bool.{cases_eq}
 use Rattle.std.proofs.lemmas.Option.{get_or_from_slice_get}
 use Rattle.px_action_files.specs.declared.patterns.Pattern.{Pattern}
 use Rattle.px_merge.specs.Candidates.{candidate_count, candidates_in}
-use Rattle.px_merge.specs.Indexes.{Finds, Grows, HasFirst, HasSections, cost_at, cost_of, host_keys, pattern_in, patterns_weight, place_of, sections_weight}
-use Rattle.px_merge.specs.declared.indexes.Index.{Index}
-use Rattle.px_merge.specs.declared.places.Place.{Place}
+use Rattle.px_merge.specs.Indexes.{Finds, Grows, HasFirstPatterns, HasSections, cost_at, cost_of, host_keys, pattern_in, patterns_weight, place_of, sections_weight}
+use Rattle.px_merge.specs.declared.indexes.PlaceIndex.{PlaceIndex}
+use Rattle.px_merge.specs.declared.places.PatternPlace.{PatternPlace}
 use Rattle.px_merge.specs.declared.places.Placed.{Placed}
 use Rattle.px_merge.proofs.ListLemmas.{drop_step}
 
-pub grows_on : (a b c : Index) → Grows a b → Grows b c → Grows a c
+pub grows_on : (a b c : PlaceIndex) → Grows a b → Grows b c → Grows a c
 grows_on a b c first second = λ keys test e. second keys test (first keys test e)
 
-has_later : (old new : Index) (number : ℕ) (patterns : List Pattern) (count : ℕ) → Grows old new → HasFirst old number patterns count → HasFirst new number patterns count
+has_later : (old new : PlaceIndex) (number : ℕ) (patterns : List Pattern) (count : ℕ) → Grows old new → HasFirstPatterns old number patterns count → HasFirstPatterns new number patterns count
 has_later old new number patterns count grows has = λ j pattern below stands url tags fits test passes. grows (host_keys url.host) test (has j pattern below stands url tags fits test passes)
 
 -- one pattern more
-pub has_more : (old new : Index) (number : ℕ) (patterns : List Pattern) (count : ℕ) (shown : Pattern) → Grows old new → HasFirst old number patterns count
-    → shown ≡ get_or patterns count shown → Finds new (place_of number count) shown → HasFirst new number patterns (count + 1)
+pub has_more : (old new : PlaceIndex) (number : ℕ) (patterns : List Pattern) (count : ℕ) (shown : Pattern) → Grows old new → HasFirstPatterns old number patterns count
+    → shown ≡ get_or patterns count shown → Finds new (place_of number count) shown → HasFirstPatterns new number patterns (count + 1)
 has_more old new number patterns count shown grows has is added = λ j pattern below stands.
     ⊎_elim
     (λ here.
@@ -30,24 +30,24 @@ has_more old new number patterns count shown grows has is added = λ j pattern b
     (cases_eq j count)
 
 -- one section more
-pub sections_more : (old new : Index) (sections : List Placed) (count : ℕ) (shown : Placed) → Grows old new → HasSections old sections count
-    → shown ≡ get_or sections count shown → HasFirst new count shown.section.patterns (length shown.section.patterns) → HasSections new sections (count + 1)
+pub sections_more : (old new : PlaceIndex) (sections : List Placed) (count : ℕ) (shown : Placed) → Grows old new → HasSections old sections count
+    → shown ≡ get_or sections count shown → HasFirstPatterns new count shown.section.patterns (length shown.section.patterns) → HasSections new sections (count + 1)
 sections_more old new sections count shown grows has is added = λ i section below stands.
     ⊎_elim
     (λ here.
     let is_shown : shown ≡ section = is ∙ get_or_from_slice_get sections count section shown (subst (λ n. slice_get sections n ≡ Some section) here stands) in
-    subst (λ n. HasFirst new n section.section.patterns (length section.section.patterns)) (sym here)
-    (subst (λ (s : Placed). HasFirst new count s.section.patterns (length s.section.patterns)) is_shown added))
+    subst (λ n. HasFirstPatterns new n section.section.patterns (length section.section.patterns)) (sym here)
+    (subst (λ (s : Placed). HasFirstPatterns new count s.section.patterns (length s.section.patterns)) is_shown added))
     (λ other. has_later old new i section.section.patterns (length section.section.patterns) grows (has i section (omega (arith, below, other)) stands))
     (cases_eq i count)
 
 -- ---- weights
 
-pub patterns_step : (weigh : Place → ℕ) (number : ℕ) (patterns : List Pattern) (at : ℕ) (shown : Pattern) → at < length patterns
+pub patterns_step : (weigh : PatternPlace → ℕ) (number : ℕ) (patterns : List Pattern) (at : ℕ) (shown : Pattern) → at < length patterns
     → patterns_weight weigh number at (drop at patterns) ≡ weigh (place_of number at) + patterns_weight weigh number (at + 1) (drop (at + 1) patterns)
 patterns_step weigh number patterns at shown within = ap (patterns_weight weigh number at) (drop_step patterns at shown within)
 
-pub sections_step : (weigh : Place → ℕ) (sections : List Placed) (at : ℕ) (shown : Placed) → at < length sections → shown ≡ get_or sections at shown
+pub sections_step : (weigh : PatternPlace → ℕ) (sections : List Placed) (at : ℕ) (shown : Placed) → at < length sections → shown ≡ get_or sections at shown
     → sections_weight weigh at (drop at sections) ≡ patterns_weight weigh at 0 shown.section.patterns + sections_weight weigh (at + 1) (drop (at + 1) sections)
 sections_step weigh sections at shown within is =
     ap (sections_weight weigh at) (drop_step sections at shown within)

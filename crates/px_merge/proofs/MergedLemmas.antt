@@ -14,8 +14,8 @@ use Rattle.px_merge.specs.declared.lists.Purpose.TheVariants as purpose
 use Rattle.px_merge.specs.declared.sides.Side.{Side}
 use Rattle.px_merge.specs.declared.sides.Side.TheVariants as side
 use Rattle.px_merge.specs.Merged.{names_of, placed, sections_from}
-use Rattle.px_merge.specs.Merging.{absent, is_for_absent, is_for_tag, ref_of, sections_with, tagged}
-use Rattle.px_merge.specs.Selections.{Selects, is_of, picked}
+use Rattle.px_merge.specs.Merging.{absent, is_for_absent, is_for_tag, ref_of, sections_with, tagged_sections}
+use Rattle.px_merge.specs.Selections.{Selects, is_of_purpose, picked}
 
 -- ---- the numbers of files
 
@@ -66,14 +66,14 @@ with_narrow test kind narrow (p ∷ sections) =
     (sym (⊎_elim (λ t. absurd (false≢true (sym none ∙ any_narrow test kind narrow patterns t))) (λ f. f) (cases_Bool (list_any test patterns)))))
     (cases_Bool (list_any kind patterns))
 
-tag_is : (tag : List ℕ) (p : Pattern) → is_for_tag tag p ≡ true → is_of purpose.Tag p ≡ true
+tag_is : (tag : List ℕ) (p : Pattern) → is_for_tag tag p ≡ true → is_of_purpose purpose.Tag p ≡ true
 tag_is tag (pattern.Url p) e = absurd (false≢true e)
 tag_is tag (pattern.Tag p) e = refl
 tag_is tag (pattern.NoRequestTag p) e = absurd (false≢true e)
 tag_is tag (pattern.NoResponseTag p) e = absurd (false≢true e)
 tag_is tag (pattern.ClientTag p) e = absurd (false≢true e)
 
-absent_is : (s : Side) (tags : List (List ℕ)) (p : Pattern) → is_for_absent s tags p ≡ true → is_of (purpose.Absent s) p ≡ true
+absent_is : (s : Side) (tags : List (List ℕ)) (p : Pattern) → is_for_absent s tags p ≡ true → is_of_purpose (purpose.Absent s) p ≡ true
 absent_is s tags (pattern.Url p) e = absurd (false≢true e)
 absent_is s tags (pattern.Tag p) e = absurd (false≢true e)
 absent_is side.Request tags (pattern.NoRequestTag p) e = refl
@@ -82,9 +82,9 @@ absent_is side.Request tags (pattern.NoResponseTag p) e = absurd (false≢true e
 absent_is side.Response tags (pattern.NoResponseTag p) e = refl
 absent_is s tags (pattern.ClientTag p) e = absurd (false≢true e)
 
-pub tagged_of : (sections : List Placed) (numbers : List ℕ) (tag : List ℕ) → Selects (is_of purpose.Tag) sections numbers → tagged (picked sections numbers) tag ≡ tagged sections tag
-tagged_of sections numbers tag selects = ap (λ xs. tagged xs tag) selects ∙ with_narrow (is_for_tag tag) (is_of purpose.Tag) (tag_is tag) sections
+pub tagged_of : (sections : List Placed) (numbers : List ℕ) (tag : List ℕ) → Selects (is_of_purpose purpose.Tag) sections numbers → tagged_sections (picked sections numbers) tag ≡ tagged_sections sections tag
+tagged_of sections numbers tag selects = ap (λ xs. tagged_sections xs tag) selects ∙ with_narrow (is_for_tag tag) (is_of_purpose purpose.Tag) (tag_is tag) sections
 
-pub absent_of : (sections : List Placed) (numbers : List ℕ) (tags : List (List ℕ)) (s : Side) → Selects (is_of (purpose.Absent s)) sections numbers
+pub absent_of : (sections : List Placed) (numbers : List ℕ) (tags : List (List ℕ)) (s : Side) → Selects (is_of_purpose (purpose.Absent s)) sections numbers
     → absent (picked sections numbers) tags s ≡ absent sections tags s
-absent_of sections numbers tags s selects = ap (λ xs. absent xs tags s) selects ∙ with_narrow (is_for_absent s tags) (is_of (purpose.Absent s)) (absent_is s tags) sections
+absent_of sections numbers tags s selects = ap (λ xs. absent xs tags s) selects ∙ with_narrow (is_for_absent s tags) (is_of_purpose (purpose.Absent s)) (absent_is s tags) sections

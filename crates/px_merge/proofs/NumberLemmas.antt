@@ -7,10 +7,10 @@ use mathlib.Core.Logic.{⊎_elim}
 use Rattle.std.proofs.lemmas.Bool.{cases_Bool, cases_eq, eq-eqb, eqb-true, false≢true, or_cases, or_left, or_right}
 use Rattle.std.proofs.lemmas.List.Folds.{Any-from_list_any, list_any_at}
 use Rattle.px_action_files.specs.declared.patterns.Pattern.{Pattern}
-use Rattle.px_merge.specs.Indexes.{is_in, places_or_none, slot_at, slots_weight, weight}
+use Rattle.px_merge.specs.Indexes.{is_in_numbers, places_or_none, slot_at, slots_weight, weight}
 use Rattle.px_merge.specs.Merging.{sections_with}
 use Rattle.px_merge.specs.Selections.{has_some, picked}
-use Rattle.px_merge.specs.declared.places.Place.{Place}
+use Rattle.px_merge.specs.declared.places.PatternPlace.{PatternPlace}
 use Rattle.px_merge.specs.declared.places.Placed.{Placed}
 use Rattle.px_merge.proofs.SlotLemmas.{weight_append}
 
@@ -63,7 +63,7 @@ gath_zero g xs (n ∷ ns) = let same : n - 0 ≡ n = omega arith in ap₂ ◌++�
 
 -- ---- slots that are each visited once
 
-slots_from : (weigh : Place → ℕ) (k : ℕ) (slots : List (List Place)) (ns : List ℕ) → IsAscending k ns → weight weigh (gath places_or_none k slots ns) ≤ slots_weight weigh slots
+slots_from : (weigh : PatternPlace → ℕ) (k : ℕ) (slots : List (List PatternPlace)) (ns : List ℕ) → IsAscending k ns → weight weigh (gath places_or_none k slots ns) ≤ slots_weight weigh slots
 slots_from weigh k [] ns asc = omega (arith, ap (weight weigh) (gath_none places_or_none k ns refl))
 slots_from weigh k (s ∷ slots) [] asc = omega arith
 slots_from weigh k (s ∷ slots) (n ∷ ns) asc =
@@ -83,20 +83,20 @@ slots_from weigh k (s ∷ slots) (n ∷ ns) asc =
     omega (arith, ap (weight weigh) (gath_shift places_or_none k s slots (n ∷ ns) above), slots_from weigh (k + 1) slots (n ∷ ns) above))
     (cases_eq n k)
 
-pub slots_once : (weigh : Place → ℕ) (slots : List (List Place)) (ns : List ℕ) → IsStrictlyIncreasing ns → weight weigh (flat_map (slot_at slots) ns) ≤ slots_weight weigh slots
+pub slots_once : (weigh : PatternPlace → ℕ) (slots : List (List PatternPlace)) (ns : List ℕ) → IsStrictlyIncreasing ns → weight weigh (flat_map (slot_at slots) ns) ≤ slots_weight weigh slots
 slots_once weigh slots ns rises = omega (arith, slots_from weigh 0 slots ns (ascending ns rises), ap (weight weigh) (gath_zero places_or_none slots ns))
 
 -- ---- sections by their numbers
 
-not_in : (k : ℕ) (ns : List ℕ) → IsAscending (k + 1) ns → is_in k ns ≡ true → ⊥
+not_in : (k : ℕ) (ns : List ℕ) → IsAscending (k + 1) ns → is_in_numbers k ns ≡ true → ⊥
 not_in k [] asc e = false≢true e
 not_in k (n ∷ ns) asc e =
-    ⊎_elim (λ here. omega (arith, eqb-true n k here, asc.0)) (λ later. not_in k ns (from_lower (k + 1) (n + 1) ns (omega (arith, asc.0)) asc.1) later) (or_cases (n == k) (is_in k ns) e)
+    ⊎_elim (λ here. omega (arith, eqb-true n k here, asc.0)) (λ later. not_in k ns (from_lower (k + 1) (n + 1) ns (omega (arith, asc.0)) asc.1) later) (or_cases (n == k) (is_in_numbers k ns) e)
 
-above_all : (k n : ℕ) (ns : List ℕ) → IsAscending k ns → is_in n ns ≡ true → k ≤ n
+above_all : (k n : ℕ) (ns : List ℕ) → IsAscending k ns → is_in_numbers n ns ≡ true → k ≤ n
 above_all k n [] asc e = absurd (false≢true e)
 above_all k n (m ∷ ns) asc e =
-    ⊎_elim (λ here. omega (arith, eqb-true m n here, asc.0)) (λ later. omega (arith, above_all (m + 1) n ns asc.1 later, asc.0)) (or_cases (m == n) (is_in n ns) e)
+    ⊎_elim (λ here. omega (arith, eqb-true m n here, asc.0)) (λ later. omega (arith, above_all (m + 1) n ns asc.1 later, asc.0)) (or_cases (m == n) (is_in_numbers n ns) e)
 
 later_get : (p : Placed) (sections : List Placed) (k n : ℕ) → k + 1 ≤ n → slice_get (p ∷ sections) (n - k) ≡ slice_get sections (n - (k + 1))
 later_get p sections k n le = let next : n - k ≡ suc (n - (k + 1)) = omega (arith, le) in ap (slice_get (p ∷ sections)) next
@@ -106,8 +106,8 @@ first_get p sections k = let fails : k - k ≡ 0 = omega arith in ap (slice_get 
 
 -- the first section isn't among those with the numbers
 passed_over : (test : Pattern → Bool) (k : ℕ) (p : Placed) (sections : List Placed) (ns : List ℕ) → IsAscending (k + 1) ns → list_any test p.section.patterns ≡ false
-    → ((n : ℕ) → is_in n ns ≡ true → has_some test (slice_get (p ∷ sections) (n - k)) ≡ true)
-    → ((n : ℕ) → k ≤ n → has_some test (slice_get (p ∷ sections) (n - k)) ≡ true → is_in n ns ≡ true)
+    → ((n : ℕ) → is_in_numbers n ns ≡ true → has_some test (slice_get (p ∷ sections) (n - k)) ≡ true)
+    → ((n : ℕ) → k ≤ n → has_some test (slice_get (p ∷ sections) (n - k)) ≡ true → is_in_numbers n ns ≡ true)
     → gath option_to_list (k + 1) sections ns ≡ sections_with test sections
     → gath option_to_list k (p ∷ sections) ns ≡ sections_with test (p ∷ sections)
 passed_over test k p sections ns asc fails sound whole rest =
@@ -124,8 +124,8 @@ taken test k p sections n ns here asc fits rest =
     ∙ sym (ap (λ b. cond b (p ∷ sections_with test sections) (sections_with test sections)) fits)
 
 selected : (test : Pattern → Bool) (k : ℕ) (sections : List Placed) (ns : List ℕ) → IsAscending k ns
-    → ((n : ℕ) → is_in n ns ≡ true → has_some test (slice_get sections (n - k)) ≡ true)
-    → ((n : ℕ) → k ≤ n → has_some test (slice_get sections (n - k)) ≡ true → is_in n ns ≡ true)
+    → ((n : ℕ) → is_in_numbers n ns ≡ true → has_some test (slice_get sections (n - k)) ≡ true)
+    → ((n : ℕ) → k ≤ n → has_some test (slice_get sections (n - k)) ≡ true → is_in_numbers n ns ≡ true)
     → gath option_to_list k sections ns ≡ sections_with test sections
 selected test k [] ns asc sound whole = gath_none option_to_list k ns refl
 selected test k (p ∷ sections) [] asc sound whole =
@@ -137,14 +137,14 @@ selected test k (p ∷ sections) (n ∷ ns) asc sound whole =
     ⊎_elim
     (λ here.
     let fits : list_any test p.section.patterns ≡ true =
-    sym (ap (has_some test) (first_get p sections k)) ∙ sound k (or_left (n == k) (is_in k ns) (eq-eqb n k here)) in
+    sym (ap (has_some test) (first_get p sections k)) ∙ sound k (or_left (n == k) (is_in_numbers k ns) (eq-eqb n k here)) in
     let behind : IsAscending (k + 1) ns = from_lower (k + 1) (n + 1) ns (omega (arith, here)) asc.1 in
     taken test k p sections n ns here asc.1 fits
     (selected test (k + 1) sections ns behind
-    (λ m e. sym (ap (has_some test) (later_get p sections k m (above_all (k + 1) m ns behind e))) ∙ sound m (or_right (n == m) (is_in m ns) e))
+    (λ m e. sym (ap (has_some test) (later_get p sections k m (above_all (k + 1) m ns behind e))) ∙ sound m (or_right (n == m) (is_in_numbers m ns) e))
     (λ m le e.
     ⊎_elim (λ same. absurd (omega (arith, eqb-true n m same, here, le))) (λ later. later)
-    (or_cases (n == m) (is_in m ns) (whole m (omega (arith, le)) (ap (has_some test) (later_get p sections k m le) ∙ e))))))
+    (or_cases (n == m) (is_in_numbers m ns) (whole m (omega (arith, le)) (ap (has_some test) (later_get p sections k m le) ∙ e))))))
     (λ other.
     let above : IsAscending (k + 1) (n ∷ ns) = (omega (arith, other, asc.0), asc.1) in
     let fails : list_any test p.section.patterns ≡ false =
@@ -157,8 +157,8 @@ selected test k (p ∷ sections) (n ∷ ns) asc sound whole =
 
 -- ascending numbers of just those sections that have a pattern that passes
 pub selects_from : (test : Pattern → Bool) (sections : List Placed) (ns : List ℕ) → IsStrictlyIncreasing ns
-    → ((n : ℕ) → is_in n ns ≡ true → has_some test (slice_get sections n) ≡ true)
-    → ((n : ℕ) → has_some test (slice_get sections n) ≡ true → is_in n ns ≡ true)
+    → ((n : ℕ) → is_in_numbers n ns ≡ true → has_some test (slice_get sections n) ≡ true)
+    → ((n : ℕ) → has_some test (slice_get sections n) ≡ true → is_in_numbers n ns ≡ true)
     → picked sections ns ≡ sections_with test sections
 selects_from test sections ns rises sound whole =
     let zero_less : (n : ℕ) → has_some test (slice_get sections (n - 0)) ≡ has_some test (slice_get sections n) =

@@ -5,7 +5,7 @@ use Rattle.px_patterns.specs.Hosts.{host_expression_in}
 use Rattle.px_patterns.specs.declared.kept.KeptPattern.{KeptPattern}
 use Rattle.px_action_files.specs.declared.patterns.Pattern.{Pattern}
 use Rattle.px_action_files.specs.declared.patterns.Pattern.TheVariants as pattern
-use Rattle.px_merge.specs.declared.places.Place.{Place}
+use Rattle.px_merge.specs.declared.places.PatternPlace.{PatternPlace}
 use Rattle.px_merge.specs.declared.places.Placed.{Placed}
 use Rattle.px_merge.specs.Indexes.{pattern_at, place_of}
 
@@ -29,13 +29,13 @@ abbrev pub has_expression : Pattern → Bool
 has_expression p = is_some (host_in p) || is_some (expression_in p)
 
 -- what is kept of the expressions of a pattern
-abbrev pub kept_of : Option Pattern → KeptPattern
-kept_of None = record { host = None; own = None }
-kept_of (Some p) = record { host = host_in p; own = expression_in p }
+abbrev pub kept_pattern : Option Pattern → KeptPattern
+kept_pattern None = record { host = None; own = None }
+kept_pattern (Some p) = record { host = host_in p; own = expression_in p }
 
 -- what is kept of the pattern at a place
-abbrev pub kept_at : List Placed → Place → KeptPattern
-kept_at sections place = kept_of (pattern_at sections place)
+abbrev pub kept_at : List Placed → PatternPlace → KeptPattern
+kept_at sections place = kept_pattern (pattern_at sections place)
 
 -- what is kept, if anything is, is of the expressions of a pattern
 pub record IsKeptFor (p : Pattern) (kept : KeptPattern) : Type 0 where
@@ -43,11 +43,11 @@ pub record IsKeptFor (p : Pattern) (kept : KeptPattern) : Type 0 where
   pub own : IsKeptOf (expression_in p) kept.own
 
 -- the places of a section's patterns with an expression, from one pattern on
-abbrev pub places_in : ℕ → ℕ → List Pattern → List Place
+abbrev pub places_in : ℕ → ℕ → List Pattern → List PatternPlace
 places_in number at [] = []
 places_in number at (p ∷ patterns) = if has_expression p then place_of number at ∷ places_in number (at + 1) patterns else places_in number (at + 1) patterns
 
 -- the places of all patterns with an expression, from one section on
-abbrev pub expression_places : ℕ → List Placed → List Place
+abbrev pub expression_places : ℕ → List Placed → List PatternPlace
 expression_places number [] = []
 expression_places number (p ∷ sections) = places_in number 0 p.section.patterns ++ expression_places (number + 1) sections

@@ -6,9 +6,9 @@ use Rattle.px_patterns.specs.declared.urls.Url.{Url}
 use Rattle.px_action_files.specs.declared.patterns.Pattern.{Pattern}
 use Rattle.px_action_files.specs.declared.patterns.Pattern.TheVariants as pattern
 use Rattle.px_merge.specs.declared.finders.Finder.{Finder}
-use Rattle.px_merge.specs.declared.indexes.Index.{Index}
-use Rattle.px_merge.specs.declared.parts.Parts.{Parts}
-use Rattle.px_merge.specs.declared.places.Place.{Place}
+use Rattle.px_merge.specs.declared.indexes.PlaceIndex.{PlaceIndex}
+use Rattle.px_merge.specs.declared.parts.PlaceParts.{PlaceParts}
+use Rattle.px_merge.specs.declared.places.PatternPlace.{PatternPlace}
 use Rattle.px_merge.specs.declared.places.Placed.{Placed}
 use Rattle.px_merge.specs.Indexes.{IsIndexed, hits_in, weight}
 use Rattle.px_merge.specs.Merging.{is_for_url}
@@ -23,27 +23,27 @@ HasPath text (Some (pattern.NoResponseTag p)) = ⊥
 HasPath text (Some (pattern.ClientTag p)) = ⊥
 
 -- where none of the expressions finds something in the path of a URL, none of the patterns at the places applies to it
-abbrev pub AreAsked : List Placed → List (List ℕ) → List Place → Type 0
+abbrev pub AreAsked : List Placed → List (List ℕ) → List PatternPlace → Type 0
 AreAsked sections texts places =
     (url : Url) (tags : List (List ℕ)) → list_any (λ text. finds text url.path) texts ≡ false → hits_in sections (is_for_url url tags) places ≡ []
 
 -- ---- places that are parted
 
-abbrev pub parted : Parts → List Place
-parted parts = parts.always ++ parts.paths
+abbrev pub parted_places : PlaceParts → List PatternPlace
+parted_places parts = parts.always ++ parts.paths
 
 -- no place is lost
-abbrev pub Keeps : List Place → List Place → Type 0
-Keeps old new = (test : Place → Bool) → list_any test old ≡ true → list_any test new ≡ true
+abbrev pub KeepsPlaces : List PatternPlace → List PatternPlace → Type 0
+KeepsPlaces old new = (test : PatternPlace → Bool) → list_any test old ≡ true → list_any test new ≡ true
 
 -- no place is there twice
-abbrev pub AreOnce : List Place → List Place → Type 0
-AreOnce old new = (weigh : Place → ℕ) → weight weigh new ≤ weight weigh old
+abbrev pub AreOnce : List PatternPlace → List PatternPlace → Type 0
+AreOnce old new = (weigh : PatternPlace → ℕ) → weight weigh new ≤ weight weigh old
 
 -- ---- patterns that are found
 
 -- an index with some more places that are kept under no text
-abbrev pub with_places : Index → List Place → Index
+abbrev pub with_places : PlaceIndex → List PatternPlace → PlaceIndex
 with_places index places = record index { always = index.always ++ places }
 
 -- each pattern is found by the URLs to which it applies, those on paths after their expressions were asked together

@@ -10,8 +10,8 @@ use Rattle.px_patterns.specs.declared.labels.LabelPattern.TheVariants.{Plain}
 use Rattle.px_patterns.specs.declared.patterns.UrlPattern.{UrlPattern}
 use Rattle.px_patterns.specs.declared.urls.Url.{Url}
 use Rattle.px_action_files.specs.declared.patterns.Pattern.{Pattern}
-use Rattle.px_merge.specs.declared.indexes.Index.{Index}
-use Rattle.px_merge.specs.declared.places.Place.{Place}
+use Rattle.px_merge.specs.declared.indexes.PlaceIndex.{PlaceIndex}
+use Rattle.px_merge.specs.declared.places.PatternPlace.{PatternPlace}
 use Rattle.px_merge.specs.declared.places.Placed.{Placed}
 use Rattle.px_merge.specs.Candidates.{cost}
 use Rattle.px_merge.specs.Keys.{slot_number}
@@ -19,7 +19,7 @@ use Rattle.px_merge.specs.Merging.{is_for_url}
 
 -- ---- places
 
-abbrev pub place_of : ℕ → ℕ → Place
+abbrev pub place_of : ℕ → ℕ → PatternPlace
 place_of section at = record { section = section; pattern = at }
 
 -- the pattern at a place, if there is one
@@ -27,7 +27,7 @@ abbrev pub pattern_in : Option Placed → ℕ → Option Pattern
 pattern_in None at = None
 pattern_in (Some p) at = slice_get p.section.patterns at
 
-abbrev pub pattern_at : List Placed → Place → Option Pattern
+abbrev pub pattern_at : List Placed → PatternPlace → Option Pattern
 pattern_at sections place = pattern_in (slice_get sections place.section) place.pattern
 
 abbrev pub passes : (Pattern → Bool) → Option Pattern → Bool
@@ -35,32 +35,32 @@ passes test None = false
 passes test (Some p) = test p
 
 -- the section of a place where the pattern there passes
-abbrev pub hit_of : List Placed → (Pattern → Bool) → Place → List ℕ
+abbrev pub hit_of : List Placed → (Pattern → Bool) → PatternPlace → List ℕ
 hit_of sections test place = if passes test (pattern_at sections place) then place.section ∷ [] else []
 
-abbrev pub hits_in : List Placed → (Pattern → Bool) → List Place → List ℕ
+abbrev pub hits_in : List Placed → (Pattern → Bool) → List PatternPlace → List ℕ
 hits_in sections test places = flat_map (hit_of sections test) places
 
-abbrev pub is_in : ℕ → List ℕ → Bool
-is_in number numbers = list_any (λ n. n == number) numbers
+abbrev pub is_in_numbers : ℕ → List ℕ → Bool
+is_in_numbers number numbers = list_any (λ n. n == number) numbers
 
 -- ---- slots
 
-abbrev pub places_or_none : Option (List Place) → List Place
+abbrev pub places_or_none : Option (List PatternPlace) → List PatternPlace
 places_or_none None = []
 places_or_none (Some places) = places
 
 -- the places in the slot with a number
-abbrev pub slot_at : List (List Place) → ℕ → List Place
+abbrev pub slot_at : List (List PatternPlace) → ℕ → List PatternPlace
 slot_at slots number = places_or_none (slice_get slots number)
 
 -- the places in the slot of a text
-abbrev pub slot_of : List (List Place) → List ℕ → List Place
+abbrev pub slot_of : List (List PatternPlace) → List ℕ → List PatternPlace
 slot_of slots key = slot_at slots (slot_number (length slots) key)
 
 -- the places that are kept under no text, and those in the slots of some texts
-abbrev pub gathered : List Place → List (List Place) → List (List ℕ) → List Place
-gathered always slots keys = always ++ flat_map (slot_of slots) keys
+abbrev pub gathered_places : List PatternPlace → List (List PatternPlace) → List (List ℕ) → List PatternPlace
+gathered_places always slots keys = always ++ flat_map (slot_of slots) keys
 
 -- the texts under which patterns that match a host are kept
 abbrev pub host_keys : List ℕ → List (List ℕ)
@@ -69,13 +69,13 @@ host_keys host = host ∷ host_labels host
 -- ---- no pattern is lost
 
 -- no place is lost
-abbrev pub Grows : Index → Index → Type 0
-Grows old new = (keys : List (List ℕ)) (test : Place → Bool) → list_any test (gathered old.always old.slots.items keys) ≡ true
-    → list_any test (gathered new.always new.slots.items keys) ≡ true
+abbrev pub Grows : PlaceIndex → PlaceIndex → Type 0
+Grows old new = (keys : List (List ℕ)) (test : PatternPlace → Bool) → list_any test (gathered_places old.always old.slots.items keys) ≡ true
+    → list_any test (gathered_places new.always new.slots.items keys) ≡ true
 
 -- the place is found under some texts
-abbrev pub FindsUnder : Index → Place → List (List ℕ) → Type 0
-FindsUnder index place keys = (test : Place → Bool) → test place ≡ true → list_any test (gathered index.always index.slots.items keys) ≡ true
+abbrev pub FindsUnder : PlaceIndex → PatternPlace → List (List ℕ) → Type 0
+FindsUnder index place keys = (test : PatternPlace → Bool) → test place ≡ true → list_any test (gathered_places index.always index.slots.items keys) ≡ true
 
 -- each host that a pattern matches has a text among its labels, or is that text, without case
 abbrev pub keeps_under : Option (List ℕ) → List ℕ → Bool
@@ -97,38 +97,38 @@ abbrev pub PlainPass : (List ℕ → Bool) → List LabelPattern → Type 0
 PlainPass test labels = (at : ℕ) (text : List ℕ) → slice_get labels at ≡ Some (Plain text) → test text ≡ true
 
 -- the place is found by each URL to which the pattern applies
-abbrev pub Finds : Index → Place → Pattern → Type 0
+abbrev pub Finds : PlaceIndex → PatternPlace → Pattern → Type 0
 Finds index place pattern = (url : Url) (tags : List (List ℕ)) → is_for_url url tags pattern ≡ true → FindsUnder index place (host_keys url.host)
 
 -- of a section's patterns the first are found
-abbrev pub HasFirst : Index → ℕ → List Pattern → ℕ → Type 0
-HasFirst index number patterns count = (j : ℕ) (pattern : Pattern) → j < count → slice_get patterns j ≡ Some pattern → Finds index (place_of number j) pattern
+abbrev pub HasFirstPatterns : PlaceIndex → ℕ → List Pattern → ℕ → Type 0
+HasFirstPatterns index number patterns count = (j : ℕ) (pattern : Pattern) → j < count → slice_get patterns j ≡ Some pattern → Finds index (place_of number j) pattern
 
 -- of the first sections all patterns are found
-abbrev pub HasSections : Index → List Placed → ℕ → Type 0
+abbrev pub HasSections : PlaceIndex → List Placed → ℕ → Type 0
 HasSections index sections count = (i : ℕ) (p : Placed) → i < count → slice_get sections i ≡ Some p
-    → HasFirst index i p.section.patterns (length p.section.patterns)
+    → HasFirstPatterns index i p.section.patterns (length p.section.patterns)
 
 -- ---- no pattern is kept twice
 
 -- the weights of places together
-abbrev pub weight : (Place → ℕ) → List Place → ℕ
+abbrev pub weight : (PatternPlace → ℕ) → List PatternPlace → ℕ
 weight weigh [] = 0
 weight weigh (place ∷ places) = weigh place + weight weigh places
 
-abbrev pub slots_weight : (Place → ℕ) → List (List Place) → ℕ
+abbrev pub slots_weight : (PatternPlace → ℕ) → List (List PatternPlace) → ℕ
 slots_weight weigh [] = 0
 slots_weight weigh (places ∷ slots) = weight weigh places + slots_weight weigh slots
 
-abbrev pub index_weight : (Place → ℕ) → Index → ℕ
+abbrev pub index_weight : (PatternPlace → ℕ) → PlaceIndex → ℕ
 index_weight weigh index = weight weigh index.always + slots_weight weigh index.slots.items
 
 -- the weights of a section's places from one on
-abbrev pub patterns_weight : (Place → ℕ) → ℕ → ℕ → List Pattern → ℕ
+abbrev pub patterns_weight : (PatternPlace → ℕ) → ℕ → ℕ → List Pattern → ℕ
 patterns_weight weigh number at [] = 0
 patterns_weight weigh number at (p ∷ patterns) = weigh (place_of number at) + patterns_weight weigh number (at + 1) patterns
 
-abbrev pub sections_weight : (Place → ℕ) → ℕ → List Placed → ℕ
+abbrev pub sections_weight : (PatternPlace → ℕ) → ℕ → List Placed → ℕ
 sections_weight weigh number [] = 0
 sections_weight weigh number (p ∷ sections) = patterns_weight weigh number 0 p.section.patterns + sections_weight weigh (number + 1) sections
 
@@ -137,10 +137,10 @@ abbrev pub cost_of : List ℕ → Option Pattern → ℕ
 cost_of host None = 0
 cost_of host (Some p) = cost host p
 
-abbrev pub cost_at : List Placed → List ℕ → Place → ℕ
+abbrev pub cost_at : List Placed → List ℕ → PatternPlace → ℕ
 cost_at sections host place = cost_of host (pattern_at sections place)
 
 -- each pattern is found by the URLs to which it applies, and none is kept twice
-pub record IsIndexed (index : Index) (sections : List Placed) : Type 0 where
+pub record IsIndexed (index : PlaceIndex) (sections : List Placed) : Type 0 where
   pub has : HasSections index sections (length sections)
-  pub once : (weigh : Place → ℕ) → index_weight weigh index ≤ sections_weight weigh 0 sections
+  pub once : (weigh : PatternPlace → ℕ) → index_weight weigh index ≤ sections_weight weigh 0 sections

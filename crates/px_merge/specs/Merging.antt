@@ -65,8 +65,8 @@ abbrev pub matching : List Placed → Url → List (List ℕ) → List Placed
 matching sections url tags = sections_with (is_for_url url tags) sections
 
 -- the sections that apply to a tag
-abbrev pub tagged : List Placed → List ℕ → List Placed
-tagged sections tag = sections_with (is_for_tag tag) sections
+abbrev pub tagged_sections : List Placed → List ℕ → List Placed
+tagged_sections sections tag = sections_with (is_for_tag tag) sections
 
 -- the sections that apply where no tag matches
 abbrev pub absent : List Placed → List (List ℕ) → Side → List Placed

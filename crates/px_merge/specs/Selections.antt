@@ -39,17 +39,17 @@ is_for_test (tag_test.Present tag) pattern = is_for_tag tag.now pattern
 is_for_test (tag_test.Absent side tags) pattern = is_for_absent side tags.now pattern
 
 -- what a list of sections is for: those with TAG patterns, or those with patterns on absent tags of a side
-abbrev pub is_of : Purpose → Pattern → Bool
-is_of purpose (pattern.Url p) = false
-is_of purpose.Tag (pattern.Tag p) = true
-is_of (purpose.Absent side) (pattern.Tag p) = false
-is_of purpose.Tag (pattern.NoRequestTag p) = false
-is_of (purpose.Absent side.Request) (pattern.NoRequestTag p) = true
-is_of (purpose.Absent side.Response) (pattern.NoRequestTag p) = false
-is_of purpose.Tag (pattern.NoResponseTag p) = false
-is_of (purpose.Absent side.Request) (pattern.NoResponseTag p) = false
-is_of (purpose.Absent side.Response) (pattern.NoResponseTag p) = true
-is_of purpose (pattern.ClientTag p) = false
+abbrev pub is_of_purpose : Purpose → Pattern → Bool
+is_of_purpose purpose (pattern.Url p) = false
+is_of_purpose purpose.Tag (pattern.Tag p) = true
+is_of_purpose (purpose.Absent side) (pattern.Tag p) = false
+is_of_purpose purpose.Tag (pattern.NoRequestTag p) = false
+is_of_purpose (purpose.Absent side.Request) (pattern.NoRequestTag p) = true
+is_of_purpose (purpose.Absent side.Response) (pattern.NoRequestTag p) = false
+is_of_purpose purpose.Tag (pattern.NoResponseTag p) = false
+is_of_purpose (purpose.Absent side.Request) (pattern.NoResponseTag p) = false
+is_of_purpose (purpose.Absent side.Response) (pattern.NoResponseTag p) = true
+is_of_purpose purpose (pattern.ClientTag p) = false
 
 -- what is kept of sections beside them
 pub record AreKept (names : List (List ℕ)) (sections : List Placed) (counts : SectionCounts) (finder : Finder) (tags requests responses : List ℕ) : Type 0 where
@@ -58,6 +58,6 @@ pub record AreKept (names : List (List ℕ)) (sections : List Placed) (counts : 
   pub patterns : counts.patterns ≡ pattern_count sections
   pub within : All (λ p. p.file < length names) sections
   pub found : CanFind finder sections
-  pub tags_are : Selects (is_of purpose.Tag) sections tags
-  pub requests_are : Selects (is_of (purpose.Absent side.Request)) sections requests
-  pub responses_are : Selects (is_of (purpose.Absent side.Response)) sections responses
+  pub tags_are : Selects (is_of_purpose purpose.Tag) sections tags
+  pub requests_are : Selects (is_of_purpose (purpose.Absent side.Request)) sections requests
+  pub responses_are : Selects (is_of_purpose (purpose.Absent side.Response)) sections responses

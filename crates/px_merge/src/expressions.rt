@@ -3,15 +3,15 @@ ghost use Rattle.std.specs.Prelude.{◌≡◌, ◌++◌, IfOk, IfSome, IsTrue, O
 ghost use Rattle.px_merge.specs.Expressions.{expression_in, expression_places, has_expression, host_in, kept_at, places_in};
 ghost use Rattle.px_merge.specs.Indexes.{pattern_at};
 
-use crate::places::{Place, Placed};
+use crate::places::{PatternPlace, Placed};
 use crate::selections::section_at;
 use px_action_files::Pattern;
 use px_base::Mem;
-use px_patterns::{Expression, Kept, KeptPattern};
+use px_patterns::{Expression, KeptExpression, KeptPattern};
 use std::alloc::Global;
 
 /// The pattern at a place, if there is one.
-pub fn pattern_at(sections: &[Placed], place: Place) -> Option<&Pattern>
+pub fn pattern_at(sections: &[Placed], place: PatternPlace) -> Option<&Pattern>
     ensures { option_copied result ≡ pattern_at sections.now place }
 {
     match section_at(sections, place.section) {
@@ -58,17 +58,17 @@ fn expression_in(pattern: &Pattern) -> Option<&Expression>
 }
 
 /// What is kept of an expression, if there is one, that hasn't been searched for.
-fn keep(expression: Option<&Expression>) -> Option<Kept<'_>>
+fn keep(expression: Option<&Expression>) -> Option<KeptExpression<'_>>
     ensures { result ≡ option_copied expression.entry }
 {
     match expression {
-        Some(expression) => Some(Kept::new(expression)),
+        Some(expression) => Some(KeptExpression::new(expression)),
         None => None,
     }
 }
 
 /// What is kept of the pattern at a place, if there is one, that hasn't searched.
-pub fn kept_at(sections: &[Placed], place: Place) -> KeptPattern<'_>
+pub fn kept_at(sections: &[Placed], place: PatternPlace) -> KeptPattern<'_>
     ensures { result ≡ kept_at sections.now place }
 {
     match pattern_at(sections, place) {
@@ -88,12 +88,16 @@ fn has_expression(pattern: &Pattern) -> bool
 }
 
 /// Adds the places of those patterns of the section with a number that have an expression.
-fn add_places(number: usize, patterns: &[Pattern], places: &mut Vec<Place>) -> Result<(), Mem>
+fn add_places(
+    number: usize,
+    patterns: &[Pattern],
+    places: &mut Vec<PatternPlace>,
+) -> Result<(), Mem>
     ensures { OnOk result (places.new.items ≡ places.old.items ++ places_in number 0 patterns.now) }
 {
     for (at, shown) in patterns.iter().enumerate() {
         if has_expression(shown) {
-            places.push(Place {
+            places.push(PatternPlace {
                 section: number,
                 pattern: at,
             })?;
@@ -103,7 +107,7 @@ fn add_places(number: usize, patterns: &[Pattern], places: &mut Vec<Place>) -> R
 }
 
 /// The places of all patterns with an expression, in ascending order.
-pub fn expression_places(alloc: Global, sections: &[Placed]) -> Result<Vec<Place>, Mem>
+pub fn expression_places(alloc: Global, sections: &[Placed]) -> Result<Vec<PatternPlace>, Mem>
     ensures { IfOk result (λ places. places.items ≡ expression_places 0 sections.now) }
 {
     let mut places = Vec::new(alloc);
@@ -115,7 +119,7 @@ pub fn expression_places(alloc: Global, sections: &[Placed]) -> Result<Vec<Place
 
 /// The number of a pattern's place among places in ascending order, if it is there. That of a pattern without an expression isn't
 /// looked for.
-pub fn number_at(places: &[Place], place: Place, pattern: &Pattern) -> Option<usize>
+pub fn number_at(places: &[PatternPlace], place: PatternPlace, pattern: &Pattern) -> Option<usize>
     ensures { IfSome result (λ number. slice_get places.now number ≡ Some place) }
 {
     if !has_expression(pattern) {
@@ -125,7 +129,7 @@ pub fn number_at(places: &[Place], place: Place, pattern: &Pattern) -> Option<us
 }
 
 /// The number of a place among places in ascending order, if it is there.
-fn number_of(places: &[Place], place: Place) -> Option<usize>
+fn number_of(places: &[PatternPlace], place: PatternPlace) -> Option<usize>
     ensures { IfSome result (λ number. slice_get places.now number ≡ Some place) }
 {
     let number = first_from(places, place);
@@ -135,19 +139,19 @@ fn number_of(places: &[Place], place: Place) -> Option<usize>
     None
 }
 
-fn is_same(place: Place, other: Place) -> bool
+fn is_same(place: PatternPlace, other: PatternPlace) -> bool
     ensures { IsTrue result → place ≡ other }
 {
     place.section == other.section && place.pattern == other.pattern
 }
 
-fn is_before(place: Place, other: Place) -> bool {
+fn is_before(place: PatternPlace, other: PatternPlace) -> bool {
     place.section < other.section
         || (place.section == other.section && place.pattern < other.pattern)
 }
 
 /// How many of some places in ascending order stand before a place.
-fn first_from(places: &[Place], place: Place) -> usize {
+fn first_from(places: &[PatternPlace], place: PatternPlace) -> usize {
     let mut from = 0;
     let mut to = places.len();
     'places: while from < to {

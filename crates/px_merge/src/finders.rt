@@ -2,9 +2,9 @@
 ghost use Rattle.std.specs.Prelude.{IfOk};
 ghost use Rattle.px_merge.specs.Finders.{CanFind};
 
-use crate::indexes::Index;
-use crate::parts::Parts;
-use crate::places::{Place, Placed};
+use crate::indexes::PlaceIndex;
+use crate::parts::PlaceParts;
+use crate::places::{PatternPlace, Placed};
 use px_base::{List, Mem};
 use px_patterns::Union;
 use std::alloc::Global;
@@ -12,9 +12,9 @@ use std::alloc::Global;
 /// The places of patterns that apply to URLs: by an index, and apart from it those that search in the path of every host.
 #[derive(Drop)]
 pub struct Finder {
-    pub index: Index,
+    pub index: PlaceIndex,
     /// Patterns for every host that are tried where the union of their expressions finds something in the path.
-    pub paths: List<Place>,
+    pub paths: List<PatternPlace>,
     /// Their expressions.
     pub union: Union,
 }
@@ -24,16 +24,16 @@ impl Finder {
     pub fn new(alloc: Global, sections: &[Placed], count: usize) -> Result<Finder, Mem>
         ensures { IfOk result (λ finder. CanFind finder sections.now) }
     {
-        let index = Index::new(alloc, sections, count)?;
-        let parts = Parts::new(alloc, sections, index.always.as_slice())?;
-        let Index { always: _, slots } = index;
-        let Parts {
+        let index = PlaceIndex::new(alloc, sections, count)?;
+        let parts = PlaceParts::new(alloc, sections, index.always.as_slice())?;
+        let PlaceIndex { always: _, slots } = index;
+        let PlaceParts {
             always,
             paths,
             union,
         } = parts;
         Ok(Finder {
-            index: Index { always, slots },
+            index: PlaceIndex { always, slots },
             paths,
             union: union.build(),
         })

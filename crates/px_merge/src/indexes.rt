@@ -4,12 +4,12 @@ ghost use Rattle.std.specs.List.{list_any};
 ghost use Rattle.std.specs.Str.{str_eq_ignore_ascii_case};
 ghost use Rattle.px_patterns.specs.Patterns.{url_matches};
 ghost use Rattle.px_patterns.specs.declared.urls.Url.{Url};
-ghost use Rattle.px_merge.specs.declared.places.Place.{Place};
-ghost use Rattle.px_merge.specs.Indexes.{Finds, FindsUnder, Grows, HasFirst, IsIndexed, host_keys, index_weight, patterns_weight, slot_at};
+ghost use Rattle.px_merge.specs.declared.places.PatternPlace.{PatternPlace};
+ghost use Rattle.px_merge.specs.Indexes.{Finds, FindsUnder, Grows, HasFirstPatterns, IsIndexed, host_keys, index_weight, patterns_weight, slot_at};
 
 use crate::keys::slot_number;
 use crate::labels::{key_of, label_counts};
-use crate::places::{Place, Placed};
+use crate::places::{PatternPlace, Placed};
 use px_action_files::Pattern;
 use px_base::{List, Mem};
 use px_patterns::UrlPattern;
@@ -17,14 +17,14 @@ use std::alloc::Global;
 
 /// The places of patterns: those that may match every host, and the others by the number of a label or an address.
 #[derive(Drop)]
-pub struct Index {
-    pub always: List<Place>,
-    pub slots: Vec<List<Place>>,
+pub struct PlaceIndex {
+    pub always: List<PatternPlace>,
+    pub slots: Vec<List<PatternPlace>>,
 }
 
-impl Index {
+impl PlaceIndex {
     /// The places in the slot with a number.
-    pub fn slot(&self, number: usize) -> &[Place]
+    pub fn slot(&self, number: usize) -> &[PatternPlace]
         ensures { result.now ≡ slot_at self.now.slots.items number }
     {
         if number < self.slots.len() {
@@ -35,10 +35,10 @@ impl Index {
     }
 
     /// Adds a place that is found by each text that is this one without case.
-    fn add_key(&mut self, text: &[u8], place: Place) -> Result<(), Mem>
+    fn add_key(&mut self, text: &[u8], place: PatternPlace) -> Result<(), Mem>
         ensures kept { OnOk result (Grows self.old self.new) }
         ensures added { OnOk result ((keys : List (List ℕ)) → list_any (str_eq_ignore_ascii_case text.now) keys ≡ true → FindsUnder self.new place keys) }
-        ensures once { OnOk result ((weigh : Place → ℕ) → index_weight weigh self.new ≤ index_weight weigh self.old + weigh place) }
+        ensures once { OnOk result ((weigh : PatternPlace → ℕ) → index_weight weigh self.new ≤ index_weight weigh self.old + weigh place) }
     {
         let count = self.slots.len();
         let at = slot_number(count, text);
@@ -52,10 +52,10 @@ impl Index {
     }
 
     /// Adds a place that is found by every host.
-    fn add_always(&mut self, place: Place) -> Result<(), Mem>
+    fn add_always(&mut self, place: PatternPlace) -> Result<(), Mem>
         ensures kept { OnOk result (Grows self.old self.new) }
         ensures added { OnOk result ((keys : List (List ℕ)) → FindsUnder self.new place keys) }
-        ensures once { OnOk result ((weigh : Place → ℕ) → index_weight weigh self.new ≤ index_weight weigh self.old + weigh place) }
+        ensures once { OnOk result ((weigh : PatternPlace → ℕ) → index_weight weigh self.new ≤ index_weight weigh self.old + weigh place) }
     {
         match self.always.push(place) {
             Ok(()) => Ok(()),
@@ -64,10 +64,15 @@ impl Index {
     }
 
     /// Adds the place of a URL pattern.
-    fn add_url(&mut self, counts: &[usize], pattern: &UrlPattern, place: Place) -> Result<(), Mem>
+    fn add_url(
+        &mut self,
+        counts: &[usize],
+        pattern: &UrlPattern,
+        place: PatternPlace,
+    ) -> Result<(), Mem>
         ensures kept { OnOk result (Grows self.old self.new) }
         ensures added { OnOk result ((url : Url) → url_matches pattern.now url ≡ true → FindsUnder self.new place (host_keys url.host)) }
-        ensures once { OnOk result ((weigh : Place → ℕ) → index_weight weigh self.new ≤ index_weight weigh self.old + weigh place) }
+        ensures once { OnOk result ((weigh : PatternPlace → ℕ) → index_weight weigh self.new ≤ index_weight weigh self.old + weigh place) }
     {
         match key_of(counts, pattern) {
             Some(text) => {
@@ -82,10 +87,10 @@ impl Index {
     }
 
     /// Adds the place of a pattern. TAG, NO-REQUEST-TAG and NO-RESPONSE-TAG patterns apply to no URL, so they are left out.
-    fn add(&mut self, counts: &[usize], pattern: &Pattern, place: Place) -> Result<(), Mem>
+    fn add(&mut self, counts: &[usize], pattern: &Pattern, place: PatternPlace) -> Result<(), Mem>
         ensures kept { OnOk result (Grows self.old self.new) }
         ensures added { OnOk result (Finds self.new place pattern.now) }
-        ensures once { OnOk result ((weigh : Place → ℕ) → index_weight weigh self.new ≤ index_weight weigh self.old + weigh place) }
+        ensures once { OnOk result ((weigh : PatternPlace → ℕ) → index_weight weigh self.new ≤ index_weight weigh self.old + weigh place) }
     {
         match pattern {
             Pattern::Url(pattern) => {
@@ -110,14 +115,14 @@ impl Index {
         patterns: &[Pattern],
     ) -> Result<(), Mem>
         ensures kept { OnOk result (Grows self.old self.new) }
-        ensures added { OnOk result (HasFirst self.new number patterns.now (length patterns.now)) }
-        ensures once { OnOk result ((weigh : Place → ℕ) → index_weight weigh self.new ≤ index_weight weigh self.old + patterns_weight weigh number 0 patterns.now) }
+        ensures added { OnOk result (HasFirstPatterns self.new number patterns.now (length patterns.now)) }
+        ensures once { OnOk result ((weigh : PatternPlace → ℕ) → index_weight weigh self.new ≤ index_weight weigh self.old + patterns_weight weigh number 0 patterns.now) }
     {
         for (at, shown) in patterns.iter().enumerate() {
             self.add(
                 counts,
                 shown,
-                Place {
+                PatternPlace {
                     section: number,
                     pattern: at,
                 },
@@ -127,8 +132,8 @@ impl Index {
     }
 
     /// An index with this many slots, in which no pattern is kept.
-    fn empty(alloc: Global, count: usize) -> Result<Index, Mem>
-        ensures { IfOk result (λ index. (weigh : Place → ℕ) → index_weight weigh index ≡ 0) }
+    fn empty(alloc: Global, count: usize) -> Result<PlaceIndex, Mem>
+        ensures { IfOk result (λ index. (weigh : PatternPlace → ℕ) → index_weight weigh index ≡ 0) }
     {
         let mut slots = Vec::new(alloc);
         'slots: for _ in 0..count {
@@ -136,15 +141,15 @@ impl Index {
             slots.push(none)?;
         }
         let always = List::new(alloc);
-        Ok(Index { always, slots })
+        Ok(PlaceIndex { always, slots })
     }
 
     /// The patterns of sections, indexed by about as many slots as there are patterns.
-    pub fn new(alloc: Global, sections: &[Placed], count: usize) -> Result<Index, Mem>
+    pub fn new(alloc: Global, sections: &[Placed], count: usize) -> Result<PlaceIndex, Mem>
         ensures { IfOk result (λ index. IsIndexed index sections.now) }
     {
         let counts = label_counts(alloc, sections, count)?;
-        let mut index = Index::empty(alloc, count)?;
+        let mut index = PlaceIndex::empty(alloc, count)?;
         for (at, shown) in sections.iter().enumerate() {
             index.add_section(&counts, at, shown.section.patterns.as_slice())?;
         }

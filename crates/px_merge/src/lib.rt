@@ -24,4 +24,4 @@ mod warm;
 pub use places::{Placed, SectionCounts, SectionRef};
 pub use sections::Sections;
 pub use sides::Side;
-pub use warm::Warm;
+pub use warm::WarmSections;

@@ -1,7 +1,7 @@
 // Lists of sections that are found without a walk over all of them.
 ghost use Rattle.std.specs.Prelude.{◌≡◌, IfOk, slice_get};
 ghost use Rattle.std.specs.List.{list_any};
-ghost use Rattle.px_merge.specs.Selections.{Selects, has_some, is_of};
+ghost use Rattle.px_merge.specs.Selections.{Selects, has_some, is_of_purpose};
 
 use crate::places::Placed;
 use crate::selections::section_at;
@@ -21,7 +21,7 @@ pub enum Purpose {
 
 /// Whether a pattern is one of those that a list is for.
 fn is_of(pattern: &Pattern, purpose: Purpose) -> bool
-    ensures { result ≡ is_of purpose pattern.now }
+    ensures { result ≡ is_of_purpose purpose pattern.now }
 {
     match (pattern, purpose) {
         (Pattern::Tag(_), Purpose::Tag) => true,
@@ -39,7 +39,7 @@ fn is_of(pattern: &Pattern, purpose: Purpose) -> bool
 
 /// Whether one of some patterns is one of those that a list is for.
 fn has_of(patterns: &[Pattern], purpose: Purpose) -> bool
-    ensures { result ≡ list_any (is_of purpose) patterns.now }
+    ensures { result ≡ list_any (is_of_purpose purpose) patterns.now }
 {
     let mut rest = patterns;
     'patterns: while let Some((pattern, others)) = rest.split_first() {
@@ -53,7 +53,7 @@ fn has_of(patterns: &[Pattern], purpose: Purpose) -> bool
 
 /// Whether the section with a number, if there is one, is one that a list is for.
 fn is_listed(sections: &[Placed], number: usize, purpose: Purpose) -> bool
-    ensures { result ≡ has_some (is_of purpose) (slice_get sections.now number) }
+    ensures { result ≡ has_some (is_of_purpose purpose) (slice_get sections.now number) }
 {
     match section_at(sections, number) {
         Some(placed) => has_of(placed.section.patterns.as_slice(), purpose),
@@ -63,7 +63,7 @@ fn is_listed(sections: &[Placed], number: usize, purpose: Purpose) -> bool
 
 /// The numbers of the sections that a list is for.
 pub fn numbers_of(alloc: Global, sections: &[Placed], purpose: Purpose) -> Result<Vec<usize>, Mem>
-    ensures { IfOk result (λ numbers. Selects (is_of purpose) sections.now numbers.items) }
+    ensures { IfOk result (λ numbers. Selects (is_of_purpose purpose) sections.now numbers.items) }
 {
     let mut numbers = Vec::new(alloc);
     for at in 0..sections.len() {

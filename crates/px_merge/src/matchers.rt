@@ -5,7 +5,7 @@ ghost use Rattle.px_merge.specs.Merging.{is_for_url};
 ghost use Rattle.px_merge.specs.Selections.{is_for_test, patterns_in};
 
 use crate::expressions::{kept_at, number_at, pattern_at};
-use crate::places::{Place, Placed};
+use crate::places::{PatternPlace, Placed};
 use crate::selections::section_at;
 use crate::sides::TagTest;
 use crate::tries::{may_fit, try_tags, try_url};
@@ -20,7 +20,7 @@ use std::sync::ledger::Ledger;
 pub struct Matchers<'c> {
     sections: &'c [Placed],
     /// Where patterns with an expression stand, in ascending order.
-    places: &'c [Place],
+    places: &'c [PatternPlace],
     /// At each of these places, the expressions of the pattern and what they keep.
     kept: Vec<KeptPattern<'c>>,
 }
@@ -42,7 +42,7 @@ impl<'c> Matchers<'c> {
     pub fn new(
         alloc: Global,
         sections: &'c [Placed],
-        places: &'c [Place],
+        places: &'c [PatternPlace],
     ) -> Result<Matchers<'c>, Mem>
         ensures { IfOk result (λ matchers. matchers ≡ sections.now) }
     {
@@ -75,7 +75,12 @@ impl<'c> Matchers<'c> {
     }
 
     /// Whether the pattern at a place, if there is one, passes a test of tags.
-    pub fn try_tags(&mut self, alloc: Global, place: Place, test: TagTest<'_>) -> Result<bool, Mem>
+    pub fn try_tags(
+        &mut self,
+        alloc: Global,
+        place: PatternPlace,
+        test: TagTest<'_>,
+    ) -> Result<bool, Mem>
         ensures value { IfOk result (λ yes. yes ≡ passes (is_for_test test.entry) (pattern_at self.old place)) }
         ensures same { self.new ≡ self.old }
     {
@@ -92,7 +97,7 @@ impl<'c> Matchers<'c> {
     pub fn try_url<L: Ledger>(
         &mut self,
         alloc: Global,
-        place: Place,
+        place: PatternPlace,
         url: &Url,
         tags: &[Text],
         steps: &mut Steps<L>,

@@ -1,10 +1,10 @@
 // Places of patterns for every host, parted by whether their path patterns are asked together.
 ghost use Rattle.std.specs.Prelude.{◌≡◌, ◌++◌, ◌∷◌, [], IfOk, IfSome, OnOk, Some, option_copied};
-ghost use Rattle.px_merge.specs.Finders.{AreAsked, AreOnce, HasPath, Keeps, parted};
+ghost use Rattle.px_merge.specs.Finders.{AreAsked, AreOnce, HasPath, KeepsPlaces, parted_places};
 ghost use Rattle.px_merge.specs.Indexes.{pattern_at};
 
 use crate::expressions::pattern_at;
-use crate::places::{Place, Placed};
+use crate::places::{PatternPlace, Placed};
 use px_action_files::Pattern;
 use px_base::{List, Mem};
 use px_patterns::{Expression, HostPattern, UnionBuilder, UrlPattern};
@@ -12,17 +12,17 @@ use std::alloc::Global;
 
 /// Places of patterns, in two parts.
 #[derive(Drop)]
-pub struct Parts {
+pub struct PlaceParts {
     /// Those that are tried at every URL.
-    pub always: List<Place>,
+    pub always: List<PatternPlace>,
     /// Those that are tried where the union of their expressions finds something in the path.
-    pub paths: List<Place>,
+    pub paths: List<PatternPlace>,
     /// Their expressions.
     pub union: UnionBuilder,
 }
 
-impl Parts {
-    fn add_always(&mut self, place: Place) -> Result<(), Mem>
+impl PlaceParts {
+    fn add_always(&mut self, place: PatternPlace) -> Result<(), Mem>
         ensures always { OnOk result (self.new.always ≡ self.old.always ++ place ∷ []) }
         ensures paths { OnOk result (self.new.paths ≡ self.old.paths) }
         ensures union { OnOk result (self.new.union ≡ self.old.union) }
@@ -30,7 +30,12 @@ impl Parts {
         self.always.add(place)
     }
 
-    fn add_path(&mut self, alloc: Global, expression: &Expression, place: Place) -> Result<(), Mem>
+    fn add_path(
+        &mut self,
+        alloc: Global,
+        expression: &Expression,
+        place: PatternPlace,
+    ) -> Result<(), Mem>
         ensures always { OnOk result (self.new.always ≡ self.old.always) }
         ensures paths { OnOk result (self.new.paths ≡ self.old.paths ++ place ∷ []) }
         ensures union { OnOk result (self.new.union ≡ self.old.union ++ expression.now ∷ []) }
@@ -40,9 +45,9 @@ impl Parts {
     }
 
     /// Adds a place to one of the parts.
-    fn add(&mut self, alloc: Global, sections: &[Placed], place: Place) -> Result<(), Mem>
-        ensures kept { OnOk result (Keeps (parted self.old ++ place ∷ []) (parted self.new)) }
-        ensures once { OnOk result (AreOnce (parted self.old ++ place ∷ []) (parted self.new)) }
+    fn add(&mut self, alloc: Global, sections: &[Placed], place: PatternPlace) -> Result<(), Mem>
+        ensures kept { OnOk result (KeepsPlaces (parted_places self.old ++ place ∷ []) (parted_places self.new)) }
+        ensures once { OnOk result (AreOnce (parted_places self.old ++ place ∷ []) (parted_places self.new)) }
         ensures asked { OnOk result (AreAsked sections.now self.old.union self.old.paths → AreAsked sections.now self.new.union self.new.paths) }
     {
         match path_at(alloc, sections, place)? {
@@ -58,12 +63,16 @@ impl Parts {
     }
 
     /// The parts of some places.
-    pub fn new(alloc: Global, sections: &[Placed], places: &[Place]) -> Result<Parts, Mem>
-        ensures kept { IfOk result (λ parts. Keeps places.now (parted parts)) }
-        ensures once { IfOk result (λ parts. AreOnce places.now (parted parts)) }
+    pub fn new(
+        alloc: Global,
+        sections: &[Placed],
+        places: &[PatternPlace],
+    ) -> Result<PlaceParts, Mem>
+        ensures kept { IfOk result (λ parts. KeepsPlaces places.now (parted_places parts)) }
+        ensures once { IfOk result (λ parts. AreOnce places.now (parted_places parts)) }
         ensures asked { IfOk result (λ parts. AreAsked sections.now parts.union parts.paths) }
     {
-        let mut parts = Parts {
+        let mut parts = PlaceParts {
             always: List::new(alloc),
             paths: List::new(alloc),
             union: UnionBuilder::new(alloc),
@@ -78,7 +87,11 @@ impl Parts {
 }
 
 /// The expression of the pattern at a place, if it is one whose path pattern is asked with others.
-fn path_at(alloc: Global, sections: &[Placed], place: Place) -> Result<Option<&Expression>, Mem>
+fn path_at(
+    alloc: Global,
+    sections: &[Placed],
+    place: PatternPlace,
+) -> Result<Option<&Expression>, Mem>
     ensures { IfOk result (λ path. IfSome (option_copied path) (λ text. HasPath text (pattern_at sections.now place))) }
 {
     match pattern_at(sections, place) {

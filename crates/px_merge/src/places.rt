@@ -27,7 +27,7 @@ pub struct SectionCounts {
 
 /// Where a pattern stands: the number of its section among all, and its number in the section, each counted from 0.
 #[derive(Clone, Copy)]
-pub struct Place {
+pub struct PatternPlace {
     pub section: usize,
     pub pattern: usize,
 }

@@ -4,17 +4,17 @@ ghost use Rattle.px_actions.specs.Sets.{IsUpdatedByFront};
 ghost use Rattle.px_merge.specs.Candidates.{candidate_count};
 ghost use Rattle.px_merge.specs.Finders.{CanFind};
 ghost use Rattle.px_merge.specs.Merged.{names_of, pattern_count, sections_of};
-ghost use Rattle.px_merge.specs.Merging.{absent, applied, matching, ref_of, tagged, updates_in, url_actions};
-ghost use Rattle.px_merge.specs.Selections.{Selects, is_of};
+ghost use Rattle.px_merge.specs.Merging.{absent, applied, matching, ref_of, tagged_sections, updates_in, url_actions};
+ghost use Rattle.px_merge.specs.Selections.{Selects, is_of_purpose};
 ghost use Rattle.px_merge.specs.declared.lists.Purpose.TheVariants.{Absent, Tag};
 
 use crate::building::{add_files, counts_of};
 use crate::expressions::expression_places;
 use crate::finders::Finder;
 use crate::lists::{Purpose, numbers_of};
-use crate::places::{Place, Placed, SectionCounts, SectionRef};
+use crate::places::{PatternPlace, Placed, SectionCounts, SectionRef};
 use crate::sides::Side;
-use crate::warm::Warm;
+use crate::warm::WarmSections;
 use px_action_files::ActionFile;
 use px_actions::ActionSet;
 use px_base::{List, Mem, Steps, Text};
@@ -32,7 +32,7 @@ pub struct Sections {
     /// The places of all patterns that apply to URLs.
     finder: Finder,
     /// The places of all patterns with an expression, in ascending order.
-    expressions: Vec<Place>,
+    expressions: Vec<PatternPlace>,
     /// The sections with TAG patterns.
     tags: Vec<usize>,
     /// The sections with NO-REQUEST-TAG patterns.
@@ -99,10 +99,10 @@ impl Sections {
     }
 
     /// The sections with what their patterns keep from search to search. What searches is made at the first search.
-    pub fn warm(&self, alloc: Global) -> Result<Warm<'_>, Mem>
+    pub fn warm(&self, alloc: Global) -> Result<WarmSections<'_>, Mem>
         ensures { IfOk result (λ warm. warm ≡ self.now) }
     {
-        Warm::new(alloc, self)
+        WarmSections::new(alloc, self)
     }
 
     /// What the sections set for a URL and the tags of a client: from the empty set, the updates of each section that has
@@ -141,8 +141,8 @@ impl Sections {
     /// Applies to a set, in file order, the updates of each section that has a TAG pattern that matches the tag. After
     /// `Mem` the set has had a front of these updates.
     pub fn apply_tag(&self, alloc: Global, set: &mut ActionSet, tag: &[u8]) -> Result<(), Mem>
-        ensures ok { OnOk result (set.new ≡ applied set.old (tagged self.now.sections tag.now)) }
-        ensures err { OnErr result (IsUpdatedByFront set.old (updates_in (tagged self.now.sections tag.now)) set.new) }
+        ensures ok { OnOk result (set.new ≡ applied set.old (tagged_sections self.now.sections tag.now)) }
+        ensures err { OnErr result (IsUpdatedByFront set.old (updates_in (tagged_sections self.now.sections tag.now)) set.new) }
     {
         let mut warm = self.warm(alloc)?;
         warm.apply_tag(alloc, set, tag)
@@ -181,20 +181,20 @@ impl Sections {
     }
 
     /// The places of all patterns with an expression, in ascending order.
-    pub(crate) fn expressions(&self) -> &[Place] {
+    pub(crate) fn expressions(&self) -> &[PatternPlace] {
         self.expressions.as_slice()
     }
 
     /// The sections with TAG patterns.
     pub(crate) fn tag_numbers(&self) -> &[usize]
-        ensures { Selects (is_of Tag) self.now.sections result.now }
+        ensures { Selects (is_of_purpose Tag) self.now.sections result.now }
     {
         self.tags.as_slice()
     }
 
     /// The sections with NO-REQUEST-TAG patterns, or for the response with NO-RESPONSE-TAG patterns.
     pub(crate) fn absence_numbers(&self, side: Side) -> &[usize]
-        ensures { Selects (is_of (Absent side)) self.now.sections result.now }
+        ensures { Selects (is_of_purpose (Absent side)) self.now.sections result.now }
     {
         match side {
             Side::Request => self.requests.as_slice(),

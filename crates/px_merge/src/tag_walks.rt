@@ -4,7 +4,7 @@ ghost use Rattle.px_merge.specs.Merging.{sections_with};
 ghost use Rattle.px_merge.specs.Selections.{has_some, is_for_test, picked};
 
 use crate::matchers::Matchers;
-use crate::places::Place;
+use crate::places::PatternPlace;
 use crate::sides::TagTest;
 use px_base::Mem;
 use std::alloc::Global;
@@ -21,7 +21,7 @@ fn has_hit(
     ensures same { matchers.new ≡ matchers.old }
 {
     for pattern in 0..matchers.count_patterns(section) {
-        if matchers.try_tags(alloc, Place { section, pattern }, test)? {
+        if matchers.try_tags(alloc, PatternPlace { section, pattern }, test)? {
             return Ok(true);
         }
     }

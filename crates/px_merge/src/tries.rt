@@ -11,7 +11,7 @@ ghost use Rattle.px_merge.specs.Selections.{is_for_test};
 use crate::sides::{Side, TagTest};
 use px_action_files::Pattern;
 use px_base::{Mem, Steps, Text};
-use px_patterns::{Kept, KeptPattern, TagPattern, Url, UrlPattern};
+use px_patterns::{KeptExpression, KeptPattern, TagPattern, Url, UrlPattern};
 use std::alloc::Global;
 use std::sync::ledger::Ledger;
 
@@ -19,7 +19,7 @@ use std::sync::ledger::Ledger;
 fn matches_tag(
     alloc: Global,
     pattern: &TagPattern,
-    kept: &mut Option<Kept<'_>>,
+    kept: &mut Option<KeptExpression<'_>>,
     tag: &[u8],
 ) -> Result<bool, Mem>
     requires { IsKeptOf (Some pattern.now.expression) kept.old }
@@ -36,7 +36,7 @@ fn matches_tag(
 fn matches_some(
     alloc: Global,
     pattern: &TagPattern,
-    kept: &mut Option<Kept<'_>>,
+    kept: &mut Option<KeptExpression<'_>>,
     tags: &[Text],
 ) -> Result<bool, Mem>
     requires { IsKeptOf (Some pattern.now.expression) kept.old }
@@ -57,7 +57,7 @@ fn matches_some(
 fn matches_none(
     alloc: Global,
     pattern: &TagPattern,
-    kept: &mut Option<Kept<'_>>,
+    kept: &mut Option<KeptExpression<'_>>,
     tags: &[Text],
 ) -> Result<bool, Mem>
     requires { IsKeptOf (Some pattern.now.expression) kept.old }

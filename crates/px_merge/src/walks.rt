@@ -9,10 +9,10 @@ ghost use Rattle.px_merge.specs.Selections.{Selects};
 
 use crate::finders::Finder;
 use crate::hosts::host_slots;
-use crate::indexes::Index;
+use crate::indexes::PlaceIndex;
 use crate::matchers::Matchers;
 use crate::numbers::put_in_order;
-use crate::places::Place;
+use crate::places::PatternPlace;
 use px_base::{Mem, Steps, Text};
 use px_patterns::{KeptUnion, Url};
 use std::alloc::Global;
@@ -23,7 +23,7 @@ use std::sync::ledger::Ledger;
 fn try_places<L: Ledger>(
     alloc: Global,
     matchers: &mut Matchers<'_>,
-    places: &[Place],
+    places: &[PatternPlace],
     url: &Url,
     tags: &[Text],
     hits: &mut Vec<usize>,
@@ -46,7 +46,7 @@ fn try_places<L: Ledger>(
 /// The same of the places whose expressions are asked together, and of none of them where the union finds nothing.
 fn try_paths<L: Ledger>(
     alloc: Global,
-    places: &[Place],
+    places: &[PatternPlace],
     union: &mut KeptUnion<'_>,
     matchers: &mut Matchers<'_>,
     url: &Url,
@@ -96,7 +96,7 @@ fn try_every<L: Ledger>(
 /// The same of the places in some slots.
 fn try_slots<L: Ledger>(
     alloc: Global,
-    index: &Index,
+    index: &PlaceIndex,
     matchers: &mut Matchers<'_>,
     numbers: &[usize],
     url: &Url,

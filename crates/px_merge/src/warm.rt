@@ -2,7 +2,7 @@
 ghost use Rattle.std.specs.Prelude.{◌≡◌, ◌+◌, ◌<◌, ◌≤◌, All, IfOk, OnErr, OnOk, length, map};
 ghost use Rattle.px_actions.specs.Sets.{IsUpdatedByFront};
 ghost use Rattle.px_merge.specs.Candidates.{candidate_count};
-ghost use Rattle.px_merge.specs.Merging.{absent, applied, is_for_url, matching, ref_of, sections_with, tagged, updates_in, url_actions};
+ghost use Rattle.px_merge.specs.Merging.{absent, applied, is_for_url, matching, ref_of, sections_with, tagged_sections, updates_in, url_actions};
 ghost use Rattle.px_merge.specs.Selections.{Selects, is_for_test, picked};
 
 use crate::finders::Finder;
@@ -23,7 +23,7 @@ use std::sync::ledger::Ledger;
 /// Sections that are lent, seen as those sections. What a pattern keeps from search to search is made at its first search.
 /// It is kept by one thread at a time.
 #[derive(Drop)]
-pub struct Warm<'c> {
+pub struct WarmSections<'c> {
     sections: &'c Sections,
     finder: &'c Finder,
     /// The expressions that are asked together, and what is kept of them.
@@ -31,7 +31,7 @@ pub struct Warm<'c> {
     matchers: Matchers<'c>,
 }
 
-impl<'c> Model for Warm<'c> {
+impl<'c> Model for WarmSections<'c> {
     ghost use Rattle.std.specs.Prelude.{◌≡◌};
     ghost use Rattle.px_merge.specs.Finders.{CanFind};
     ghost use Rattle.px_merge.specs.Merged.{Merged};
@@ -43,13 +43,13 @@ impl<'c> Model for Warm<'c> {
     ghost invariant = { λ w. ((w.matchers ≡ w.sections.now.sections) × (w.union ≡ w.finder.now.union)) × CanFind w.finder.now w.sections.now.sections };
 }
 
-impl<'c> Warm<'c> {
-    pub(crate) fn new(alloc: Global, sections: &'c Sections) -> Result<Warm<'c>, Mem>
+impl<'c> WarmSections<'c> {
+    pub(crate) fn new(alloc: Global, sections: &'c Sections) -> Result<WarmSections<'c>, Mem>
         ensures { IfOk result (λ warm. warm ≡ sections.now) }
     {
         let matchers = Matchers::new(alloc, sections.placed(), sections.expressions())?;
         let finder = sections.finder();
-        Ok(Warm {
+        Ok(WarmSections {
             sections,
             finder,
             union: KeptUnion::new(&finder.union),
@@ -138,8 +138,8 @@ impl<'c> Warm<'c> {
     /// Applies to a set, in file order, the updates of each section that has a TAG pattern that matches the tag. After
     /// `Mem` the set has had a front of these updates.
     pub fn apply_tag(&mut self, alloc: Global, set: &mut ActionSet, tag: &[u8]) -> Result<(), Mem>
-        ensures ok { OnOk result (set.new ≡ applied set.old (tagged self.old.sections tag.now)) }
-        ensures err { OnErr result (IsUpdatedByFront set.old (updates_in (tagged self.old.sections tag.now)) set.new) }
+        ensures ok { OnOk result (set.new ≡ applied set.old (tagged_sections self.old.sections tag.now)) }
+        ensures err { OnErr result (IsUpdatedByFront set.old (updates_in (tagged_sections self.old.sections tag.now)) set.new) }
         ensures same { self.new ≡ self.old }
     {
         let sections = self.sections;

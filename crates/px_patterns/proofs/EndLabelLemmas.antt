@@ -10,7 +10,7 @@ use Rattle.std.proofs.lemmas.List.{drop_all, drop_more, length-map, take-append-
 use Rattle.std.proofs.lemmas.Slice.Eq.{bytes_eq-Decides}
 use Rattle.px_patterns.specs.declared.TheConstants.{DOT}
 use Rattle.px_patterns.specs.declared.labels.LabelPattern.TheVariants.{Plain}
-use Rattle.px_patterns.specs.Hosts.{HasFirst, HasLast, LacksFirst, LacksLast, is_in_label, is_label, labels_in}
+use Rattle.px_patterns.specs.Hosts.{HasFirstLabel, HasLast, LacksFirst, LacksLast, is_in_label, is_label, labels_in}
 use Rattle.px_patterns.proofs.HostLemmas.{labels_in-last, labels_in-one}
 
 abbrev pub is_dot : ℕ → Bool
@@ -198,13 +198,13 @@ lacks_first text bytes before = elim (first_dot bytes) [
   }
 ]
 
-pub has_first_alone : (text bytes : List ℕ) → length bytes ≡ length text → is_label text (take (length text) bytes) ≡ true → HasFirst (Plain text) bytes None
+pub has_first_alone : (text bytes : List ℕ) → length bytes ≡ length text → is_label text (take (length text) bytes) ≡ true → HasFirstLabel (Plain text) bytes None
 has_first_alone text bytes long is =
     let here : is_label text bytes ≡ true = ap (is_label text) (sym (take_all (length text) bytes (omega (arith, long)))) ∙ is in
     let none = label-no_dot text bytes here in
     record { label = bytes; cut = labels_in-one bytes (no_dot_at bytes none); fits = sym (label_same text bytes none) ∙ here }
 
-pub has_first : (text bytes : List ℕ) → length text < length bytes → slice_index bytes (length text) ≡ DOT → is_label text (take (length text) bytes) ≡ true → HasFirst (Plain text) bytes (Some (drop (length text + 1) bytes))
+pub has_first : (text bytes : List ℕ) → length text < length bytes → slice_index bytes (length text) ≡ DOT → is_label text (take (length text) bytes) ≡ true → HasFirstLabel (Plain text) bytes (Some (drop (length text + 1) bytes))
 has_first text bytes within dot is =
     let none = label-no_dot text (take (length text) bytes) is in
     let split : bytes ≡ take (length text) bytes ++ DOT ∷ drop (length text + 1) bytes =

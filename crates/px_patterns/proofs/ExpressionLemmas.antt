@@ -19,7 +19,7 @@ use Rattle.regex.specs.Names.{names_of}
 use Rattle.regex.specs.declared.bytes.regex.Regex.{Regex}
 use Rattle.regex.specs.declared.builder.RegexBuilder.{RegexBuilder}
 use Rattle.px_patterns.specs.declared.faults.PatternFault.TheVariants.{BadRegex}
-use Rattle.px_patterns.specs.Expressions.{IsBuilt, IsBuiltFrom, expression, expression_of, finds, options}
+use Rattle.px_patterns.specs.Expressions.{IsBuilt, IsBuiltFrom, pattern_expression, expression_of, finds, pattern_options}
 use Rattle.px_patterns.specs.Searches.{FindsAs, SearchesFor}
 
 -- an expression that nests within the limit
@@ -33,12 +33,12 @@ read_within None hir names read = absurd read
 read_within (Some (re, found)) hir names read = (re.value, rw (le-leb re.depth 250 read.0) refl, read.1)
 
 -- the expression of a text from which a tree was read
-pub expression_from_reads : (text : List ℕ) (config : Config) (source : List ℕ) (hir : Hir) (names : Names) → config ≡ options → source ≡ text → Reads config source hir names →
-    (re : Re) × (expression text ≡ Some re) × SameCaptures (meaning hir) re
-unfolding Reads expression
-expression_from_reads text config source hir names is_config is_source reads = read_within (read options (chars text)) hir names (rw (is_config, is_source) at reads)
+pub expression_from_reads : (text : List ℕ) (config : Config) (source : List ℕ) (hir : Hir) (names : Names) → config ≡ pattern_options → source ≡ text → Reads config source hir names →
+    (re : Re) × (pattern_expression text ≡ Some re) × SameCaptures (meaning hir) re
+unfolding Reads pattern_expression
+expression_from_reads text config source hir names is_config is_source reads = read_within (read pattern_options (chars text)) hir names (rw (is_config, is_source) at reads)
 
-pub expression_of-reads : (text shown : List ℕ) (config : Config) (source : List ℕ) (hir : Hir) (names : Names) → config ≡ options → source ≡ text → shown ≡ text → Reads config source hir names → expression_of text ≡ Ok shown
+pub expression_of-reads : (text shown : List ℕ) (config : Config) (source : List ℕ) (hir : Hir) (names : Names) → config ≡ pattern_options → source ≡ text → shown ≡ text → Reads config source hir names → expression_of text ≡ Ok shown
 expression_of-reads text shown config source hir names is_config is_source is_shown reads =
     rw (ap is_some (expression_from_reads text config source hir names is_config is_source reads).1) (ap (λ t. Ok t) (sym is_shown))
 
@@ -47,26 +47,26 @@ deep_or_unread None deep = refl
 deep_or_unread (Some (re, found)) deep = rw (lt-leb re.depth 250 deep) refl
 
 -- a refusal of the syntax: no expression, or one that nests too deep
-pub unread_from_refuses : (text : List ℕ) (config : Config) (source : List ℕ) (kind : ErrorKind) → config ≡ options → source ≡ text → kind ≢ OutOfMemory → Refuses config source kind → expression text ≡ None
-unfolding Refuses expression
+pub unread_from_refuses : (text : List ℕ) (config : Config) (source : List ℕ) (kind : ErrorKind) → config ≡ pattern_options → source ≡ text → kind ≢ OutOfMemory → Refuses config source kind → pattern_expression text ≡ None
+unfolding Refuses pattern_expression
 unread_from_refuses text config source kind is_config is_source memory refuses =
     elim (rw (is_config, is_source) at refuses) [
       | inl is ↦ absurd (memory is)
-      | inr other ↦ elim other [ inl none ↦ ap within_limit none | inr deep ↦ deep_or_unread (read options (chars text)) deep.1 ]
+      | inr other ↦ elim other [ inl none ↦ ap within_limit none | inr deep ↦ deep_or_unread (read pattern_options (chars text)) deep.1 ]
     ]
 
-pub refusal_of : (text : List ℕ) → expression text ≡ None → expression_of text ≡ Err BadRegex
+pub refusal_of : (text : List ℕ) → pattern_expression text ≡ None → expression_of text ≡ Err BadRegex
 refusal_of text none = rw none refl
 
 -- what the builder's steps make of the options
 pub options_of : (new set : RegexBuilder) → new.config ≡ default_config → set ≡ record new { config = record new.config { flags = record new.config.flags { case_insensitive = true } } } →
-    record set.config { utf8 = false } ≡ options
+    record set.config { utf8 = false } ≡ pattern_options
 options_of new set is_new is_set =
     ap (λ (b : RegexBuilder). record b.config { utf8 = false }) is_set
     ∙ ap (λ (k : Config). record k { flags = record k.flags { case_insensitive = true }; utf8 = false }) is_new
 
 -- a search by a built expression finds what the expression of its text does
-pub finds_from_reads : (text bytes : List ℕ) (config : Config) (hir : Hir) (names : Names) → config ≡ options → Reads config text hir names → ((k : ℕ) → slice_index bytes k < 256) →
+pub finds_from_reads : (text bytes : List ℕ) (config : Config) (hir : Hir) (names : Names) → config ≡ pattern_options → Reads config text hir names → ((k : ℕ) → slice_index bytes k < 256) →
     is_some (find (meaning hir) bytes 0) ≡ finds text bytes
 unfolding finds
 finds_from_reads text bytes config hir names is_config reads fits =

@@ -5,11 +5,11 @@ use Rattle.std.specs.Char.{eq_ignore_ascii_case}
 use Rattle.std.specs.Str.{str_eq_ignore_ascii_case}
 use Rattle.std.proofs.lemmas.Bool.{both_ways, false≢true, cases_Bool, and_parts, or_cases, and_from, eqb-true, eq-eqb, ne_eqb}
 use Rattle.std.proofs.lemmas.List.{drop-drop, drop_all, drop_at, drop_more, take-append-drop, take_rest}
-use Rattle.px_patterns.specs.declared.labels.Item.{Item}
-use Rattle.px_patterns.specs.declared.labels.Item.TheVariants.{AnyByte, AnyRun, Byte, Class}
+use Rattle.px_patterns.specs.declared.labels.LabelItem.{LabelItem}
+use Rattle.px_patterns.specs.declared.labels.LabelItem.TheVariants.{AnyByte, AnyRun, Byte, Class}
 use Rattle.px_patterns.specs.declared.labels.LabelPattern.{LabelPattern}
 use Rattle.px_patterns.specs.declared.labels.LabelPattern.TheVariants.{Glob, Plain}
-use Rattle.px_patterns.specs.Globs.{ArePieces, CanBeCut, glob_matches, items_in, joined_pieces, label_matches, some_tail, takes, takes_first}
+use Rattle.px_patterns.specs.Globs.{ArePieces, CanBeCut, glob_matches, label_items, joined_pieces, label_matches, some_tail, takes, takes_first}
 use Rattle.px_patterns.specs.Runs.{behind_first, has_run, is_run, takes_front}
 
 -- ---- tests
@@ -58,25 +58,25 @@ tail_of-some test (x ∷ xs) passes =
 
 -- ---- cuts
 
-pub glob-fixed : (item : Item) (items : List Item) (label : List ℕ) → is_run item ≡ false → glob_matches (item ∷ items) label ≡ takes_first item (glob_matches items) label
+pub glob-fixed : (item : LabelItem) (items : List LabelItem) (label : List ℕ) → is_run item ≡ false → glob_matches (item ∷ items) label ≡ takes_first item (glob_matches items) label
 unfolding glob_matches
 glob-fixed AnyRun items label fixed = absurd (cc fixed)
 glob-fixed AnyByte items label fixed = refl
 glob-fixed (Byte a) items label fixed = refl
 glob-fixed (Class ranges) items label fixed = refl
 
-pub glob-run : (items : List Item) (label : List ℕ) → glob_matches (AnyRun ∷ items) label ≡ some_tail (glob_matches items) label
+pub glob-run : (items : List LabelItem) (label : List ℕ) → glob_matches (AnyRun ∷ items) label ≡ some_tail (glob_matches items) label
 unfolding glob_matches
 glob-run items label = refl
 
 -- a `*` with no item behind it matches each label
-pub run-last : (items : List Item) (label : List ℕ) → length items ≡ 0 → glob_matches (AnyRun ∷ items) label ≡ true
+pub run-last : (items : List LabelItem) (label : List ℕ) → length items ≡ 0 → glob_matches (AnyRun ∷ items) label ≡ true
 unfolding glob_matches
 run-last [] label none = subst (λ (l : List ℕ). some_tail (glob_matches []) l ≡ true) (append-nil label) (some_tail-at (glob_matches []) label [] refl)
 run-last (item ∷ items) label none = absurd (omega (arith, none))
 
 -- a cut of a label that the glob matches
-pub cut-from-glob : (items : List Item) (label : List ℕ) → glob_matches items label ≡ true → CanBeCut items label
+pub cut-from-glob : (items : List LabelItem) (label : List ℕ) → glob_matches items label ≡ true → CanBeCut items label
 unfolding glob_matches
 cut-from-glob [] [] matches = ([], tt, refl)
 cut-from-glob [] (b ∷ label) matches = absurd (omega (arith, eqb-true (length (b ∷ label)) 0 matches))
@@ -90,7 +90,7 @@ cut-from-glob (item ∷ items) (b ∷ label) matches =
     let later = cut-from-glob items label both.1 in
     ((b ∷ []) ∷ later.0, ((b, refl, both.0), later.1), ap (λ l. b ∷ l) later.2)
 
-pub glob-from-cut : (items : List Item) (pieces : List (List ℕ)) → ArePieces items pieces → glob_matches items (joined_pieces pieces) ≡ true
+pub glob-from-cut : (items : List LabelItem) (pieces : List (List ℕ)) → ArePieces items pieces → glob_matches items (joined_pieces pieces) ≡ true
 unfolding glob_matches
 glob-from-cut [] [] are = refl
 glob-from-cut [] (piece ∷ pieces) are = absurd are
@@ -102,13 +102,13 @@ glob-from-cut (item ∷ items) (piece ∷ pieces) are =
 -- ---- from `*` to `*`
 
 -- items without `*` take bytes at the front
-first_fixed : (item : Item) (items : List Item) → has_run (item ∷ items) ≡ false → is_run item ≡ false
+first_fixed : (item : LabelItem) (items : List LabelItem) → has_run (item ∷ items) ≡ false → is_run item ≡ false
 first_fixed item items fixed = elim (cases_Bool (is_run item)) [ inl does ↦ absurd (both_ways (has_run (item ∷ items)) fixed (rw does refl)) | inr fails ↦ fails ]
 
-rest_fixed : (item : Item) (items : List Item) → has_run (item ∷ items) ≡ false → has_run items ≡ false
+rest_fixed : (item : LabelItem) (items : List LabelItem) → has_run (item ∷ items) ≡ false → has_run items ≡ false
 rest_fixed item items fixed = rw (first_fixed item items fixed) at fixed
 
-pub glob-front : (front more : List Item) (label : List ℕ) → has_run front ≡ false → glob_matches (front ++ more) label ≡ (takes_front front label && glob_matches more (drop (length front) label))
+pub glob-front : (front more : List LabelItem) (label : List ℕ) → has_run front ≡ false → glob_matches (front ++ more) label ≡ (takes_front front label && glob_matches more (drop (length front) label))
 unfolding takes_front
 glob-front [] more label fixed = refl
 glob-front (item ∷ front) more [] fixed = glob-fixed item (front ++ more) [] (first_fixed item front fixed)
@@ -117,7 +117,7 @@ glob-front (item ∷ front) more (b ∷ label) fixed =
     ∙ ap (λ t. takes item b && t) (glob-front front more label (rest_fixed item front fixed))
     ∙ and_assoc (takes item b) (takes_front front label) (glob_matches more (drop (length front) label))
 
-pub takes_front-fits : (items : List Item) (bytes : List ℕ) → takes_front items bytes ≡ true → length items ≤ length bytes
+pub takes_front-fits : (items : List LabelItem) (bytes : List ℕ) → takes_front items bytes ≡ true → length items ≤ length bytes
 unfolding takes_front
 takes_front-fits [] bytes all = omega arith
 takes_front-fits (item ∷ items) [] all = absurd (cc all)
@@ -125,12 +125,12 @@ takes_front-fits (item ∷ items) (b ∷ bytes) all = omega (arith, takes_front-
 
 -- ---- the last items
 
-whole_front : (front : List Item) (label : List ℕ) → has_run front ≡ false → glob_matches front label ≡ (takes_front front label && (length (drop (length front) label) == 0))
+whole_front : (front : List LabelItem) (label : List ℕ) → has_run front ≡ false → glob_matches front label ≡ (takes_front front label && (length (drop (length front) label) == 0))
 unfolding glob_matches
 whole_front front label fixed = ap (λ l. glob_matches l label) (sym (append-nil front)) ∙ glob-front front [] label fixed
 
 -- items without `*` behind a `*` take the last bytes
-pub last_items : (front : List Item) (label : List ℕ) → has_run front ≡ false → length front ≤ length label → takes_front front (drop (length label - length front) label) ≡ some_tail (glob_matches front) label
+pub last_items : (front : List LabelItem) (label : List ℕ) → has_run front ≡ false → length front ≤ length label → takes_front front (drop (length label - length front) label) ≡ some_tail (glob_matches front) label
 last_items front label fixed fits =
     let back = drop (length label - length front) label in
     same_test (takes_front front back) (some_tail (glob_matches front) label)
@@ -147,7 +147,7 @@ last_items front label fixed fits =
     (sym (ap (drop (length label - length front)) found.2
     ∙ drop_at found.0 found.1 (length label - length front) (omega (arith, ap length found.2, length-append found.0 found.1, ends)))) both.0)
 
-pub too_few : (front : List Item) (label : List ℕ) → has_run front ≡ false → length label < length front → false ≡ some_tail (glob_matches front) label
+pub too_few : (front : List LabelItem) (label : List ℕ) → has_run front ≡ false → length label < length front → false ≡ some_tail (glob_matches front) label
 too_few front label fixed short =
     same_test false (some_tail (glob_matches front) label) (λ no. absurd (false≢true no))
     (λ some.
@@ -164,14 +164,14 @@ some_tail-drop test n xs some =
     subst (λ l. some_tail test l ≡ true) whole (some_tail-at test (take n xs ++ found.0) found.1 found.3)
 
 -- the glob of some items, a `*`, and more
-abbrev run_between : List Item → List Item → List ℕ → Bool
+abbrev run_between : List LabelItem → List LabelItem → List ℕ → Bool
 run_between front more label = takes_front front label && some_tail (glob_matches more) (drop (length front) label)
 
-between_is : (front more : List Item) (label : List ℕ) → has_run front ≡ false → glob_matches (front ++ AnyRun ∷ more) label ≡ run_between front more label
+between_is : (front more : List LabelItem) (label : List ℕ) → has_run front ≡ false → glob_matches (front ++ AnyRun ∷ more) label ≡ run_between front more label
 between_is front more label fixed = glob-front front (AnyRun ∷ more) label fixed ∙ ap (λ t. takes_front front label && t) (glob-run more (drop (length front) label))
 
 -- a later place leaves no more than the first one
-later_place : (front more : List Item) (b : ℕ) (label : List ℕ) → has_run front ≡ false → some_tail (glob_matches (front ++ AnyRun ∷ more)) label ≡ true → some_tail (glob_matches more) (drop (length front) (b ∷ label)) ≡ true
+later_place : (front more : List LabelItem) (b : ℕ) (label : List ℕ) → has_run front ≡ false → some_tail (glob_matches (front ++ AnyRun ∷ more)) label ≡ true → some_tail (glob_matches more) (drop (length front) (b ∷ label)) ≡ true
 later_place front more b label fixed some =
     let found = tail_of-some (glob_matches (front ++ AnyRun ∷ more)) label some in
     let both = and_parts (takes_front front found.1) (some_tail (glob_matches more) (drop (length front) found.1)) (sym (between_is front more found.1 fixed) ∙ found.3) in
@@ -182,7 +182,7 @@ later_place front more b label fixed some =
     some_tail-drop (glob_matches more) (length (b ∷ found.0)) (drop (length front) (b ∷ label)) (ap (some_tail (glob_matches more)) later ∙ both.1)
 
 -- where the items between two `*` first stand, the rest decides
-pub first_place : (front more : List Item) (label rest : List ℕ) → has_run front ≡ false → behind_first front label ≡ Some rest → some_tail (glob_matches (front ++ AnyRun ∷ more)) label ≡ some_tail (glob_matches more) rest
+pub first_place : (front more : List LabelItem) (label rest : List ℕ) → has_run front ≡ false → behind_first front label ≡ Some rest → some_tail (glob_matches (front ++ AnyRun ∷ more)) label ≡ some_tail (glob_matches more) rest
 unfolding behind_first
 first_place front more [] rest fixed found =
     elim (cases_Bool (takes_front front [])) [
@@ -203,7 +203,7 @@ first_place front more (b ∷ label) rest fixed found =
           ∙ first_place front more label rest fixed (rw fails at found)
     ]
 
-pub no_place : (front more : List Item) (label : List ℕ) → has_run front ≡ false → behind_first front label ≡ None → some_tail (glob_matches (front ++ AnyRun ∷ more)) label ≡ false
+pub no_place : (front more : List LabelItem) (label : List ℕ) → has_run front ≡ false → behind_first front label ≡ None → some_tail (glob_matches (front ++ AnyRun ∷ more)) label ≡ false
 unfolding behind_first
 no_place front more [] fixed none =
     elim (cases_Bool (takes_front front [])) [
@@ -221,44 +221,44 @@ no_place front more (b ∷ label) fixed none =
 
 -- ---- the walks over items and bytes
 
-pub front_too_long : (items : List Item) (bytes : List ℕ) → length bytes < length items → false ≡ takes_front items bytes
+pub front_too_long : (items : List LabelItem) (bytes : List ℕ) → length bytes < length items → false ≡ takes_front items bytes
 front_too_long items bytes long = elim (cases_Bool (takes_front items bytes)) [ inl does ↦ absurd (omega (arith, takes_front-fits items bytes does)) | inr fails ↦ sym fails ]
 
 -- the item at a place
-pub item_at : (items : List Item) (at : ℕ) (item : Item) → at < length items → item ≡ slice_index_or items at item → drop at items ≡ item ∷ drop (at + 1) items
+pub item_at : (items : List LabelItem) (at : ℕ) (item : LabelItem) → at < length items → item ≡ slice_index_or items at item → drop at items ≡ item ∷ drop (at + 1) items
 item_at items at item within is = drop_more items at item within ∙ ap (λ i. i ∷ drop (at + 1) items) (sym is)
 
-run_is : (item : Item) → is_run item ≡ true → item ≡ AnyRun
+run_is : (item : LabelItem) → is_run item ≡ true → item ≡ AnyRun
 run_is AnyRun run = refl
 run_is AnyByte run = absurd (cc run)
 run_is (Byte b) run = absurd (cc run)
 run_is (Class ranges) run = absurd (cc run)
 
 -- a `*` at a place, and the items behind it
-pub run_at : (items : List Item) (at : ℕ) (item : Item) → at < length items → item ≡ slice_index_or items at item → is_run item ≡ true → AnyRun ∷ take (length items - (at + 1)) (drop (at + 1) items) ≡ drop at items
+pub run_at : (items : List LabelItem) (at : ℕ) (item : LabelItem) → at < length items → item ≡ slice_index_or items at item → is_run item ≡ true → AnyRun ∷ take (length items - (at + 1)) (drop (at + 1) items) ≡ drop at items
 run_at items at item within is run =
     ap (λ l. AnyRun ∷ l) (take_rest items (at + 1)) ∙ (ap (λ i. i ∷ drop (at + 1) items) (sym (run_is item run)) ∙ sym (item_at items at item within is))
 
 -- one item and one byte of a glob
-pub glob_at : (items : List Item) (label : List ℕ) (at : ℕ) (item : Item) → at < length items → at < length label → item ≡ slice_index_or items at item → is_run item ≡ false →
+pub glob_at : (items : List LabelItem) (label : List ℕ) (at : ℕ) (item : LabelItem) → at < length items → at < length label → item ≡ slice_index_or items at item → is_run item ≡ false →
     glob_matches (drop at items) (drop at label) ≡ (takes item (slice_index label at) && glob_matches (drop (at + 1) items) (drop (at + 1) label))
 glob_at items label at item within fits is fixed =
     ap (λ l. glob_matches l (drop at label)) (item_at items at item within is)
     ∙ (ap (glob_matches (item ∷ drop (at + 1) items)) (drop_more label at 0 fits)
     ∙ glob-fixed item (drop (at + 1) items) (slice_index label at ∷ drop (at + 1) label) fixed)
 
-pub glob_on_run : (items more : List Item) (label rest : List ℕ) (at : ℕ) → AnyRun ∷ more ≡ drop at items → rest ≡ drop at label → some_tail (glob_matches more) rest ≡ glob_matches (drop at items) (drop at label)
+pub glob_on_run : (items more : List LabelItem) (label rest : List ℕ) (at : ℕ) → AnyRun ∷ more ≡ drop at items → rest ≡ drop at label → some_tail (glob_matches more) rest ≡ glob_matches (drop at items) (drop at label)
 glob_on_run items more label rest at same_items same_label =
     sym (glob-run more rest) ∙ (ap (λ l. glob_matches l rest) same_items ∙ ap (glob_matches (drop at items)) same_label)
 
-pub glob_short : (items : List Item) (label : List ℕ) (at : ℕ) (item : Item) → at < length items → at ≡ length label → item ≡ slice_index_or items at item → is_run item ≡ false →
+pub glob_short : (items : List LabelItem) (label : List ℕ) (at : ℕ) (item : LabelItem) → at < length items → at ≡ length label → item ≡ slice_index_or items at item → is_run item ≡ false →
     glob_matches (drop at items) (drop at label) ≡ false
 glob_short items label at item within end is fixed =
     ap (λ l. glob_matches l (drop at label)) (item_at items at item within is)
     ∙ (ap (glob_matches (item ∷ drop (at + 1) items)) (drop_all at label (omega (arith, end)))
     ∙ glob-fixed item (drop (at + 1) items) [] fixed)
 
-pub glob_past : (items : List Item) (label : List ℕ) (at : ℕ) → at ≡ length items → at ≤ length label → glob_matches (drop at items) (drop at label) ≡ (length items == length label)
+pub glob_past : (items : List LabelItem) (label : List ℕ) (at : ℕ) → at ≡ length items → at ≤ length label → glob_matches (drop at items) (drop at label) ≡ (length items == length label)
 unfolding glob_matches
 glob_past items label at past fits =
     ap (λ l. glob_matches l (drop at label)) (drop_all at items (omega (arith, past)))
@@ -267,35 +267,35 @@ glob_past items label at past fits =
     (λ same. eq-eqb (length (drop at label)) 0 (omega (arith, past, fits, length-drop at label, eqb-true (length items) (length label) same)))
 
 -- one item and one byte of the walk
-pub front_at : (items : List Item) (bytes : List ℕ) (at : ℕ) (item : Item) → at < length items → at < length bytes → item ≡ slice_index_or items at item →
+pub front_at : (items : List LabelItem) (bytes : List ℕ) (at : ℕ) (item : LabelItem) → at < length items → at < length bytes → item ≡ slice_index_or items at item →
     takes_front (drop at items) (drop at bytes) ≡ (takes item (slice_index bytes at) && takes_front (drop (at + 1) items) (drop (at + 1) bytes))
 unfolding takes_front
 front_at items bytes at item within fits is =
     ap (λ l. takes_front l (drop at bytes)) (item_at items at item within is)
     ∙ ap (takes_front (item ∷ drop (at + 1) items)) (drop_more bytes at 0 fits)
 
-pub front_past : (items : List Item) (bytes : List ℕ) (at : ℕ) → length items ≤ at → takes_front (drop at items) (drop at bytes) ≡ true
+pub front_past : (items : List LabelItem) (bytes : List ℕ) (at : ℕ) → length items ≤ at → takes_front (drop at items) (drop at bytes) ≡ true
 unfolding takes_front
 front_past items bytes at past = rw (drop_all at items past)
 
 -- one place of the search
-pub behind_here : (items : List Item) (bytes : List ℕ) → takes_front items bytes ≡ true → behind_first items bytes ≡ Some (drop (length items) bytes)
+pub behind_here : (items : List LabelItem) (bytes : List ℕ) → takes_front items bytes ≡ true → behind_first items bytes ≡ Some (drop (length items) bytes)
 unfolding behind_first
 behind_here items [] takes = rw takes refl
 behind_here items (b ∷ bytes) takes = rw takes refl
 
-behind_too_short : (items : List Item) (bytes : List ℕ) → length bytes < length items → behind_first items bytes ≡ None
+behind_too_short : (items : List LabelItem) (bytes : List ℕ) → length bytes < length items → behind_first items bytes ≡ None
 unfolding behind_first
 behind_too_short items [] short = rw (sym (front_too_long items [] short)) refl
 behind_too_short items (b ∷ bytes) short = rw (sym (front_too_long items (b ∷ bytes) short)) (behind_too_short items bytes (omega arith))
 
 -- no place comes later where the bytes are no longer than the items
-pub behind_end : (items : List Item) (bytes : List ℕ) → takes_front items bytes ≡ false → length bytes ≤ length items → behind_first items bytes ≡ None
+pub behind_end : (items : List LabelItem) (bytes : List ℕ) → takes_front items bytes ≡ false → length bytes ≤ length items → behind_first items bytes ≡ None
 unfolding behind_first
 behind_end items [] fails short = rw fails refl
 behind_end items (b ∷ bytes) fails short = rw fails (behind_too_short items bytes (omega arith))
 
-pub behind_later : (items : List Item) (bytes : List ℕ) → takes_front items bytes ≡ false → (length bytes ≡ 0 → ⊥) → behind_first items bytes ≡ behind_first items (take (length bytes - 1) (drop 1 bytes))
+pub behind_later : (items : List LabelItem) (bytes : List ℕ) → takes_front items bytes ≡ false → (length bytes ≡ 0 → ⊥) → behind_first items bytes ≡ behind_first items (take (length bytes - 1) (drop 1 bytes))
 unfolding behind_first
 behind_later items [] fails some = absurd (some refl)
 behind_later items (b ∷ bytes) fails some = rw fails (ap (behind_first items) (sym (take_rest (b ∷ bytes) 1)))
@@ -309,7 +309,7 @@ plain-glob [] (b ∷ label) = ne_eqb (length (b ∷ label)) 0 (λ e. omega (arit
 plain-glob (a ∷ text) [] = refl
 plain-glob (a ∷ text) (b ∷ label) = ap (λ t. eq_ignore_ascii_case a b && t) (plain-glob text label)
 
-pub label-cut : (pattern : LabelPattern) (label : List ℕ) → IsTrue (label_matches pattern label) ↔ CanBeCut (items_in pattern) label
+pub label-cut : (pattern : LabelPattern) (label : List ℕ) → IsTrue (label_matches pattern label) ↔ CanBeCut (label_items pattern) label
 label-cut (Plain text) label = (
   λ is. cut-from-glob (map (λ b. Byte b) text) label (plain-glob text label ∙ is),
   λ cut. sym (plain-glob text label) ∙ ap (glob_matches (map (λ b. Byte b) text)) (sym cut.2) ∙ glob-from-cut (map (λ b. Byte b) text) cut.0 cut.1,
@@ -318,17 +318,17 @@ label-cut (Glob items) label = (λ is. cut-from-glob items label is, λ cut. ap 
 
 -- ---- the scan behind a `*`
 
-pub last_of_run : (items front : List Item) (label : List ℕ) → items ≡ front ++ [] → has_run front ≡ false → length front ≤ length label →
+pub last_of_run : (items front : List LabelItem) (label : List ℕ) → items ≡ front ++ [] → has_run front ≡ false → length front ≤ length label →
     takes_front front (drop (length label - length front) label) ≡ some_tail (glob_matches items) label
 last_of_run items front label is fixed fits =
-    last_items front label fixed fits ∙ ap (λ (l : List Item). some_tail (glob_matches l) label) (sym (is ∙ append-nil front))
+    last_items front label fixed fits ∙ ap (λ (l : List LabelItem). some_tail (glob_matches l) label) (sym (is ∙ append-nil front))
 
-pub too_few_of_run : (items front : List Item) (label : List ℕ) → items ≡ front ++ [] → has_run front ≡ false → length label < length front → false ≡ some_tail (glob_matches items) label
-too_few_of_run items front label is fixed short = too_few front label fixed short ∙ ap (λ (l : List Item). some_tail (glob_matches l) label) (sym (is ∙ append-nil front))
+pub too_few_of_run : (items front : List LabelItem) (label : List ℕ) → items ≡ front ++ [] → has_run front ≡ false → length label < length front → false ≡ some_tail (glob_matches items) label
+too_few_of_run items front label is fixed short = too_few front label fixed short ∙ ap (λ (l : List LabelItem). some_tail (glob_matches l) label) (sym (is ∙ append-nil front))
 
-pub run_first : (items front more : List Item) (label rest : List ℕ) → items ≡ front ++ AnyRun ∷ more → has_run front ≡ false → behind_first front label ≡ Some rest →
+pub run_first : (items front more : List LabelItem) (label rest : List ℕ) → items ≡ front ++ AnyRun ∷ more → has_run front ≡ false → behind_first front label ≡ Some rest →
     some_tail (glob_matches items) label ≡ some_tail (glob_matches more) rest
-run_first items front more label rest is fixed found = ap (λ (l : List Item). some_tail (glob_matches l) label) is ∙ first_place front more label rest fixed found
+run_first items front more label rest is fixed found = ap (λ (l : List LabelItem). some_tail (glob_matches l) label) is ∙ first_place front more label rest fixed found
 
-pub run_none : (items front more : List Item) (label : List ℕ) → items ≡ front ++ AnyRun ∷ more → has_run front ≡ false → behind_first front label ≡ None → some_tail (glob_matches items) label ≡ false
-run_none items front more label is fixed none = ap (λ (l : List Item). some_tail (glob_matches l) label) is ∙ no_place front more label fixed none
+pub run_none : (items front more : List LabelItem) (label : List ℕ) → items ≡ front ++ AnyRun ∷ more → has_run front ≡ false → behind_first front label ≡ None → some_tail (glob_matches items) label ≡ false
+run_none items front more label is fixed none = ap (λ (l : List LabelItem). some_tail (glob_matches l) label) is ∙ no_place front more label fixed none

@@ -11,7 +11,7 @@ use Rattle.px_patterns.specs.declared.TheConstants.{DOT}
 use Rattle.px_patterns.specs.declared.hosts.HostLabels.{HostLabels}
 use Rattle.px_patterns.specs.declared.hosts.HostPattern.{HostPattern}
 use Rattle.px_patterns.specs.declared.hosts.HostPattern.TheVariants.{Address, Always, Labels}
-use Rattle.px_patterns.specs.declared.labels.Item.{Item}
+use Rattle.px_patterns.specs.declared.labels.LabelItem.{LabelItem}
 use Rattle.px_patterns.specs.declared.labels.LabelPattern.{LabelPattern}
 use Rattle.px_patterns.specs.declared.labels.LabelPattern.TheVariants.{Glob, Plain}
 use Rattle.px_patterns.specs.Globs.{label_matches, some_tail}
@@ -220,14 +220,14 @@ last_plain-push : (patterns : List LabelPattern) (text : List ℕ) → last_plai
 last_plain-push [] text = refl
 last_plain-push (pattern ∷ patterns) text = ap (λ o. later_or o pattern) (last_plain-push patterns text)
 
-last_plain-glob : (patterns : List LabelPattern) (items : List Item) → last_plain (patterns ++ Glob items ∷ []) ≡ last_plain patterns
+last_plain-glob : (patterns : List LabelPattern) (items : List LabelItem) → last_plain (patterns ++ Glob items ∷ []) ≡ last_plain patterns
 last_plain-glob [] items = refl
 last_plain-glob (pattern ∷ patterns) items = ap (λ o. later_or o pattern) (last_plain-glob patterns items)
 
 pub plain_last : (patterns before : List LabelPattern) (last : LabelPattern) (text : List ℕ) → patterns ≡ before ++ last ∷ [] → last ≡ Plain text → last_plain patterns ≡ Some text
 plain_last patterns before last text is plain = ap last_plain (is ∙ ap (λ p. before ++ p ∷ []) plain) ∙ last_plain-push before text
 
-pub glob_last : (patterns before : List LabelPattern) (last : LabelPattern) (items : List Item) → patterns ≡ before ++ last ∷ [] → last ≡ Glob items → last_plain patterns ≡ last_plain before
+pub glob_last : (patterns before : List LabelPattern) (last : LabelPattern) (items : List LabelItem) → patterns ≡ before ++ last ∷ [] → last ≡ Glob items → last_plain patterns ≡ last_plain before
 glob_last patterns before last items is glob = ap last_plain (is ∙ ap (λ p. before ++ p ∷ []) glob) ∙ last_plain-glob before items
 
 -- a plain label stands in each list of labels that the patterns match

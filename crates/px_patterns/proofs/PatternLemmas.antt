@@ -1,6 +1,5 @@
 -- What patterns stand for, by their parts.
 use Rattle.std.proofs.Common.{◌≡◌, ℕ, ◌==◌, ◌&&◌, ◌||◌, true, false, List, [], ◌∷◌, length, Option, None, Some, Ok, Err, refl, ap, sym, ◌∙◌}
-use Rattle.px_patterns.specs.Results.{result_map}
 use Rattle.std.specs.Prelude.{slice_index}
 use Rattle.std.specs.List.{after_first, before_first, list_any}
 use Rattle.std.proofs.lemmas.Bool.{and_from, and_right, eqb-true}
@@ -13,11 +12,12 @@ use Rattle.px_patterns.specs.declared.patterns.TagPattern.{TagPattern}
 use Rattle.px_patterns.specs.Expressions.{expression_of}
 use Rattle.px_patterns.specs.Faults.{IsPatternRefusal}
 use Rattle.px_patterns.specs.Hosts.{host_pattern}
-use Rattle.px_patterns.specs.Patterns.{address_end, addressed_pattern, behind_slash, expression_pattern, has_protocol, host_expression, is_addressed, is_colon, is_slash, pattern_of_parts, port_text, ports_of, tag_pattern, url_pattern, with_expression, with_parts}
-use Rattle.px_patterns.specs.Places.{BeginsWith, IsCut, LacksPlace}
+use Rattle.px_patterns.specs.Patterns.{address_end, addressed_pattern, behind_slash, expression_pattern, has_protocol, host_expression, is_addressed, begins_ports, begins_path, pattern_of_parts, port_text, ports_of, tag_pattern, url_pattern, with_expression, with_parts}
+use Rattle.px_patterns.specs.Places.{BeginsWithByte, IsCut, LacksPlace}
 use Rattle.px_patterns.specs.Urls.{is_address}
 use Rattle.px_patterns.proofs.FaultLemmas.{refusal_on}
 use Rattle.px_patterns.proofs.GlobLemmas.{or_right}
+use Rattle.px_base.specs.Results.{result_map}
 
 abbrev tag_of : List ℕ → TagPattern
 tag_of expression = record { expression = expression }
@@ -37,43 +37,43 @@ unfolding url_pattern
 pattern_protocol text does = rw does refl
 
 -- a text with a slash, and one without
-pub pattern_slash : (text part path : List ℕ) → has_protocol text ≡ false → IsCut is_slash text part path → url_pattern text ≡ pattern_of_parts part (behind_slash (Some path))
+pub pattern_slash : (text part path : List ℕ) → has_protocol text ≡ false → IsCut begins_path text part path → url_pattern text ≡ pattern_of_parts part (behind_slash (Some path))
 unfolding url_pattern
 pattern_slash text part path fails cut =
-    rw (fails, cut.some) (ap (λ l. pattern_of_parts l (Some (SLASH ∷ after_first is_slash text))) (sym cut.before) ∙ ap (λ l. pattern_of_parts part (Some (SLASH ∷ l))) (sym cut.behind))
+    rw (fails, cut.some) (ap (λ l. pattern_of_parts l (Some (SLASH ∷ after_first begins_path text))) (sym cut.before) ∙ ap (λ l. pattern_of_parts part (Some (SLASH ∷ l))) (sym cut.behind))
 
-pub pattern_no_slash : (text : List ℕ) → has_protocol text ≡ false → LacksPlace is_slash text → url_pattern text ≡ pattern_of_parts text (behind_slash None)
+pub pattern_no_slash : (text : List ℕ) → has_protocol text ≡ false → LacksPlace begins_path text → url_pattern text ≡ pattern_of_parts text (behind_slash None)
 unfolding url_pattern
 pattern_no_slash text fails lacks = rw (fails, lacks.none) (ap (λ l. pattern_of_parts l None) lacks.whole)
 
 -- the same of a host expression
-pub expression_slash : (text part path : List ℕ) → IsCut is_slash text part path → expression_pattern text ≡ with_expression (host_expression part) (behind_slash (Some path))
+pub expression_slash : (text part path : List ℕ) → IsCut begins_path text part path → expression_pattern text ≡ with_expression (host_expression part) (behind_slash (Some path))
 unfolding expression_pattern
 expression_slash text part path cut =
-    rw cut.some (ap (λ l. with_expression (host_expression l) (Some (SLASH ∷ after_first is_slash text))) (sym cut.before) ∙ ap (λ l. with_expression (host_expression part) (Some (SLASH ∷ l))) (sym cut.behind))
+    rw cut.some (ap (λ l. with_expression (host_expression l) (Some (SLASH ∷ after_first begins_path text))) (sym cut.before) ∙ ap (λ l. with_expression (host_expression part) (Some (SLASH ∷ l))) (sym cut.behind))
 
-pub expression_no_slash : (text : List ℕ) → LacksPlace is_slash text → expression_pattern text ≡ with_expression (host_expression text) (behind_slash None)
+pub expression_no_slash : (text : List ℕ) → LacksPlace begins_path text → expression_pattern text ≡ with_expression (host_expression text) (behind_slash None)
 unfolding expression_pattern
 expression_no_slash text lacks = rw lacks.none (ap (λ l. with_expression (host_expression l) None) lacks.whole)
 
-pub parts_addressed : (part rest : List ℕ) (path : Option (List ℕ)) → BeginsWith ADDRESS_BEGIN part rest → pattern_of_parts part path ≡ addressed_pattern rest path
+pub parts_addressed : (part rest : List ℕ) (path : Option (List ℕ)) → BeginsWithByte ADDRESS_BEGIN part rest → pattern_of_parts part path ≡ addressed_pattern rest path
 parts_addressed part rest path begins = rw begins.first (ap (λ l. addressed_pattern l path) (sym begins.behind))
 
-pub parts_named : (part name ports : List ℕ) (path : Option (List ℕ)) → (slice_index part 0 == ADDRESS_BEGIN) ≡ false → IsCut is_colon part name ports →
+pub parts_named : (part name ports : List ℕ) (path : Option (List ℕ)) → (slice_index part 0 == ADDRESS_BEGIN) ≡ false → IsCut begins_ports part name ports →
     pattern_of_parts part path ≡ with_parts (host_pattern name) (ports_of (Some ports)) path
 parts_named part name ports path other cut =
     rw (other, cut.some)
-    (ap (λ l. with_parts (host_pattern l) (ports_of (Some (after_first is_colon part))) path) (sym cut.before) ∙ ap (λ l. with_parts (host_pattern name) (ports_of (Some l)) path) (sym cut.behind))
+    (ap (λ l. with_parts (host_pattern l) (ports_of (Some (after_first begins_ports part))) path) (sym cut.before) ∙ ap (λ l. with_parts (host_pattern name) (ports_of (Some l)) path) (sym cut.behind))
 
-pub parts_alone : (part : List ℕ) (path : Option (List ℕ)) → (slice_index part 0 == ADDRESS_BEGIN) ≡ false → LacksPlace is_colon part → pattern_of_parts part path ≡ with_parts (host_pattern part) (ports_of None) path
+pub parts_alone : (part : List ℕ) (path : Option (List ℕ)) → (slice_index part 0 == ADDRESS_BEGIN) ≡ false → LacksPlace begins_ports part → pattern_of_parts part path ≡ with_parts (host_pattern part) (ports_of None) path
 parts_alone part path other lacks = rw (other, lacks.none) (ap (λ l. with_parts (host_pattern l) (ports_of None) path) lacks.whole)
 
 -- what stands behind an address
-pub port_behind : (behind ports : List ℕ) → BeginsWith COLON behind ports → port_text behind ≡ Some ports
+pub port_behind : (behind ports : List ℕ) → BeginsWithByte COLON behind ports → port_text behind ≡ Some ports
 port_behind [] ports begins = absurd (cc begins.first)
 port_behind (b ∷ behind) ports begins = rw begins.first (ap (λ l. Some l) (sym begins.behind))
 
-pub address_with_ports : (text address behind ports : List ℕ) (path : Option (List ℕ)) → IsCut address_end text address behind → is_address address ≡ true → BeginsWith COLON behind ports →
+pub address_with_ports : (text address behind ports : List ℕ) (path : Option (List ℕ)) → IsCut address_end text address behind → is_address address ≡ true → BeginsWithByte COLON behind ports →
     addressed_pattern text path ≡ with_parts (Ok (Address address)) (ports_of (Some ports)) path
 address_with_ports text address behind ports path cut good begins =
     let first : before_first address_end text ≡ address = sym cut.before in

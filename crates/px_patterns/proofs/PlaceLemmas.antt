@@ -6,8 +6,8 @@ use Rattle.std.specs.Str.{str_eq_ignore_ascii_case}
 use Rattle.std.proofs.lemmas.Bool.{cases_Bool, eq-eqb, ltb-false, ltb-true, ne_eqb}
 use Rattle.std.proofs.lemmas.List.Sums.{passes_at_first}
 use Rattle.std.proofs.lemmas.List.{drop-drop, length-take-le, take_all, take_min, take_rest}
-use Rattle.px_patterns.specs.Places.{BeginsWith, HasPlace, IsCut, LacksPlace}
-use Rattle.px_patterns.specs.Urls.{begins_with}
+use Rattle.px_patterns.specs.Places.{BeginsWithByte, HasPlace, IsCut, LacksPlace}
+use Rattle.px_patterns.specs.Urls.{begins_without_case}
 
 -- no byte of the list below this place passes
 abbrev NonePasses : (ℕ → Bool) → List ℕ → ℕ → Type 0
@@ -109,13 +109,13 @@ after_first-rest test bytes rest at place is = take_rest rest 1 ∙ (ap (drop 1)
 
 -- a front that is compared without case
 pub begins-from : (r : Bool) (text front shown : List ℕ) (end : ℕ) → end ≡ min (length front) (length text) → shown ≡ take end text → r ≡ str_eq_ignore_ascii_case shown front →
-    r ≡ begins_with text front
+    r ≡ begins_without_case text front
 begins-from r text front shown end is cut same =
     same
     ∙ ap (λ l. str_eq_ignore_ascii_case l front) (cut ∙ ap (λ n. take n text) is ∙ take_min (length front) text)
 
 -- a text without its first character
-pub begins-yes : (byte : ℕ) (bytes rest : List ℕ) → bytes ≡ byte ∷ rest → BeginsWith byte bytes rest
+pub begins-yes : (byte : ℕ) (bytes rest : List ℕ) → bytes ≡ byte ∷ rest → BeginsWithByte byte bytes rest
 begins-yes byte bytes rest is = record { first = ap (λ l. slice_index l 0 == byte) is ∙ eq-eqb byte byte refl; behind = sym (ap (drop 1) is) }
 
 pub begins-no : (byte : ℕ) (bytes : List ℕ) → 0 < byte → ((rest : List ℕ) → bytes ≢ byte ∷ rest) → (slice_index bytes 0 == byte) ≡ false

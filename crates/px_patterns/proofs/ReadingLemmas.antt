@@ -11,8 +11,8 @@ use Rattle.px_patterns.specs.declared.faults.PatternFault.TheVariants.{BadClass,
 use Rattle.px_patterns.specs.declared.hosts.HostPattern.TheVariants.{Always, Labels}
 use Rattle.px_patterns.specs.Hosts.{begins_with_dot, ends_with_dot, host_pattern, is_every_host, labels_in, labels_of, labels_pattern, with_label, without_first_dot, without_last_dot}
 use Rattle.px_patterns.specs.declared.labels.ClassRange.{ClassRange}
-use Rattle.px_patterns.specs.declared.labels.Item.{Item}
-use Rattle.px_patterns.specs.Globs.{class_of, item_of, items_from, label_of, ranges_of, with_item, with_range}
+use Rattle.px_patterns.specs.declared.labels.LabelItem.{LabelItem}
+use Rattle.px_patterns.specs.Globs.{class_of, glob_item, items_from, label_of, class_ranges, with_glob_item, with_range}
 
 -- what is read so far, and what the rest stands for
 abbrev pub with_front : {X : Type 0} → List X → Option (List X) → Option (List X)
@@ -32,19 +32,19 @@ with_front-push front x (Some more) = ap (λ l. Some l) (sym (append_assoc front
 
 -- ---- classes
 
-pub range_pair : (a b c : ℕ) (rest : List ℕ) → b ≡ DASH → ranges_of (a ∷ b ∷ c ∷ rest) ≡ with_range a c (ranges_of rest)
-unfolding ranges_of
+pub range_pair : (a b c : ℕ) (rest : List ℕ) → b ≡ DASH → class_ranges (a ∷ b ∷ c ∷ rest) ≡ with_range a c (class_ranges rest)
+unfolding class_ranges
 range_pair a b c rest dash = rw (eq-eqb b DASH dash) refl
 
-pub range_single : (a : ℕ) (rest : List ℕ) → (2 < length (a ∷ rest) → slice_index rest 0 ≢ DASH) → ranges_of (a ∷ rest) ≡ with_range a a (ranges_of rest)
-unfolding ranges_of
+pub range_single : (a : ℕ) (rest : List ℕ) → (2 < length (a ∷ rest) → slice_index rest 0 ≢ DASH) → class_ranges (a ∷ rest) ≡ with_range a a (class_ranges rest)
+unfolding class_ranges
 range_single a [] apart = refl
 range_single a (b ∷ []) apart = refl
 range_single a (b ∷ c ∷ rest) apart = rw (ne_eqb b DASH (apart (omega arith))) refl
 
 -- ---- items
 
-pub items_other : (b : ℕ) (bytes : List ℕ) → b ≢ CLASS_BEGIN → items_from None (b ∷ bytes) ≡ with_item (item_of b) (items_from None bytes)
+pub items_other : (b : ℕ) (bytes : List ℕ) → b ≢ CLASS_BEGIN → items_from None (b ∷ bytes) ≡ with_glob_item (glob_item b) (items_from None bytes)
 unfolding items_from
 items_other b bytes other = rw (ne_eqb b CLASS_BEGIN other) refl
 
@@ -60,14 +60,14 @@ first_other byte b bytes at none = elim (cases_Bool (b == byte)) [ inl does ↦ 
 
 -- a class that has begun ends at its first bracket
 class_end : (begun bytes : List ℕ) (at : ℕ) → at < length bytes → (slice_index bytes at == CLASS_END) ≡ true → NoneBelow CLASS_END bytes at →
-    items_from (Some begun) bytes ≡ option_and_then (λ class. with_item class (items_from None (drop (suc at) bytes))) (class_of (begun ++ take at bytes))
+    items_from (Some begun) bytes ≡ option_and_then (λ class. with_glob_item class (items_from None (drop (suc at) bytes))) (class_of (begun ++ take at bytes))
 unfolding items_from
 class_end begun [] at within here none = absurd (omega arith)
-class_end begun (b ∷ bytes) zero within here none = rw here (ap (λ l. option_and_then (λ class. with_item class (items_from None bytes)) (class_of l)) (sym (append-nil begun)))
+class_end begun (b ∷ bytes) zero within here none = rw here (ap (λ l. option_and_then (λ class. with_glob_item class (items_from None bytes)) (class_of l)) (sym (append-nil begun)))
 class_end begun (b ∷ bytes) (suc at) within here none =
     rw (first_other CLASS_END b bytes at none)
     (class_end (begun ++ b ∷ []) bytes at (omega arith) here (later_none CLASS_END b bytes at none)
-    ∙ ap (λ l. option_and_then (λ class. with_item class (items_from None (drop (suc at) bytes))) (class_of l)) (append_assoc begun (b ∷ []) (take at bytes)))
+    ∙ ap (λ l. option_and_then (λ class. with_glob_item class (items_from None (drop (suc at) bytes))) (class_of l)) (append_assoc begun (b ∷ []) (take at bytes)))
 
 class_open : (begun bytes : List ℕ) → NoneBelow CLASS_END bytes (length bytes) → items_from (Some begun) bytes ≡ None
 unfolding items_from
@@ -75,7 +75,7 @@ class_open begun [] none = refl
 class_open begun (b ∷ bytes) none = rw (first_other CLASS_END b bytes (length bytes) none) (class_open (begun ++ b ∷ []) bytes (later_none CLASS_END b bytes (length bytes) none))
 
 pub items_class : (b : ℕ) (bytes : List ℕ) (at : ℕ) → b ≡ CLASS_BEGIN → at < length bytes → (slice_index bytes at == CLASS_END) ≡ true → NoneBelow CLASS_END bytes at →
-    items_from None (b ∷ bytes) ≡ option_and_then (λ class. with_item class (items_from None (drop (at + 1) bytes))) (class_of (take at bytes))
+    items_from None (b ∷ bytes) ≡ option_and_then (λ class. with_glob_item class (items_from None (drop (at + 1) bytes))) (class_of (take at bytes))
 unfolding items_from
 items_class b bytes at begin within here none = rw (eq-eqb b CLASS_BEGIN begin) (rw (add-one at) (class_end [] bytes at within here none))
 
@@ -85,15 +85,15 @@ items_open b bytes begin none = rw (eq-eqb b CLASS_BEGIN begin) (class_open [] b
 
 -- ---- steps of the walks
 
-pub first_range_pair : (bytes : List ℕ) → 2 < length bytes → slice_index bytes 1 ≡ DASH → ranges_of bytes ≡ with_range (slice_index bytes 0) (slice_index bytes 2) (ranges_of (take (length bytes - 3) (drop 3 bytes)))
+pub first_range_pair : (bytes : List ℕ) → 2 < length bytes → slice_index bytes 1 ≡ DASH → class_ranges bytes ≡ with_range (slice_index bytes 0) (slice_index bytes 2) (class_ranges (take (length bytes - 3) (drop 3 bytes)))
 first_range_pair [] long dash = absurd (omega arith)
 first_range_pair (a ∷ []) long dash = absurd (omega arith)
 first_range_pair (a ∷ b ∷ []) long dash = absurd (omega arith)
-first_range_pair (a ∷ b ∷ c ∷ rest) long dash = range_pair a b c rest dash ∙ ap (λ l. with_range a c (ranges_of l)) (sym (take_rest (a ∷ b ∷ c ∷ rest) 3))
+first_range_pair (a ∷ b ∷ c ∷ rest) long dash = range_pair a b c rest dash ∙ ap (λ l. with_range a c (class_ranges l)) (sym (take_rest (a ∷ b ∷ c ∷ rest) 3))
 
-pub first_range_single : (bytes : List ℕ) → 0 < length bytes → (2 < length bytes → slice_index bytes 1 ≢ DASH) → ranges_of bytes ≡ with_range (slice_index bytes 0) (slice_index bytes 0) (ranges_of (take (length bytes - 1) (drop 1 bytes)))
+pub first_range_single : (bytes : List ℕ) → 0 < length bytes → (2 < length bytes → slice_index bytes 1 ≢ DASH) → class_ranges bytes ≡ with_range (slice_index bytes 0) (slice_index bytes 0) (class_ranges (take (length bytes - 1) (drop 1 bytes)))
 first_range_single [] some apart = absurd (omega arith)
-first_range_single (a ∷ rest) some apart = range_single a rest apart ∙ ap (λ l. with_range a a (ranges_of l)) (sym (take_rest (a ∷ rest) 1))
+first_range_single (a ∷ rest) some apart = range_single a rest apart ∙ ap (λ l. with_range a a (class_ranges l)) (sym (take_rest (a ∷ rest) 1))
 
 -- a list that holds something begins with its first element
 pub first_of_list : (bytes : List ℕ) → (length bytes == 0) ≡ false → bytes ≡ slice_index bytes 0 ∷ take (length bytes - 1) (drop 1 bytes)
@@ -107,12 +107,12 @@ bad_range ranges first last rest bad = rw (lt-leb first last bad) refl
 pub next_range : (ranges : List ClassRange) (range : ClassRange) (rest : Option (List ClassRange)) → range.first ≤ range.last → with_front ranges (with_range range.first range.last rest) ≡ with_front (ranges ++ range ∷ []) rest
 next_range ranges range rest good = rw (le-leb range.first range.last good) (with_front-push ranges range rest)
 
-pub ranges_done : (bytes rest : List ℕ) (ranges : List ClassRange) → ranges_of bytes ≡ with_front ranges (ranges_of rest) → (length rest == 0) ≡ true → ranges_of bytes ≡ Some ranges
-unfolding ranges_of
+pub ranges_done : (bytes rest : List ℕ) (ranges : List ClassRange) → class_ranges bytes ≡ with_front ranges (class_ranges rest) → (length rest == 0) ≡ true → class_ranges bytes ≡ Some ranges
+unfolding class_ranges
 ranges_done bytes [] ranges is empty = is ∙ with_front-done ranges
 ranges_done bytes (b ∷ rest) ranges is empty = absurd (omega (arith, eqb-true (length (b ∷ rest)) 0 empty))
 
-pub items_done : (text rest : List ℕ) (items : List Item) → items_from None text ≡ with_front items (items_from None rest) → (length rest == 0) ≡ true → items_from None text ≡ Some items
+pub items_done : (text rest : List ℕ) (items : List LabelItem) → items_from None text ≡ with_front items (items_from None rest) → (length rest == 0) ≡ true → items_from None text ≡ Some items
 unfolding items_from
 items_done text [] items is empty = is ∙ with_front-done items
 items_done text (b ∷ rest) items is empty = absurd (omega (arith, eqb-true (length (b ∷ rest)) 0 empty))
@@ -122,7 +122,7 @@ abbrev behind_first_byte : List ℕ → List ℕ
 behind_first_byte rest = take (length rest - 1) (drop 1 rest)
 
 -- a class is read, or another item
-pub next_class : (items pushed : List Item) (rest content after : List ℕ) (at : ℕ) (class : Item) → (length rest == 0) ≡ false → slice_index rest 0 ≡ CLASS_BEGIN → at < length (behind_first_byte rest) →
+pub next_class : (items pushed : List LabelItem) (rest content after : List ℕ) (at : ℕ) (class : LabelItem) → (length rest == 0) ≡ false → slice_index rest 0 ≡ CLASS_BEGIN → at < length (behind_first_byte rest) →
     (slice_index (behind_first_byte rest) at == CLASS_END) ≡ true → NoneBelow CLASS_END (behind_first_byte rest) at → content ≡ take at (behind_first_byte rest) → after ≡ drop at (behind_first_byte rest) →
     class_of content ≡ Some class → pushed ≡ items ++ class ∷ [] → with_front items (items_from None rest) ≡ with_front pushed (items_from None (take (length after - 1) (drop 1 after)))
 next_class items pushed rest content after at class some begin within here none front back read is =
@@ -130,12 +130,12 @@ next_class items pushed rest content after at class some begin within here none 
     ap (λ l. with_front items (items_from None l)) (first_of_list rest some)
     ∙ ap (with_front items)
     (items_class (slice_index rest 0) behind at begin within here none
-    ∙ ap (option_and_then (λ item. with_item item (items_from None (drop (at + 1) behind)))) (ap class_of (sym front) ∙ read))
+    ∙ ap (option_and_then (λ item. with_glob_item item (items_from None (drop (at + 1) behind)))) (ap class_of (sym front) ∙ read))
     ∙ with_front-push items class (items_from None (drop (at + 1) behind))
-    ∙ ap (λ (l : List Item). with_front l (items_from None (drop (at + 1) behind))) (sym is)
+    ∙ ap (λ (l : List LabelItem). with_front l (items_from None (drop (at + 1) behind))) (sym is)
     ∙ ap (λ l. with_front pushed (items_from None l)) (sym (drop-drop 1 at behind) ∙ ap (drop 1) (sym back) ∙ sym (take_rest after 1))
 
-pub bad_class : (items : List Item) (text rest content : List ℕ) (at : ℕ) → items_from None text ≡ with_front items (items_from None rest) → (length rest == 0) ≡ false → slice_index rest 0 ≡ CLASS_BEGIN → at < length (behind_first_byte rest) →
+pub bad_class : (items : List LabelItem) (text rest content : List ℕ) (at : ℕ) → items_from None text ≡ with_front items (items_from None rest) → (length rest == 0) ≡ false → slice_index rest 0 ≡ CLASS_BEGIN → at < length (behind_first_byte rest) →
     (slice_index (behind_first_byte rest) at == CLASS_END) ≡ true → NoneBelow CLASS_END (behind_first_byte rest) at → content ≡ take at (behind_first_byte rest) →
     class_of content ≡ None → items_from None text ≡ None
 bad_class items text rest content at is some begin within here none front unread =
@@ -143,20 +143,20 @@ bad_class items text rest content at is some begin within here none front unread
     is ∙ ap (λ l. with_front items (items_from None l)) (first_of_list rest some)
     ∙ ap (with_front items)
     (items_class (slice_index rest 0) behind at begin within here none
-    ∙ ap (option_and_then (λ item. with_item item (items_from None (drop (at + 1) behind)))) (ap class_of (sym front) ∙ unread))
+    ∙ ap (option_and_then (λ item. with_glob_item item (items_from None (drop (at + 1) behind)))) (ap class_of (sym front) ∙ unread))
 
-pub open_class : (items : List Item) (text rest : List ℕ) → items_from None text ≡ with_front items (items_from None rest) → (length rest == 0) ≡ false → slice_index rest 0 ≡ CLASS_BEGIN →
+pub open_class : (items : List LabelItem) (text rest : List ℕ) → items_from None text ≡ with_front items (items_from None rest) → (length rest == 0) ≡ false → slice_index rest 0 ≡ CLASS_BEGIN →
     NoneBelow CLASS_END (behind_first_byte rest) (length (behind_first_byte rest)) → items_from None text ≡ None
 open_class items text rest is some begin none =
     is ∙ ap (λ l. with_front items (items_from None l)) (first_of_list rest some) ∙ ap (with_front items) (items_open (slice_index rest 0) (behind_first_byte rest) begin none)
 
-pub next_item : (items pushed : List Item) (rest : List ℕ) (item : Item) → (length rest == 0) ≡ false → slice_index rest 0 ≢ CLASS_BEGIN → item ≡ item_of (slice_index rest 0) → pushed ≡ items ++ item ∷ [] →
+pub next_item : (items pushed : List LabelItem) (rest : List ℕ) (item : LabelItem) → (length rest == 0) ≡ false → slice_index rest 0 ≢ CLASS_BEGIN → item ≡ glob_item (slice_index rest 0) → pushed ≡ items ++ item ∷ [] →
     with_front items (items_from None rest) ≡ with_front pushed (items_from None (behind_first_byte rest))
 next_item items pushed rest item some other is added =
     ap (λ l. with_front items (items_from None l)) (first_of_list rest some)
     ∙ ap (with_front items) (items_other (slice_index rest 0) (behind_first_byte rest) other)
-    ∙ with_front-push items (item_of (slice_index rest 0)) (items_from None (behind_first_byte rest))
-    ∙ ap (λ (l : List Item). with_front l (items_from None (behind_first_byte rest))) (ap (λ (i : Item). items ++ i ∷ []) (sym is) ∙ sym added)
+    ∙ with_front-push items (glob_item (slice_index rest 0)) (items_from None (behind_first_byte rest))
+    ∙ ap (λ (l : List LabelItem). with_front l (items_from None (behind_first_byte rest))) (ap (λ (i : LabelItem). items ++ i ∷ []) (sym is) ∙ sym added)
 
 -- ---- labels between dots
 

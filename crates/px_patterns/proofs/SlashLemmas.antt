@@ -22,7 +22,7 @@ use Rattle.regex_syntax.proofs.CapturesLemmas.{alike_of_same}
 use Rattle.regex_syntax.proofs.SetLemmas.{in_ranges-members}
 use Rattle.regex.proofs.ForCallers.{is_match_alike}
 use Rattle.regex.proofs.OnLiterals.{regex_on_literals, IsReadAs, class_is, same_refl, same_sym, ◌then◌, cat_cong, cat-empty, alt-fail, byte_in_ascii}
-use Rattle.px_patterns.specs.Expressions.{expression, expression_of, finds, options}
+use Rattle.px_patterns.specs.Expressions.{pattern_expression, expression_of, finds, pattern_options}
 
 abbrev slash : List Range
 slash = (47, 47) ∷ []
@@ -66,7 +66,7 @@ slash_small c is = grind (arith, nat_tests)
 
 -- ---- what the grammar reads
 
-written : IsReadAs options (codes "^/") front_slash
+written : IsReadAs pattern_options (codes "^/") front_slash
 unfolding regex_on_literals
 written = alt-fail _ then cat_cong (same_refl _) (cat-empty _ then (class_is _ slash slash_alone then same_sym (byte_in_ascii slash slash_small)))
 
@@ -75,13 +75,13 @@ within_limit : (o : Option (Nested Re × Names)) (b : Re) → IsSomeAnd o (λ (f
 within_limit None b is = absurd is
 within_limit (Some (found, names)) b is = (found.value, rw (le-leb found.depth 250 is.0) refl, is.1)
 
-shallow : IsSomeAnd (read options (chars (codes "^/"))) (λ (found, _). (found.depth ≤ 250) × SameTree found.value front_slash)
+shallow : IsSomeAnd (read pattern_options (chars (codes "^/"))) (λ (found, _). (found.depth ≤ 250) × SameTree found.value front_slash)
 unfolding regex_on_literals
 shallow = (omega arith, written)
 
-read_slash : (re : Re) × (expression (codes "^/") ≡ Some re) × SameTree re front_slash
-unfolding expression
-read_slash = within_limit (read options (chars (codes "^/"))) front_slash shallow
+read_slash : (re : Re) × (pattern_expression (codes "^/") ≡ Some re) × SameTree re front_slash
+unfolding pattern_expression
+read_slash = within_limit (read pattern_options (chars (codes "^/"))) front_slash shallow
 
 pub slash_is_read : expression_of (codes "^/") ≡ Ok (codes "^/")
 slash_is_read = rw (ap is_some read_slash.1) refl

@@ -22,7 +22,7 @@ use Rattle.px_patterns.specs.declared.TheConstants.{AT, BRACKET_BEGIN, BRACKET_E
 use Rattle.px_patterns.specs.declared.faults.UrlFault.{UrlFault}
 use Rattle.px_patterns.specs.declared.faults.UrlFault.TheVariants.{BadByte, BadPort, HasUser, NotHttp}
 use Rattle.px_patterns.specs.declared.urls.Url.{Url}
-use Rattle.px_patterns.specs.Urls.{IsHost, IsName, IsUrl, authority_of, begins_with, behind_host_part, bracketed_host, ends_host, has_bad_byte, host_of, host_part, is_address, is_address_byte, is_bad, lacks_port, named_host, path_of, port_of, shown_host, shown_port, shown_url, url_of, url_of_part, with_host, with_nothing_behind, with_port}
+use Rattle.px_patterns.specs.Urls.{IsHost, IsName, IsUrl, authority_of, begins_without_case, behind_host_part, bracketed_host, ends_host, has_bad_byte, host_of, host_part, is_address, is_address_byte, is_bad, lacks_port, named_host, path_of, port_of, shown_host, shown_port, shown_url, url_of, url_of_part, with_host, with_nothing_behind, with_port}
 use Rattle.px_patterns.proofs.PlaceLemmas.{length-before_first, position-within}
 use Rattle.px_patterns.proofs.UrlLemmas.{host_bracketed, host_named, named_some, url_whole}
 
@@ -478,7 +478,7 @@ ascii_lower [] ascii i = omega arith
 ascii_lower (x ∷ xs) ascii zero = elim (cases_lt x 128) [ inl low ↦ low | inr high ↦ omega (arith, (lowercase_is x).2 (omega arith), ascii 0) ]
 ascii_lower (x ∷ xs) ascii (suc i) = ascii_lower xs (λ k. ascii (suc k)) i
 
-behind_http : (text : List ℕ) → has_bad_byte text ≡ false → begins_with text (codes "http://") ≡ true → has_bad_byte (drop 7 text) ≡ false
+behind_http : (text : List ℕ) → has_bad_byte text ≡ false → begins_without_case text (codes "http://") ≡ true → has_bad_byte (drop 7 text) ≡ false
 behind_http text clean begins =
     let same : map to_ascii_lowercase (take 7 text) ≡ codes "http://" = (bytes_eq-Decides (map to_ascii_lowercase (take 7 text)) (codes "http://")).0 begins in
     let ascii : IsAscii (take 7 text) = ascii_lower (take 7 text) (subst IsAscii (sym same) http_ascii) in
@@ -490,7 +490,7 @@ pub url_of-is : (text : List ℕ) (url : Url) → url_of text ≡ Ok url → IsU
 unfolding url_of
 url_of-is text url is = by_bad (has_bad_byte text) refl is
   where
-    by_front : has_bad_byte text ≡ false → (b : Bool) → begins_with text (codes "http://") ≡ b →
+    by_front : has_bad_byte text ≡ false → (b : Bool) → begins_without_case text (codes "http://") ≡ b →
         (if not b then Err NotHttp else url_of_part false (host_part (drop 7 text)) (path_of (behind_host_part (drop 7 text)))) ≡ Ok url → IsUrl url
     by_front clean false other is = absurd (cc is)
     by_front clean true begins is =
@@ -499,9 +499,9 @@ url_of-is text url is = by_bad (has_bad_byte text) refl is
         (path_clean (behind_host_part (drop 7 text)) (clean_behind ends_host (drop 7 text) ends_host_ascii rest)) (path_rooted (behind_host_part (drop 7 text))) is
 
     by_bad : (b : Bool) → has_bad_byte text ≡ b →
-        (if b then Err BadByte else if not (begins_with text (codes "http://")) then Err NotHttp else url_of_part false (host_part (drop 7 text)) (path_of (behind_host_part (drop 7 text)))) ≡ Ok url → IsUrl url
+        (if b then Err BadByte else if not (begins_without_case text (codes "http://")) then Err NotHttp else url_of_part false (host_part (drop 7 text)) (path_of (behind_host_part (drop 7 text)))) ≡ Ok url → IsUrl url
     by_bad true bad is = absurd (cc is)
-    by_bad false clean is = by_front clean (begins_with text (codes "http://")) refl is
+    by_bad false clean is = by_front clean (begins_without_case text (codes "http://")) refl is
 
 nothing_behind : (behind : List ℕ) (url : Url) (meaning : Result Url UrlFault) → with_nothing_behind behind meaning ≡ Ok url → meaning ≡ Ok url
 nothing_behind behind url (Err fault) is = absurd (cc is)

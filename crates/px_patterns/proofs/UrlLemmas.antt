@@ -9,7 +9,7 @@ use Rattle.px_patterns.specs.declared.faults.UrlFault.TheVariants.{BadByte, BadP
 use Rattle.px_patterns.specs.declared.urls.Url.{Url}
 use Rattle.px_patterns.specs.Faults.{IsUrlRefusal}
 use Rattle.px_patterns.specs.Places.{HasPlace, LacksPlace}
-use Rattle.px_patterns.specs.Urls.{authority_of, begins_with, behind_host_part, bracketed_host, ends_host, has_bad_byte, host_of, host_part, is_address, named_host, path_of, port_of, url_of, url_of_part, with_nothing_behind}
+use Rattle.px_patterns.specs.Urls.{authority_of, begins_without_case, behind_host_part, bracketed_host, ends_host, has_bad_byte, host_of, host_part, is_address, named_host, path_of, port_of, url_of, url_of_part, with_nothing_behind}
 use Rattle.px_patterns.proofs.PlaceLemmas.{after_first-rest, before_first-take}
 
 abbrev is_bracket : ℕ → Bool
@@ -70,11 +70,11 @@ pub url_bad : (text : List ℕ) → has_bad_byte text ≡ true → url_of text �
 unfolding url_of
 url_bad text bad = rw bad refl
 
-pub url_not_http : (text : List ℕ) → has_bad_byte text ≡ false → begins_with text (codes "http://") ≡ false → url_of text ≡ Err NotHttp
+pub url_not_http : (text : List ℕ) → has_bad_byte text ≡ false → begins_without_case text (codes "http://") ≡ false → url_of text ≡ Err NotHttp
 unfolding url_of
 url_not_http text good other = rw (good, other) refl
 
-pub url_whole : (text rest part behind : List ℕ) (end : ℕ) → has_bad_byte text ≡ false → begins_with text (codes "http://") ≡ true → rest ≡ drop 7 text → end ≡ length (before_first ends_host rest) → part ≡ take end rest → behind ≡ drop end rest →
+pub url_whole : (text rest part behind : List ℕ) (end : ℕ) → has_bad_byte text ≡ false → begins_without_case text (codes "http://") ≡ true → rest ≡ drop 7 text → end ≡ length (before_first ends_host rest) → part ≡ take end rest → behind ≡ drop end rest →
     url_of_part false part (path_of behind) ≡ url_of text
 unfolding url_of
 url_whole text rest part behind end good begins is place front back =

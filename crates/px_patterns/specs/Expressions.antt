@@ -11,19 +11,19 @@ use Rattle.px_patterns.specs.declared.faults.PatternFault.{PatternFault}
 use Rattle.px_patterns.specs.declared.faults.PatternFault.TheVariants.{BadRegex}
 
 -- the library's options, for bytes and without case
-abbrev pub options : Config
-options = record default_config { flags = record default_flags { case_insensitive = true }; utf8 = false }
+abbrev pub pattern_options : Config
+pattern_options = record default_config { flags = record default_flags { case_insensitive = true }; utf8 = false }
 
 -- the expression of a text, where the library's grammar reads one that nests within the library's limit
-unfoldable pub expression : List ℕ → Option Re
-expression text = option_and_then (λ (re, names). if nat_le re.depth options.nest_limit then Some re.value else None) (read options (chars text))
+unfoldable pub pattern_expression : List ℕ → Option Re
+pattern_expression text = option_and_then (λ (re, names). if nat_le re.depth pattern_options.nest_limit then Some re.value else None) (read pattern_options (chars text))
 
 abbrev pub is_expression : List ℕ → Bool
-is_expression text = is_some (expression text)
+is_expression text = is_some (pattern_expression text)
 
 -- whether the expression of a text has a match somewhere in some bytes
 unfoldable pub finds : List ℕ → List ℕ → Bool
-finds text bytes = is_some (option_and_then (λ re. find re bytes 0) (expression text))
+finds text bytes = is_some (option_and_then (λ re. find re bytes 0) (pattern_expression text))
 
 -- the text of an expression, or its refusal
 abbrev pub expression_of : List ℕ → Result (List ℕ) PatternFault
@@ -35,7 +35,7 @@ IsKeptOf expression kept = IfSome kept (λ text. expression ≡ Some text)
 
 -- the library read it with these options
 abbrev pub IsBuilt : Regex → Type 0
-IsBuilt regex = (regex_config regex ≡ options) × IsReadFromSource regex
+IsBuilt regex = (regex_config regex ≡ pattern_options) × IsReadFromSource regex
 
 abbrev pub IsBuiltFrom : List ℕ → Regex → Type 0
 IsBuiltFrom text regex = (regex_source regex ≡ text) × IsBuilt regex

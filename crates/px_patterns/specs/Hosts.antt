@@ -19,7 +19,7 @@ use Rattle.px_patterns.specs.declared.hosts.Rest.TheVariants as rest
 use Rattle.px_patterns.specs.declared.labels.LabelPattern.{LabelPattern}
 use Rattle.px_patterns.specs.declared.labels.LabelPattern.TheVariants.{Glob, Plain}
 use Rattle.px_patterns.specs.Expressions.{finds}
-use Rattle.px_patterns.specs.Globs.{CanBeCut, items_in, label_matches, label_of, some_tail}
+use Rattle.px_patterns.specs.Globs.{CanBeCut, label_items, label_matches, label_of, some_tail}
 
 -- ---- dots and labels
 
@@ -79,7 +79,7 @@ abbrev pub EachFits : List LabelPattern → List (List ℕ) → Type 0
 EachFits [] [] = Unit {0}
 EachFits [] (label ∷ labels) = ⊥
 EachFits (pattern ∷ patterns) [] = ⊥
-EachFits (pattern ∷ patterns) (label ∷ labels) = CanBeCut (items_in pattern) label × EachFits patterns labels
+EachFits (pattern ∷ patterns) (label ∷ labels) = CanBeCut (label_items pattern) label × EachFits patterns labels
 
 -- the labels match all labels of the host, or those at its end, at its front or between where they are open there
 pub record LabelsFit (pattern : HostLabels) (labels : List (List ℕ)) : Type 0 where
@@ -142,7 +142,7 @@ rest_bytes (rest.Labels bytes) = Some bytes.now
 rest_bytes rest.Nothing = None
 
 -- the pattern matches the first label, and this stands behind its dot
-pub record HasFirst (pattern : LabelPattern) (bytes : List ℕ) (behind : Option (List ℕ)) : Type 0 where
+pub record HasFirstLabel (pattern : LabelPattern) (bytes : List ℕ) (behind : Option (List ℕ)) : Type 0 where
   pub label : List ℕ
   pub cut : labels_in bytes ≡ label ∷ parts_of DOT behind
   pub fits : label_matches pattern label ≡ true

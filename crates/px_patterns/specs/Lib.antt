@@ -1,4 +1,3 @@
-pub mod Results
 pub mod Expressions
 pub mod Searches
 pub mod Globs

@@ -1,7 +1,6 @@
 -- URL patterns and tag patterns: what their texts stand for, and what they match.
 use Rattle.std.specs.Prelude.{◌≡◌, ℕ, ◌==◌, ◌&&◌, ◌||◌, Bool, true, if◌then◌else◌, List, ◌∷◌, ◌++◌, length, drop, slice_index, Option, None, Some, Result, Ok, Err, codes}
 use Rattle.std.specs.List.{after_first, before_first, list_any}
-use Rattle.px_patterns.specs.Results.{result_map}
 use Rattle.px_base.specs.Ports.{allows, port_list}
 use Rattle.px_base.specs.declared.ports.PortRange.{PortRange}
 use Rattle.px_patterns.specs.declared.TheConstants.{ADDRESS_BEGIN, ADDRESS_END, CARET, COLON, SLASH}
@@ -16,26 +15,27 @@ use Rattle.px_patterns.specs.declared.patterns.TagPattern.{TagPattern}
 use Rattle.px_patterns.specs.declared.urls.Url.{Url}
 use Rattle.px_patterns.specs.Expressions.{expression_of, finds}
 use Rattle.px_patterns.specs.Hosts.{host_expression_in, host_part_matches, host_pattern}
-use Rattle.px_patterns.specs.Urls.{begins_with, is_address}
+use Rattle.px_patterns.specs.Urls.{begins_without_case, is_address}
+use Rattle.px_base.specs.Results.{result_map}
 
 -- ---- what a text stands for
 
 abbrev pub has_protocol : List ℕ → Bool
-has_protocol text = begins_with text (codes "http://") || begins_with text (codes "https://")
+has_protocol text = begins_without_case text (codes "http://") || begins_without_case text (codes "https://")
 
-abbrev pub is_slash : ℕ → Bool
-is_slash b = b == SLASH
+abbrev pub begins_path : ℕ → Bool
+begins_path b = b == SLASH
 
-abbrev pub is_colon : ℕ → Bool
-is_colon b = b == COLON
+abbrev pub begins_ports : ℕ → Bool
+begins_ports b = b == COLON
 
 -- the host part goes to the first slash
 abbrev pub pattern_host_part : List ℕ → List ℕ
-pattern_host_part text = before_first is_slash text
+pattern_host_part text = before_first begins_path text
 
 -- the path pattern is all from the first slash on
 abbrev pub path_pattern : List ℕ → Option (List ℕ)
-path_pattern text = if list_any is_slash text then Some (SLASH ∷ after_first is_slash text) else None
+path_pattern text = if list_any begins_path text then Some (SLASH ∷ after_first begins_path text) else None
 
 -- a path pattern, by what stands behind its slash
 abbrev pub behind_slash : Option (List ℕ) → Option (List ℕ)
@@ -44,7 +44,7 @@ behind_slash (Some behind) = Some (SLASH ∷ behind)
 
 -- what stands behind the first colon is a list of ports
 abbrev pub port_text : List ℕ → Option (List ℕ)
-port_text text = if list_any is_colon text then Some (after_first is_colon text) else None
+port_text text = if list_any begins_ports text then Some (after_first begins_ports text) else None
 
 abbrev pub with_ports : Option (List PortRange) → Result (Option (List PortRange)) PatternFault
 with_ports None = Err BadPort
@@ -56,22 +56,22 @@ ports_of None = Ok None
 ports_of (Some text) = if length text == 0 then Err BadPort else with_ports (port_list text)
 
 -- the path pattern as an expression that begins at the front of the path
-unfoldable pub path_of : Option (List ℕ) → Result (Option (List ℕ)) PatternFault
-path_of None = Ok None
-path_of (Some pattern) = result_map (λ text. Some text) (expression_of (CARET ∷ pattern))
+unfoldable pub path_expression : Option (List ℕ) → Result (Option (List ℕ)) PatternFault
+path_expression None = Ok None
+path_expression (Some pattern) = result_map (λ text. Some text) (expression_of (CARET ∷ pattern))
 
 -- the refusals of the parts in their order: the ports, the host, the path
 abbrev pub with_path : HostPart → Option (List PortRange) → Result (Option (List ℕ)) PatternFault → Result UrlPattern PatternFault
 with_path host ports (Err fault) = Err fault
 with_path host ports (Ok path) = Ok record { host = host; ports = ports; path = path }
 
-abbrev pub with_host : Option (List PortRange) → Result HostPattern PatternFault → Option (List ℕ) → Result UrlPattern PatternFault
-with_host ports (Err fault) path = Err fault
-with_host ports (Ok host) path = with_path (Pattern host) ports (path_of path)
+abbrev pub with_host_pattern : Option (List PortRange) → Result HostPattern PatternFault → Option (List ℕ) → Result UrlPattern PatternFault
+with_host_pattern ports (Err fault) path = Err fault
+with_host_pattern ports (Ok host) path = with_path (Pattern host) ports (path_expression path)
 
 abbrev pub with_parts : Result HostPattern PatternFault → Result (Option (List PortRange)) PatternFault → Option (List ℕ) → Result UrlPattern PatternFault
 with_parts host (Err fault) path = Err fault
-with_parts host (Ok ports) path = with_host ports host path
+with_parts host (Ok ports) path = with_host_pattern ports host path
 
 -- a host by its address: behind `<` an address goes to `>`, and nothing or a colon follows
 abbrev pub address_end : ℕ → Bool
@@ -89,7 +89,7 @@ addressed_pattern text path =
 
 -- a host by its labels, which goes to the first colon
 abbrev pub named_pattern : List ℕ → Option (List ℕ) → Result UrlPattern PatternFault
-named_pattern part path = with_parts (host_pattern (before_first is_colon part)) (ports_of (port_text part)) path
+named_pattern part path = with_parts (host_pattern (before_first begins_ports part)) (ports_of (port_text part)) path
 
 -- the URL pattern of a host part and a path pattern
 abbrev pub pattern_of_parts : List ℕ → Option (List ℕ) → Result UrlPattern PatternFault
@@ -118,7 +118,7 @@ host_expression text =
 
 abbrev pub with_expression : Result (Option (List ℕ)) PatternFault → Option (List ℕ) → Result UrlPattern PatternFault
 with_expression (Err fault) path = Err fault
-with_expression (Ok expression) path = with_path (Expression expression) None (path_of path)
+with_expression (Ok expression) path = with_path (Expression expression) None (path_expression path)
 
 -- the URL pattern whose host is an expression that a text stands for, or the first refusal
 unfoldable pub expression_pattern : List ℕ → Result UrlPattern PatternFault

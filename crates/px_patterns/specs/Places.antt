@@ -22,6 +22,6 @@ pub record IsCut (test : ℕ → Bool) (bytes front back : List ℕ) : Type 0 wh
   pub behind : back ≡ after_first test bytes
 
 -- the list begins with this byte, and the rest follows
-pub record BeginsWith (byte : ℕ) (bytes rest : List ℕ) : Type 0 where
+pub record BeginsWithByte (byte : ℕ) (bytes rest : List ℕ) : Type 0 where
   pub first : (slice_index bytes 0 == byte) ≡ true
   pub behind : rest ≡ drop 1 bytes

@@ -4,17 +4,17 @@ use Rattle.regex_hir.specs.Re.{Re}
 use Rattle.regex_hir.specs.Find.{find}
 use Rattle.regex.specs.Bytes.{regex_pattern, regex_source}
 use Rattle.regex.specs.declared.bytes.regex.Regex.{Regex}
-use Rattle.px_patterns.specs.declared.expressions.Search.{Search}
-use Rattle.px_patterns.specs.declared.expressions.Search.TheVariants.{Built, FirstSlash}
+use Rattle.px_patterns.specs.declared.expressions.ExpressionSearch.{ExpressionSearch}
+use Rattle.px_patterns.specs.declared.expressions.ExpressionSearch.TheVariants.{Built, FirstSlash}
 use Rattle.px_patterns.specs.Expressions.{IsBuilt, finds}
 
 -- the text of what is searched
-abbrev pub searched_text : Search → List ℕ
+abbrev pub searched_text : ExpressionSearch → List ℕ
 searched_text FirstSlash = codes "^/"
 searched_text (Built regex) = regex_source regex.value
 
 -- what the library made is of another text than `^/`
-abbrev pub IsSearch : Search → Type 0
+abbrev pub IsSearch : ExpressionSearch → Type 0
 IsSearch FirstSlash = Unit {0}
 IsSearch (Built regex) = IsBuilt regex.value × (regex_source regex.value ≢ codes "^/")
 

@@ -26,8 +26,8 @@ abbrev pub is_address : List ℕ → Bool
 is_address text = not (length text == 0) && list_all is_address_byte text
 
 -- whether a text begins with another, without case
-abbrev pub begins_with : List ℕ → List ℕ → Bool
-begins_with text front = str_eq_ignore_ascii_case (take (length front) text) front
+abbrev pub begins_without_case : List ℕ → List ℕ → Bool
+begins_without_case text front = str_eq_ignore_ascii_case (take (length front) text) front
 
 -- ---- what a text stands for
 
@@ -89,7 +89,7 @@ path_of rest = if slice_index rest 0 == SLASH then rest else SLASH ∷ rest
 unfoldable pub url_of : List ℕ → Result Url UrlFault
 url_of text =
     if has_bad_byte text then Err BadByte
-    else if not (begins_with text (codes "http://")) then Err NotHttp
+    else if not (begins_without_case text (codes "http://")) then Err NotHttp
     else url_of_part false (host_part (drop 7 text)) (path_of (behind_host_part (drop 7 text)))
 
 -- a refusal where something follows, else the answer; a refusal that comes earlier stays

@@ -14,12 +14,12 @@ use std::marker::Model;
 /// An expression without case, seen as its text.
 #[derive(Drop)]
 pub struct Expression {
-    search: Search,
+    search: ExpressionSearch,
 }
 
 /// How an expression is searched.
 #[derive(Drop)]
-pub(crate) enum Search {
+pub(crate) enum ExpressionSearch {
     /// `^/`, of the path pattern `/`: by a look at the first byte.
     FirstSlash,
     /// Every other one: by what the library makes of it.
@@ -47,12 +47,12 @@ impl Expression {
     {
         if is_first_slash(text) {
             return Ok(Expression {
-                search: Search::FirstSlash,
+                search: ExpressionSearch::FirstSlash,
             });
         }
         let regex = build(alloc, text)?;
         Ok(Expression {
-            search: Search::Built(regex),
+            search: ExpressionSearch::Built(regex),
         })
     }
 
@@ -75,8 +75,8 @@ impl Expression {
         ensures { MatchOption result (self.now ≡ codes "^/") (λ regex. SearchesFor self.now regex.now) }
     {
         match &self.search {
-            Search::FirstSlash => None,
-            Search::Built(regex) => Some(regex),
+            ExpressionSearch::FirstSlash => None,
+            ExpressionSearch::Built(regex) => Some(regex),
         }
     }
 
@@ -85,8 +85,8 @@ impl Expression {
         ensures { result.now ≡ self.now }
     {
         match &self.search {
-            Search::FirstSlash => "^/",
-            Search::Built(regex) => regex.as_str(),
+            ExpressionSearch::FirstSlash => "^/",
+            ExpressionSearch::Built(regex) => regex.as_str(),
         }
     }
 }

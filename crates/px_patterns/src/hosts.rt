@@ -3,12 +3,12 @@ ghost use Rattle.std.specs.Prelude.{◌≡◌, ◌<◌, ◌↔◌, ◌==◌, ◌
 ghost use Rattle.std.specs.List.{slice_split};
 ghost use Rattle.px_base.specs.Cuts.{parts_of};
 ghost use Rattle.px_patterns.specs.Globs.{some_tail};
-ghost use Rattle.px_patterns.specs.Hosts.{HasFirst, HasLast, LacksFirst, LacksLast, ends_with_dot, host_labels, is_in_label, is_label, labels_in, labels_match, last_plain, rest_bytes, without_last_dot};
+ghost use Rattle.px_patterns.specs.Hosts.{HasFirstLabel, HasLast, LacksFirst, LacksLast, ends_with_dot, host_labels, is_in_label, is_label, labels_in, labels_match, last_plain, rest_bytes, without_last_dot};
 ghost use Rattle.px_patterns.specs.declared.labels.LabelPattern.TheVariants.{Glob, Plain};
-ghost use Rattle.px_patterns.specs.declared.labels.Item.TheVariants.{AnyRun};
+ghost use Rattle.px_patterns.specs.declared.labels.LabelItem.TheVariants.{AnyRun};
 
 use crate::labels::{glob_matches, run_matches};
-use crate::{DOT, Expression, Item, Kept, LabelPattern};
+use crate::{DOT, Expression, KeptExpression, LabelItem, LabelPattern};
 use px_base::{List, Mem, Text, same_without_case};
 use std::alloc::Global;
 
@@ -87,7 +87,7 @@ impl HostPart {
     pub(crate) fn matches_with(
         &self,
         alloc: Global,
-        kept: &mut Option<Kept<'_>>,
+        kept: &mut Option<KeptExpression<'_>>,
         host: &[u8],
     ) -> Result<bool, Mem>
         requires { IsKeptOf (host_expression_in self.now) kept.old }
@@ -228,7 +228,7 @@ fn matches_at_end(patterns: &[LabelPattern], host: &[u8]) -> bool
 
 /// What stands behind the first label and its dot, if one follows, where the pattern matches that label.
 fn without_first<'a>(pattern: &LabelPattern, bytes: &'a [u8]) -> Option<Rest<'a>>
-    ensures { MatchOption result (LacksFirst pattern.now bytes.now) (λ behind. HasFirst pattern.now bytes.now (rest_bytes behind)) }
+    ensures { MatchOption result (LacksFirst pattern.now bytes.now) (λ behind. HasFirstLabel pattern.now bytes.now (rest_bytes behind)) }
 {
     match pattern {
         LabelPattern::Plain(text) => without_first_text(text.as_bytes(), bytes),
@@ -237,8 +237,8 @@ fn without_first<'a>(pattern: &LabelPattern, bytes: &'a [u8]) -> Option<Rest<'a>
 }
 
 /// What stands behind the first label and its dot, if one follows, where items match that label.
-fn without_first_glob<'a>(items: &[Item], bytes: &'a [u8]) -> Option<Rest<'a>>
-    ensures { MatchOption result (LacksFirst (Glob items.now) bytes.now) (λ behind. HasFirst (Glob items.now) bytes.now (rest_bytes behind)) }
+fn without_first_glob<'a>(items: &[LabelItem], bytes: &'a [u8]) -> Option<Rest<'a>>
+    ensures { MatchOption result (LacksFirst (Glob items.now) bytes.now) (λ behind. HasFirstLabel (Glob items.now) bytes.now (rest_bytes behind)) }
 {
     for (at, item) in items.iter().enumerate() {
         if item.is_run() {
@@ -259,8 +259,8 @@ fn without_first_glob<'a>(items: &[Item], bytes: &'a [u8]) -> Option<Rest<'a>>
 }
 
 /// What stands behind the first label and its dot, if one follows, where a `*` and items match that label.
-fn without_first_run<'a>(items: &[Item], bytes: &'a [u8]) -> Option<Rest<'a>>
-    ensures { MatchOption result (LacksFirst (Glob (AnyRun ∷ items.now)) bytes.now) (λ behind. HasFirst (Glob (AnyRun ∷ items.now)) bytes.now (rest_bytes behind)) }
+fn without_first_run<'a>(items: &[LabelItem], bytes: &'a [u8]) -> Option<Rest<'a>>
+    ensures { MatchOption result (LacksFirst (Glob (AnyRun ∷ items.now)) bytes.now) (λ behind. HasFirstLabel (Glob (AnyRun ∷ items.now)) bytes.now (rest_bytes behind)) }
 {
     let (label, behind) = first_label(bytes);
     if items.is_empty() {
@@ -275,7 +275,7 @@ fn without_first_run<'a>(items: &[Item], bytes: &'a [u8]) -> Option<Rest<'a>>
 
 /// What stands behind the dot at the front, if one is there, where the first label is empty.
 fn without_first_empty(bytes: &[u8]) -> Option<Rest<'_>>
-    ensures { MatchOption result (LacksFirst (Glob []) bytes.now) (λ behind. HasFirst (Glob []) bytes.now (rest_bytes behind)) }
+    ensures { MatchOption result (LacksFirst (Glob []) bytes.now) (λ behind. HasFirstLabel (Glob []) bytes.now (rest_bytes behind)) }
 {
     if bytes.is_empty() {
         return Some(Rest::Nothing);
@@ -289,7 +289,7 @@ fn without_first_empty(bytes: &[u8]) -> Option<Rest<'_>>
 
 /// What stands behind the first label and its dot, if one follows, where that label is a text, without case.
 fn without_first_text<'a>(text: &[u8], bytes: &'a [u8]) -> Option<Rest<'a>>
-    ensures { MatchOption result (LacksFirst (Plain text.now) bytes.now) (λ behind. HasFirst (Plain text.now) bytes.now (rest_bytes behind)) }
+    ensures { MatchOption result (LacksFirst (Plain text.now) bytes.now) (λ behind. HasFirstLabel (Plain text.now) bytes.now (rest_bytes behind)) }
 {
     let end = text.len();
     if bytes.len() < end {

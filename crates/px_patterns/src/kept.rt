@@ -12,12 +12,12 @@ use std::marker::Model;
 /// An expression that is lent, seen as its text. What searches for it is made at the first search and kept, so that a later
 /// search takes no memory. It is kept by one thread at a time.
 #[derive(Drop)]
-pub struct Kept<'r> {
+pub struct KeptExpression<'r> {
     expression: &'r Expression,
     matcher: Option<Box<Matcher<'r>>>,
 }
 
-impl<'r> Model for Kept<'r> {
+impl<'r> Model for KeptExpression<'r> {
     ghost use Rattle.std.specs.Prelude.{List, ℕ, IfSome};
     ghost use Rattle.regex.specs.Bytes.{matcher_pattern};
     ghost use Rattle.px_patterns.specs.Searches.{FindsAs};
@@ -29,12 +29,12 @@ impl<'r> Model for Kept<'r> {
     ghost invariant = { λ k. IfSome k.matcher (λ m. FindsAs k.expression.now (matcher_pattern m.value)) };
 }
 
-impl<'r> Kept<'r> {
+impl<'r> KeptExpression<'r> {
     /// An expression that hasn't been searched for.
-    pub fn new(expression: &'r Expression) -> Kept<'r>
+    pub fn new(expression: &'r Expression) -> KeptExpression<'r>
         ensures { result ≡ expression.now }
     {
-        Kept {
+        KeptExpression {
             expression,
             matcher: None,
         }
@@ -64,8 +64,8 @@ impl<'r> Kept<'r> {
 /// a tag pattern.
 #[derive(Drop)]
 pub struct KeptPattern<'r> {
-    pub host: Option<Kept<'r>>,
-    pub own: Option<Kept<'r>>,
+    pub host: Option<KeptExpression<'r>>,
+    pub own: Option<KeptExpression<'r>>,
 }
 
 impl<'r> KeptPattern<'r> {

@@ -2,10 +2,11 @@
 ghost use Rattle.std.specs.Prelude.{◌≡◌, ◌<◌, None, Some, IfErr, IfOk, length};
 ghost use Rattle.std.specs.List.{list_any};
 ghost use Rattle.px_patterns.specs.Faults.{IsClassRefusal};
-ghost use Rattle.px_patterns.specs.Globs.{class_of, is_wild, item_of, items_from, label_of, ranges_of, with_range};
+ghost use Rattle.px_patterns.specs.Globs.{class_of, is_wild, glob_item, items_from, label_of, class_ranges, with_range};
 
 use crate::{
-    CLASS_BEGIN, CLASS_END, ClassRange, DASH, Item, LabelPattern, PatternFault, QUESTION_MARK, STAR,
+    CLASS_BEGIN, CLASS_END, ClassRange, DASH, LabelItem, LabelPattern, PatternFault, QUESTION_MARK,
+    STAR,
 };
 use memchr::memchr;
 use px_base::{List, Text};
@@ -38,7 +39,7 @@ fn is_wild(byte: u8) -> bool
 }
 
 /// Reads the items of a label.
-fn read_items(alloc: Global, text: &[u8]) -> Result<List<Item>, PatternFault>
+fn read_items(alloc: Global, text: &[u8]) -> Result<List<LabelItem>, PatternFault>
     ensures items { IfOk result (λ items. items_from None text.now ≡ Some items) }
     ensures refused { IfErr result (IsClassRefusal (items_from None text.now)) }
 {
@@ -66,20 +67,20 @@ fn read_items(alloc: Global, text: &[u8]) -> Result<List<Item>, PatternFault>
 }
 
 /// The item of a byte outside of a class.
-fn item_of(byte: u8) -> Item
-    ensures { result ≡ item_of byte }
+fn item_of(byte: u8) -> LabelItem
+    ensures { result ≡ glob_item byte }
 {
     if byte == STAR {
-        Item::AnyRun
+        LabelItem::AnyRun
     } else if byte == QUESTION_MARK {
-        Item::AnyByte
+        LabelItem::AnyByte
     } else {
-        Item::Byte(byte)
+        LabelItem::Byte(byte)
     }
 }
 
 /// Reads what stands between the brackets of a class.
-fn read_class(alloc: Global, bytes: &[u8]) -> Result<Item, PatternFault>
+fn read_class(alloc: Global, bytes: &[u8]) -> Result<LabelItem, PatternFault>
     ensures class { IfOk result (λ class. class_of bytes.now ≡ Some class) }
     ensures refused { IfErr result (IsClassRefusal (class_of bytes.now)) }
 {
@@ -87,13 +88,13 @@ fn read_class(alloc: Global, bytes: &[u8]) -> Result<Item, PatternFault>
         return Err(PatternFault::BadClass);
     }
     let ranges = read_ranges(alloc, bytes)?;
-    Ok(Item::Class(ranges))
+    Ok(LabelItem::Class(ranges))
 }
 
 /// Reads the ranges of a class.
 fn read_ranges(alloc: Global, bytes: &[u8]) -> Result<List<ClassRange>, PatternFault>
-    ensures ranges { IfOk result (λ ranges. ranges_of bytes.now ≡ Some ranges) }
-    ensures refused { IfErr result (IsClassRefusal (ranges_of bytes.now)) }
+    ensures ranges { IfOk result (λ ranges. class_ranges bytes.now ≡ Some ranges) }
+    ensures refused { IfErr result (IsClassRefusal (class_ranges bytes.now)) }
 {
     let mut ranges = List::new(alloc);
     let mut rest = bytes;
@@ -111,7 +112,7 @@ fn read_ranges(alloc: Global, bytes: &[u8]) -> Result<List<ClassRange>, PatternF
 /// The range at the front of a class: a byte, or two with a dash between them.
 fn first_range(bytes: &[u8]) -> (ClassRange, &[u8])
     requires { 0 < length bytes.now }
-    ensures range { ranges_of bytes.now ≡ with_range result.0.first result.0.last (ranges_of result.1.now) }
+    ensures range { class_ranges bytes.now ≡ with_range result.0.first result.0.last (class_ranges result.1.now) }
     ensures shorter { length result.1.now < length bytes.now }
 {
     let first = bytes[0];

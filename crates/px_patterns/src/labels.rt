@@ -1,6 +1,6 @@
 // Labels of host patterns.
 ghost use Rattle.std.specs.Prelude.{◌≡◌, ◌≤◌, ◌↔◌, ◌++◌, false, IsTrue, length, option_copied};
-ghost use Rattle.px_patterns.specs.Globs.{CanBeCut, glob_matches, in_class, in_range, items_in, label_matches, some_tail, takes};
+ghost use Rattle.px_patterns.specs.Globs.{CanBeCut, glob_matches, in_class, in_range, label_items, label_matches, some_tail, takes};
 ghost use Rattle.px_patterns.specs.Runs.{behind_first, behind_run, has_run, is_run, takes_front};
 
 use px_base::{List, Text, same_without_case};
@@ -14,7 +14,7 @@ pub struct ClassRange {
 
 /// What stands in a label with `*`, `?` or `[`.
 #[derive(Drop)]
-pub enum Item {
+pub enum LabelItem {
     /// `*`: any run of bytes.
     AnyRun,
     /// `?`: one byte.
@@ -31,19 +31,19 @@ pub enum LabelPattern {
     /// A label without `*`, `?` and `[`: it matches the same text, without case.
     Plain(Text),
     /// A label that matches where it can be cut into pieces, one for each item.
-    Glob(List<Item>),
+    Glob(List<LabelItem>),
 }
 
-impl Item {
+impl LabelItem {
     /// Whether it is a `*`.
     pub(crate) fn is_run(&self) -> bool
         ensures { result ≡ is_run self.now }
     {
         match self {
-            Item::AnyRun => true,
-            Item::AnyByte => false,
-            Item::Byte(_) => false,
-            Item::Class(_) => false,
+            LabelItem::AnyRun => true,
+            LabelItem::AnyByte => false,
+            LabelItem::Byte(_) => false,
+            LabelItem::Class(_) => false,
         }
     }
 
@@ -53,10 +53,10 @@ impl Item {
         ensures { result ≡ takes self.now byte }
     {
         match self {
-            Item::AnyRun => false,
-            Item::AnyByte => true,
-            Item::Byte(own) => *own == byte || own.eq_ignore_ascii_case(&byte),
-            Item::Class(ranges) => in_class(ranges.as_slice(), byte),
+            LabelItem::AnyRun => false,
+            LabelItem::AnyByte => true,
+            LabelItem::Byte(own) => *own == byte || own.eq_ignore_ascii_case(&byte),
+            LabelItem::Class(ranges) => in_class(ranges.as_slice(), byte),
         }
     }
 }
@@ -96,7 +96,7 @@ impl LabelPattern {
     /// is at most one `*`.
     pub fn matches(&self, label: &[u8]) -> bool
         ensures value { result ≡ label_matches self.now label.now }
-        ensures cut { IsTrue result ↔ CanBeCut (items_in self.now) label.now }
+        ensures cut { IsTrue result ↔ CanBeCut (label_items self.now) label.now }
     {
         match self {
             LabelPattern::Plain(text) => same_without_case(text.as_bytes(), label),
@@ -106,7 +106,7 @@ impl LabelPattern {
 }
 
 /// Whether a label can be cut into pieces, one for each item.
-pub(crate) fn glob_matches(items: &[Item], label: &[u8]) -> bool
+pub(crate) fn glob_matches(items: &[LabelItem], label: &[u8]) -> bool
     ensures { result ≡ glob_matches items.now label.now }
 {
     for (at, item) in items.iter().enumerate() {
@@ -124,7 +124,7 @@ pub(crate) fn glob_matches(items: &[Item], label: &[u8]) -> bool
 }
 
 /// The same behind a `*`: whether a label, or one of the texts at its end, can be cut.
-pub(crate) fn run_matches(items: &[Item], label: &[u8]) -> bool
+pub(crate) fn run_matches(items: &[LabelItem], label: &[u8]) -> bool
     ensures { result ≡ some_tail (glob_matches items.now) label.now }
 {
     let mut items = items;
@@ -148,7 +148,7 @@ pub(crate) fn run_matches(items: &[Item], label: &[u8]) -> bool
 }
 
 /// The items before the first `*`, and those behind it if there is one.
-fn cut_at_run(items: &[Item]) -> (&[Item], Option<&[Item]>)
+fn cut_at_run(items: &[LabelItem]) -> (&[LabelItem], Option<&[LabelItem]>)
     ensures cut { items.now ≡ result.0.now ++ behind_run (option_copied result.1) }
     ensures fixed { has_run result.0.now ≡ false }
 {
@@ -161,7 +161,7 @@ fn cut_at_run(items: &[Item]) -> (&[Item], Option<&[Item]>)
 }
 
 /// Whether each of the items takes one byte at the front of the bytes.
-fn takes_front(items: &[Item], bytes: &[u8]) -> bool
+fn takes_front(items: &[LabelItem], bytes: &[u8]) -> bool
     ensures value { result ≡ takes_front items.now bytes.now }
     ensures fits { IsTrue result → length items.now ≤ length bytes.now }
 {
@@ -177,7 +177,7 @@ fn takes_front(items: &[Item], bytes: &[u8]) -> bool
 }
 
 /// What is behind the first place where each of the items takes one byte.
-fn behind_first<'a>(items: &[Item], bytes: &'a [u8]) -> Option<&'a [u8]>
+fn behind_first<'a>(items: &[LabelItem], bytes: &'a [u8]) -> Option<&'a [u8]>
     ensures { option_copied result ≡ behind_first items.now bytes.now }
 {
     let mut rest = bytes;

@@ -4,7 +4,7 @@ ghost use Rattle.px_patterns.specs.Expressions.{expression_of};
 ghost use Rattle.px_patterns.specs.Faults.{IsPatternRefusal};
 ghost use Rattle.px_patterns.specs.Hosts.{host_pattern};
 ghost use Rattle.px_patterns.specs.declared.hosts.HostPattern.TheVariants.{Address};
-ghost use Rattle.px_patterns.specs.Patterns.{addressed_pattern, behind_slash, has_protocol, host_expression, path_of, pattern_of_parts, ports_of, whole_host, with_expression, with_parts, with_path};
+ghost use Rattle.px_patterns.specs.Patterns.{addressed_pattern, behind_slash, has_protocol, host_expression, path_expression, pattern_of_parts, ports_of, whole_host, with_expression, with_parts, with_path};
 
 use crate::host_readings::read_host;
 use crate::places::{begins_with, behind_first, is_address, split_at};
@@ -150,15 +150,15 @@ fn read_whole_host(alloc: Global, text: &str) -> Result<Expression, PatternFault
 }
 
 /// A pattern of a host and ports, with the path that stands behind a slash, if there is one.
-#[tactic(auto, unfolding(crate::specs::Patterns::path_of))]
+#[tactic(auto, unfolding(crate::specs::Patterns::path_expression))]
 fn with_path(
     alloc: Global,
     host: HostPart,
     ports: Option<Ports>,
     path: Option<&str>,
 ) -> Result<UrlPattern, PatternFault>
-    ensures pattern { IfOk result (λ pattern. with_path host ports (path_of (behind_slash (option_copied path.entry))) ≡ Ok pattern) }
-    ensures refused { IfErr result (IsPatternRefusal (with_path host ports (path_of (behind_slash (option_copied path.entry))))) }
+    ensures pattern { IfOk result (λ pattern. with_path host ports (path_expression (behind_slash (option_copied path.entry))) ≡ Ok pattern) }
+    ensures refused { IfErr result (IsPatternRefusal (with_path host ports (path_expression (behind_slash (option_copied path.entry))))) }
 {
     match path {
         Some(path) => {

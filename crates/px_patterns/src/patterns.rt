@@ -6,7 +6,7 @@ ghost use Rattle.px_patterns.specs.Patterns.{NeedsNoHostSearch, NeedsNoSearch, p
 
 use crate::pattern_readings::{has_protocol, read_expression_parts, read_parts};
 use crate::places::split_at;
-use crate::{Expression, HostPart, HostPattern, Kept, KeptPattern, PatternFault, Url};
+use crate::{Expression, HostPart, HostPattern, KeptExpression, KeptPattern, PatternFault, Url};
 use px_base::{Mem, Ports, Steps};
 use std::alloc::Global;
 use std::sync::ledger::Ledger;
@@ -126,7 +126,7 @@ fn path_matches(alloc: Global, pattern: &Option<Expression>, path: &[u8]) -> Res
 fn path_matches_with(
     alloc: Global,
     pattern: &Option<Expression>,
-    kept: &mut Option<Kept<'_>>,
+    kept: &mut Option<KeptExpression<'_>>,
     path: &[u8],
 ) -> Result<bool, Mem>
     requires { IsKeptOf pattern.now kept.old }
@@ -176,7 +176,12 @@ impl TagPattern {
         self.expression.finds(alloc, tag)
     }
     /// The same with its expression and what it keeps.
-    pub fn matches_with(&self, alloc: Global, kept: &mut Kept<'_>, tag: &[u8]) -> Result<bool, Mem>
+    pub fn matches_with(
+        &self,
+        alloc: Global,
+        kept: &mut KeptExpression<'_>,
+        tag: &[u8],
+    ) -> Result<bool, Mem>
         requires { self.now.expression ≡ kept.old }
         ensures value { IfOk result (λ yes. yes ≡ tag_matches self.now tag.now) }
         ensures same { kept.new ≡ kept.old }

@@ -1,8 +1,8 @@
 // Texts, cut before the first byte of a kind.
 ghost use Rattle.std.specs.Prelude.{◌≡◌, ◌==◌, ◌<◌, ◌≤◌, false, MatchOption, length, slice_index};
 ghost use Rattle.std.specs.List.{before_first, list_all};
-ghost use Rattle.px_patterns.specs.Places.{BeginsWith, HasPlace, IsCut, LacksPlace};
-ghost use Rattle.px_patterns.specs.Urls.{begins_with, ends_host, is_address, is_address_byte};
+ghost use Rattle.px_patterns.specs.Places.{BeginsWithByte, HasPlace, IsCut, LacksPlace};
+ghost use Rattle.px_patterns.specs.Urls.{begins_without_case, ends_host, is_address, is_address_byte};
 
 use crate::{COLON, DOT, HASH, QUESTION_MARK, SLASH};
 use memchr::memchr3;
@@ -49,14 +49,14 @@ pub fn split_at(text: &str, stop: char) -> Option<(&str, &str)>
 pub fn behind_first(text: &str, first: char) -> Option<&str>
     requires some { 0 < first }
     requires ascii { first < 128 }
-    ensures { MatchOption result ((slice_index text.now 0 == first) ≡ false) (λ rest. BeginsWith first text.now rest.now) }
+    ensures { MatchOption result ((slice_index text.now 0 == first) ≡ false) (λ rest. BeginsWithByte first text.now rest.now) }
 {
     text.strip_prefix(first)
 }
 
 /// Whether a text begins with another, without case.
 pub fn begins_with(text: &[u8], front: &[u8]) -> bool
-    ensures { result ≡ begins_with text.now front.now }
+    ensures { result ≡ begins_without_case text.now front.now }
 {
     let end = front.len().min(text.len());
     same_without_case(&text[..end], front)

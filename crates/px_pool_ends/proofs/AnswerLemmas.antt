@@ -14,26 +14,26 @@ use Rattle.px_head.proofs.BlockLemmas.{head-end-found, head-end-stable, head-end
 use Rattle.px_head.proofs.GrammarBlocks.{response-block}
 use Rattle.px_framing.specs.Body.{Body, Part, nothing}
 use Rattle.px_framing.specs.Rules.{response_rule}
-use Rattle.px_framing.specs.Reading.{Reading, Steps, first, goes_on, stage_state, before}
+use Rattle.px_framing.specs.Reading.{Reading, ReaderSteps, first, goes_on, stage_state, before}
 use Rattle.px_framing.specs.declared.rules.BodyRule.{BodyRule}
 use Rattle.px_framing.specs.declared.stages.Stage.{Stage}
 use Rattle.px_framing.specs.declared.stages.Stage.TheVariants as stage
 use Rattle.px_framing.specs.declared.places.State.{State}
 use Rattle.px_framing.specs.declared.places.State.TheVariants.{More, Whole, Cut}
 use Rattle.px_framing.proofs.BodyLemmas.{body-one, whole}
-use Rattle.px_framing.specs.Reading.{IsSettled, IsSettledAt, is_last, state_at, reads, reads_on, cut_state}
-use Rattle.px_framing.specs.declared.places.Place.{Place}
-use Rattle.px_framing.specs.declared.places.Place.TheVariants as place
+use Rattle.px_framing.specs.Reading.{IsSettled, IsSettledAt, is_last, place_state, reads, reads_on, cut_state}
+use Rattle.px_framing.specs.declared.places.ChunkPlace.{ChunkPlace}
+use Rattle.px_framing.specs.declared.places.ChunkPlace.TheVariants as place
 use Rattle.std.proofs.lemmas.Grind.{common_steps}
 use Rattle.std.specs.Prelude.{nat_le, if◌then◌else◌}
-use Rattle.px_head.specs.Blocks.{block_len, block_of, lines_of}
+use Rattle.px_head.specs.Blocks.{block_len, block_of, whole_lines}
 use Rattle.px_head.specs.declared.faults.HeadFault.{HeadFault}
 use Rattle.px_head.specs.declared.faults.HeadFault.TheVariants as fault
-use Rattle.px_head.specs.Faults.{IsReadAs}
+use Rattle.px_head.specs.Faults.{IsHeadReadAs}
 use Rattle.px_framing.proofs.StepLemmas.{reads-none}
 use Rattle.px_pool_ends.specs.declared.judges.Judged.{Judged}
 use Rattle.px_pool_ends.specs.declared.judges.Judged.TheVariants as judged
-use Rattle.px_pool_ends.specs.Answers.{Judges, Says, IsInterim, IsFinal, IsWholeBody, IsAnswer, interim, final, Ends}
+use Rattle.px_pool_ends.specs.Answers.{Judges, JudgedSays, IsInterim, IsFinalHead, IsWholeBody, IsAnswer, interim, final, EndsWhole}
 use Rattle.px_pool_ends.proofs.HeadLemmas.{not_both}
 
 -- ---- heads
@@ -58,7 +58,7 @@ interim_passed _ _ block rest (final count b r rule f w) e k =
 same_rule : (a b : BodyRule) (h k : ResponseHead) → h ≡ k → response_rule h [] ≡ Ok a → response_rule k [] ≡ Ok b → a ≡ b
 same_rule a b h k e p q = let o = sym p ∙ ap (λ x. response_rule x []) e ∙ q in (cc)
 
-pub final_passed : (n : ℕ) (xs block rest : List ℕ) (rule : BodyRule) → IsAnswer n xs → xs ≡ block ++ rest → IsFinal block rule → IsWholeBody rule rest
+pub final_passed : (n : ℕ) (xs block rest : List ℕ) (rule : BodyRule) → IsAnswer n xs → xs ≡ block ++ rest → IsFinalHead block rule → IsWholeBody rule rest
 final_passed _ _ block rest rule (interim count b r i a) e k =
     let s = same_head b block r rest i.head k.head i.reads k.reads e in
     absurd (not_both (is_interim k.head.status) (rw s.2 at i.interim) k.final)
@@ -72,7 +72,7 @@ record Front (xs : List ℕ) : Type 0 where
   pub rest : List ℕ
   pub is : xs ≡ block ++ rest
   pub end : head_end HEAD_LIMIT xs ≡ At (length block)
-  pub either : IsInterim block ⊎ ((rule : BodyRule) × IsFinal block rule)
+  pub either : IsInterim block ⊎ ((rule : BodyRule) × IsFinalHead block rule)
 
 block_end : (block rest : List ℕ) (h : ResponseHead) → IsResponse block h → length block ≤ HEAD_LIMIT → head_end HEAD_LIMIT (block ++ rest) ≡ At (length block)
 block_end block rest h x le = head-end-found HEAD_LIMIT block rest le (rw (x.reads.1 ∙ append-nil (grammar.print_response x.tree)) (response-block x.tree x.reads.0))
@@ -93,11 +93,11 @@ never_yet n bytes y a = let e = sym (front n (bytes ++ []) a).end ∙ ap (λ (x 
 at_same : (m n : ℕ) (e : HeadEnd) → e ≡ At m → e ≡ At n → m ≡ n
 at_same m n e p q = let o = sym p ∙ q in (cc)
 
-never_either : (block : List ℕ) → (IsInterim block → ⊥) → ((rule : BodyRule) → IsFinal block rule → ⊥) → IsInterim block ⊎ ((rule : BodyRule) × IsFinal block rule) → ⊥
+never_either : (block : List ℕ) → (IsInterim block → ⊥) → ((rule : BodyRule) → IsFinalHead block rule → ⊥) → IsInterim block ⊎ ((rule : BodyRule) × IsFinalHead block rule) → ⊥
 never_either block i f (inl x) = i x
 never_either block i f (inr x) = f x.0 x.1
 
-pub never_judged : (n : ℕ) (bytes more : List ℕ) (len : ℕ) → head_end HEAD_LIMIT bytes ≡ At len → (IsInterim (take len bytes) → ⊥) → ((rule : BodyRule) → IsFinal (take len bytes) rule → ⊥) → IsAnswer n (bytes ++ more) → ⊥
+pub never_judged : (n : ℕ) (bytes more : List ℕ) (len : ℕ) → head_end HEAD_LIMIT bytes ≡ At len → (IsInterim (take len bytes) → ⊥) → ((rule : BodyRule) → IsFinalHead (take len bytes) rule → ⊥) → IsAnswer n (bytes ++ more) → ⊥
 never_judged n bytes more len e i f a =
     let x = front n (bytes ++ more) a in
     let within = head-end-within HEAD_LIMIT bytes (At len) e in
@@ -108,7 +108,7 @@ never_judged n bytes more len e i f a =
 
 -- no head ends among no bytes
 pub none_yet : head_end HEAD_LIMIT [] ≡ NotYet
-unfolding head_end block_len block_of lines_of
+unfolding head_end block_len block_of whole_lines
 none_yet = refl
 
 -- ---- the body
@@ -117,7 +117,7 @@ pub body_read : (rule : BodyRule) (bytes : List ℕ) → Body rule bytes (goes_o
 body_read rule bytes = whole rule bytes
 
 -- a body is whole exactly where a reader at its start reads it so
-pub body_due : (rule : BodyRule) (bytes : List ℕ) → Body rule bytes (goes_on (first rule) bytes) → IsWholeBody rule bytes ↔ Ends (goes_on (first rule) bytes) bytes
+pub body_due : (rule : BodyRule) (bytes : List ℕ) → Body rule bytes (goes_on (first rule) bytes) → IsWholeBody rule bytes ↔ EndsWhole (goes_on (first rule) bytes) bytes
 body_due rule bytes read = (
   λ w. let e = body-one rule bytes w.part (goes_on (first rule) bytes) w.is_body read in (ap (λ (p : Part). p.state) (sym e) ∙ w.whole, ap (λ (p : Part). p.used) (sym e) ∙ w.no_more),
   λ h. record { part = goes_on (first rule) bytes; is_body = read; whole = h.0; no_more = h.1 },
@@ -134,15 +134,15 @@ unfolding goes_on
 ended_reads r state more e = rw e refl
 
 -- the piece was used, and more is due
-pub more_due : (old new : Reading) (piece raw plain more : List ℕ) (used : ℕ) → Steps old piece raw plain used new → used ≡ length piece
-    → Ends (goes_on old (piece ++ more)) (piece ++ more) ↔ Ends (goes_on new more) more
+pub more_due : (old new : Reading) (piece raw plain more : List ℕ) (used : ℕ) → ReaderSteps old piece raw plain used new → used ≡ length piece
+    → EndsWhole (goes_on old (piece ++ more)) (piece ++ more) ↔ EndsWhole (goes_on new more) more
 more_due old new piece raw plain more used s e = (
   λ h. (ap (λ (p : Part). p.state) (sym (s.same more)) ∙ h.0, omega (arith, ap (λ (p : Part). p.used) (s.same more), h.1, e, length-append piece more)),
   λ h. (ap (λ (p : Part). p.state) (s.same more) ∙ h.0, omega (arith, ap (λ (p : Part). p.used) (s.same more), h.1, e, length-append piece more)),
 )
 
 -- the body has ended with the piece
-read_at_end : (old new : Reading) (piece raw plain more : List ℕ) (used : ℕ) (state : State) → Steps old piece raw plain used new → state ≡ stage_state new.stage → (state ≡ More → ⊥)
+read_at_end : (old new : Reading) (piece raw plain more : List ℕ) (used : ℕ) (state : State) → ReaderSteps old piece raw plain used new → state ≡ stage_state new.stage → (state ≡ More → ⊥)
     → ((goes_on old (piece ++ more)).state ≡ state) × ((goes_on old (piece ++ more)).used ≡ used)
 read_at_end old new piece raw plain more used state s e n =
     let r : goes_on new more ≡ nothing state = ended_reads new state more (ended_stage new.stage state e n) in
@@ -153,22 +153,22 @@ no_bytes : (xs : List ℕ) → length xs ≡ 0 → xs ≡ []
 no_bytes [] e = refl
 no_bytes (x ∷ xs) e = absurd (omega (arith, e))
 
-pub whole_due : (old new : Reading) (piece raw plain more : List ℕ) (used : ℕ) → Steps old piece raw plain used new → Whole ≡ stage_state new.stage → used ≡ length piece
-    → Ends (goes_on old (piece ++ more)) (piece ++ more) ↔ (more ≡ [])
+pub whole_due : (old new : Reading) (piece raw plain more : List ℕ) (used : ℕ) → ReaderSteps old piece raw plain used new → Whole ≡ stage_state new.stage → used ≡ length piece
+    → EndsWhole (goes_on old (piece ++ more)) (piece ++ more) ↔ (more ≡ [])
 whole_due old new piece raw plain more used s e u =
     let r = read_at_end old new piece raw plain more used Whole s e (λ x. (cc)) in (
       λ h. no_bytes more (omega (arith, r.1, h.1, u, length-append piece more)),
       λ h. (r.0, omega (arith, r.1, u, length-append piece more, ap (λ (x : List ℕ). length x) h)),
     )
 
-pub over_due : (old new : Reading) (piece raw plain more : List ℕ) (used : ℕ) → Steps old piece raw plain used new → Whole ≡ stage_state new.stage → used ≤ length piece → (used ≡ length piece → ⊥)
-    → Ends (goes_on old (piece ++ more)) (piece ++ more) → ⊥
+pub over_due : (old new : Reading) (piece raw plain more : List ℕ) (used : ℕ) → ReaderSteps old piece raw plain used new → Whole ≡ stage_state new.stage → used ≤ length piece → (used ≡ length piece → ⊥)
+    → EndsWhole (goes_on old (piece ++ more)) (piece ++ more) → ⊥
 over_due old new piece raw plain more used s e le u h =
     let r = read_at_end old new piece raw plain more used Whole s e (λ x. (cc)) in
     u (omega (arith, r.1, h.1, le, length-append piece more))
 
-pub other_due : (old new : Reading) (piece raw plain more : List ℕ) (used : ℕ) (state : State) → Steps old piece raw plain used new → state ≡ stage_state new.stage → (state ≡ More → ⊥) → (state ≡ Whole → ⊥)
-    → Ends (goes_on old (piece ++ more)) (piece ++ more) → ⊥
+pub other_due : (old new : Reading) (piece raw plain more : List ℕ) (used : ℕ) (state : State) → ReaderSteps old piece raw plain used new → state ≡ stage_state new.stage → (state ≡ More → ⊥) → (state ≡ Whole → ⊥)
+    → EndsWhole (goes_on old (piece ++ more)) (piece ++ more) → ⊥
 other_due old new piece raw plain more used state s e n w h =
     let r = read_at_end old new piece raw plain more used state s e n in
     w (sym r.0 ∙ h.0)
@@ -183,7 +183,7 @@ not_cut : (full : Bool) → cut_state More full ≡ Whole → ⊥
 not_cut true e = (cc)
 not_cut false e = (cc)
 
-more_at : (place : Place) → is_last place ≡ false → state_at place ≡ More
+more_at : (place : ChunkPlace) → is_last place ≡ false → place_state place ≡ More
 more_at place.Size e = refl
 more_at (place.Data n) e = refl
 more_at place.Gap e = refl
@@ -205,13 +205,13 @@ open_at (stage.Chunks place room) kept m x e =
     not_cut (nat_le room 0) (ap (λ t. cut_state t (nat_le room 0)) (sym reads_none) ∙ e)
 
 -- a reader that is due more bytes isn't at its end
-pub open_ends : (r : Reading) → stage_state r.stage ≡ More → IsSettled r → Ends (goes_on r []) [] → ⊥
+pub open_ends : (r : Reading) → stage_state r.stage ≡ More → IsSettled r → EndsWhole (goes_on r []) [] → ⊥
 unfolding goes_on
 open_ends r m s h = open_at r.stage r.kept m s.settled h.0
 
 -- ---- what a head is
 
-pub judged_head : (block : List ℕ) (head : ResponseHead) (j : Judged) → IsResponse block head → length block ≤ HEAD_LIMIT → Says head j → Judges block j
+pub judged_head : (block : List ℕ) (head : ResponseHead) (j : Judged) → IsResponse block head → length block ≤ HEAD_LIMIT → JudgedSays head j → Judges block j
 judged_head block head judged.Interim x le s = record { head = head; reads = x; within = le; interim = s }
 judged_head block head (judged.Final rule) x le s = record { head = head; reads = x; within = le; final = s.0; version = s.1; same_protocol = s.2; stays = s.3; rule_is = s.4; ends = s.5 }
 judged_head block head judged.Never x le s = (
@@ -225,7 +225,7 @@ judged_head block head judged.Lost x le s = s
 pub judged_none : (block : List ℕ) → ((head : ResponseHead) → IsResponse block head → ⊥) → Judges block judged.Never
 judged_none block none = (λ i. none i.head i.reads, λ rule f. none f.head f.reads)
 
-pub not_read : {T : Type 0} (e : HeadFault) (head : T) → (e ≡ fault.Mem → ⊥) → IsReadAs (Err e) head → ⊥
+pub not_read : {T : Type 0} (e : HeadFault) (head : T) → (e ≡ fault.Mem → ⊥) → IsHeadReadAs (Err e) head → ⊥
 not_read e head n (inl x) = (cc)
 not_read e head n (inr x) = n (let o = x in (cc))
 
@@ -255,8 +255,8 @@ one_passed passed len bytes more lt i = (
 pub both : {A B C : Type 0} → A ↔ B → B ↔ C → A ↔ C
 both h k = (λ a. k.0 (h.0 a), λ c. h.1 (k.1 c))
 
-pub body_begins : (n len : ℕ) (bytes more : List ℕ) (rule : BodyRule) → IsFinal (take len bytes) rule → Body rule (drop len bytes ++ more) (goes_on (first rule) (drop len bytes ++ more))
-    → IsAnswer n (bytes ++ more) ↔ Ends (goes_on (first rule) (drop len bytes ++ more)) (drop len bytes ++ more)
+pub body_begins : (n len : ℕ) (bytes more : List ℕ) (rule : BodyRule) → IsFinalHead (take len bytes) rule → Body rule (drop len bytes ++ more) (goes_on (first rule) (drop len bytes ++ more))
+    → IsAnswer n (bytes ++ more) ↔ EndsWhole (goes_on (first rule) (drop len bytes ++ more)) (drop len bytes ++ more)
 body_begins n len bytes more rule f read =
     let d = body_due rule (drop len bytes ++ more) read in (
       λ a. d.0 (final_passed n (bytes ++ more) (take len bytes) (drop len bytes ++ more) rule a (cut_at bytes more len) f),

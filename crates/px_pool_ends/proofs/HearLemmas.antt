@@ -4,9 +4,9 @@ use Rattle.std.proofs.lemmas.List.{take_at}
 use Rattle.px_base.specs.Sources.{SourceState, SourceGoesOn, Gives, given}
 use Rattle.px_base.specs.Sinks.{SinkState}
 use Rattle.px_pool_ends.specs.declared.followers.Following.{Following}
-use Rattle.px_pool_ends.specs.Names.{so_far}
-use Rattle.px_pool_ends.specs.Answers.{Stands, IsSettled}
-use Rattle.px_pool_ends.specs.Incomings.{Hearing, lent_source, since, heard, IsLater, Follows}
+use Rattle.px_pool_ends.specs.Names.{passed_so_far}
+use Rattle.px_pool_ends.specs.Answers.{AnswerStands, IsFollowingSettled}
+use Rattle.px_pool_ends.specs.Incomings.{Hearing, lent_source, since, heard, IsLaterSource, KeepsHearing}
 use Rattle.px_pool_ends.proofs.SendLemmas.{steady_parts, steady_whole, same_mark}
 
 -- what stands before a rest is as long as the whole without it
@@ -25,7 +25,7 @@ pub read_goes_on : (begun : SourceState) (begun_out : SinkState) (old new : Sour
 read_goes_on begun begun_out old new f n buf h gives = record {
   tells_same = h.tells_same;
   offered_same = refl;
-  mark_same = same_mark new.tells old.tells new.mark old.mark (so_far begun begun_out) (so_far begun begun_out) h.tells_same h.mark_same refl;
+  mark_same = same_mark new.tells old.tells new.mark old.mark (passed_so_far begun begun_out) (passed_so_far begun begun_out) h.tells_same h.mark_same refl;
   faults_later = omega arith;
   steady_kept = λ s.
       let p = steady_parts old.steady old.faults s in
@@ -37,7 +37,7 @@ read_goes_on begun begun_out old new f n buf h gives = record {
 }
 
 -- a read that gave bytes
-later_by : (begun old new : SourceState) (n : ℕ) (buf : List ℕ) → IsLater begun old → SourceGoesOn old new → old.left ≡ take n buf ++ new.left → (since begun new ≡ since begun old ++ take n buf) × IsLater begun new
+later_by : (begun old new : SourceState) (n : ℕ) (buf : List ℕ) → IsLaterSource begun old → SourceGoesOn old new → old.left ≡ take n buf ++ new.left → (since begun new ≡ since begun old ++ take n buf) × IsLaterSource begun new
 later_by begun old new n buf h on moved =
     let was : List ℕ = since begun old in
     let left : begun.left ≡ (was ++ take n buf) ++ new.left = h.left ∙ ap (λ (r : List ℕ). was ++ r) moved ∙ sym (append_assoc was (take n buf) new.left) in
@@ -54,7 +54,7 @@ later_by begun old new n buf h on moved =
     )
 
 -- a read that failed
-later_same : (begun old new : SourceState) → IsLater begun old → SourceGoesOn old new → new.left ≡ old.left → (since begun new ≡ since begun old) × IsLater begun new
+later_same : (begun old new : SourceState) → IsLaterSource begun old → SourceGoesOn old new → new.left ≡ old.left → (since begun new ≡ since begun old) × IsLaterSource begun new
 later_same begun old new h on same =
     let e : since begun new ≡ since begun old = ap (λ (l : List ℕ). take (length begun.left - length l) begun.left) same in
     let g : given new ≡ given old = ap (λ (o : List ℕ). take (length o - length new.left) o) on.offered_same ∙ ap (λ (l : List ℕ). take (length old.offered - length l) old.offered) same in (
@@ -68,7 +68,7 @@ later_same begun old new h on same =
     )
 
 -- a link that is lent: nothing was given since then
-begun_now : (now : SourceState) → now.offered ≡ given now ++ now.left → (since now now ≡ []) × IsLater now now
+begun_now : (now : SourceState) → now.offered ≡ given now ++ now.left → (since now now ≡ []) × IsLaterSource now now
 begun_now now whole =
     let e : since now now ≡ [] = front_of now.left [] now.left refl in (
       e,
@@ -80,8 +80,8 @@ begun_now now whole =
       },
     )
 
-pub follows_first : (now : SourceState) (out : SinkState) (host : List ℕ) (port : ℕ) (following : Following) → (IsTrue now.tells → now.offered ≡ given now ++ now.left) → IsSettled following → Stands [] following
-    → Follows (record { source = now; begun = now; begun_out = out; host = host; port = port; following = following; faults = 0 })
+pub follows_first : (now : SourceState) (out : SinkState) (host : List ℕ) (port : ℕ) (following : Following) → (IsTrue now.tells → now.offered ≡ given now ++ now.left) → IsFollowingSettled following → AnswerStands [] following
+    → KeepsHearing (record { source = now; begun = now; begun_out = out; host = host; port = port; following = following; faults = 0 })
 follows_first now out host port following whole settled stands = record {
   settled = settled;
   later = λ told. (begun_now now (whole told)).1;
@@ -93,8 +93,8 @@ abbrev pub heard_on : Hearing → SourceState → Following → ℕ → Hearing
 heard_on h new following faults = record { source = new; begun = h.begun; begun_out = h.begun_out; host = h.host; port = h.port; following = following; faults = faults }
 
 -- a read that gave bytes, which were followed
-pub follows_more : (h : Hearing) (new : SourceState) (following : Following) (n : ℕ) (buf : List ℕ) → Follows h → SourceGoesOn h.source new → Gives h.source new n buf → IsSettled following
-    → ((x : List ℕ) → Stands x h.following → Stands (x ++ take n buf) following) → Follows (heard_on h new following h.faults)
+pub follows_more : (h : Hearing) (new : SourceState) (following : Following) (n : ℕ) (buf : List ℕ) → KeepsHearing h → SourceGoesOn h.source new → Gives h.source new n buf → IsFollowingSettled following
+    → ((x : List ℕ) → AnswerStands x h.following → AnswerStands (x ++ take n buf) following) → KeepsHearing (heard_on h new following h.faults)
 follows_more h new following n buf k on gives settled next = record {
   settled = settled;
   later = λ told.
@@ -106,7 +106,7 @@ follows_more h new following n buf k on gives settled next = record {
 }
 
 -- a read that failed
-pub follows_same : (h : Hearing) (new : SourceState) (faults : ℕ) → Follows h → SourceGoesOn h.source new → (IsTrue h.source.tells → new.left ≡ h.source.left) → Follows (heard_on h new h.following faults)
+pub follows_same : (h : Hearing) (new : SourceState) (faults : ℕ) → KeepsHearing h → SourceGoesOn h.source new → (IsTrue h.source.tells → new.left ≡ h.source.left) → KeepsHearing (heard_on h new h.following faults)
 follows_same h new faults k on same = record {
   settled = k.settled;
   later = λ told.

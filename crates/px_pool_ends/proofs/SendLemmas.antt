@@ -9,11 +9,11 @@ use Rattle.px_base.specs.declared.faults.SinkFault.{SinkFault}
 use Rattle.px_base.specs.declared.faults.SinkFault.TheVariants as fault
 use Rattle.px_base.specs.Sinks.{SinkState, SinkGoesOn, Takes, Finishes}
 use Rattle.px_base.specs.Sources.{SourceState}
-use Rattle.px_pool_ends.specs.Names.{Passed, so_far, lent_mark}
+use Rattle.px_pool_ends.specs.Names.{Passed, passed_so_far, lent_mark}
 use Rattle.px_pool_ends.specs.Closings.{IsImage, replaced, as_it_is}
 use Rattle.px_pool_ends.specs.declared.steps.Step.{Step}
-use Rattle.px_pool_ends.specs.Steps.{Steps, Decides, unfinished, replaces, passes}
-use Rattle.px_pool_ends.specs.Outgoings.{Sending, last_refusal, pending, line, behind, written, image, outer_sink, Keeps, IsSent, Sends, StopCause, Wrote}
+use Rattle.px_pool_ends.specs.Steps.{SendingSteps, Decides, unfinished, replaces, passes}
+use Rattle.px_pool_ends.specs.Outgoings.{Sending, last_refusal, pending, taken_and_pending, behind_head, written_bytes, image, outer_sink, KeepsSending, IsSent, SendsBytes, StopCause, Wrote}
 use Rattle.px_pool_ends.proofs.HeadLemmas.{none_in_none, no_closing}
 
 open_before : (a b : Bool) → (IsTrue a → IsTrue b) → b ≡ false → a ≡ false
@@ -38,8 +38,8 @@ dropped : (xs : List ℕ) (n m : ℕ) → drop (n + m) xs ≡ drop m (drop n xs)
 dropped xs n m = grind (arith, common_steps)
 
 -- a write sends n more
-pub sends_more : (old now next : SinkState) (bytes : List ℕ) (from at n : ℕ) → Sends old now bytes from at → Takes now next n (drop at bytes) → at + n ≤ length bytes → next.finished ≡ now.finished → SinkGoesOn now next
-    → Sends old next bytes from (at + n)
+pub sends_more : (old now next : SinkState) (bytes : List ℕ) (from at n : ℕ) → SendsBytes old now bytes from at → Takes now next n (drop at bytes) → at + n ≤ length bytes → next.finished ≡ now.finished → SinkGoesOn now next
+    → SendsBytes old next bytes from (at + n)
 sends_more old now next bytes from at n h t le same on = record {
   onward = omega (arith, h.onward);
   within = le;
@@ -61,7 +61,7 @@ rose_from begun old new le r = omega (arith, le, r)
 -- ---- what stands
 
 pub keeps_new : (sink : SinkState) (source : SourceState) → sink.finished ≡ false
-    → Keeps (record { sink = sink; begun = sink; begun_in = source; head = []; out = []; at = 0; holding = true; replaced = false; method = []; stopped = None; faults = 0; finished = false })
+    → KeepsSending (record { sink = sink; begun = sink; begun_in = source; head = []; out = []; at = 0; holding = true; replaced = false; method = []; stopped = None; faults = 0; finished = false })
 keeps_new sink source fresh = record {
   within = omega arith;
   decides = unfinished [] (omega arith) none_in_none (inl refl);
@@ -81,21 +81,21 @@ abbrev pub moved : Sending → SinkState → ℕ → ℕ → Option SinkFault �
 moved s new to faults stopped = record { sink = new; begun = s.begun; begun_in = s.begun_in; head = s.head; out = s.out; at = to; holding = s.holding; replaced = s.replaced; method = s.method; stopped = stopped; faults = faults; finished = s.finished }
 
 -- the line is as long as what stands before what came behind the head
-long_line : (s : Sending) → Keeps s → IsTrue s.sink.tells → length s.begun.taken + length s.out ≤ length (line s)
-long_line s k tells = omega (arith, ap (λ (x : List ℕ). length x) (k.begins tells), length-append s.begun.taken (image s), length-append s.out (behind s))
+long_line : (s : Sending) → KeepsSending s → IsTrue s.sink.tells → length s.begun.taken + length s.out ≤ length (taken_and_pending s)
+long_line s k tells = omega (arith, ap (λ (x : List ℕ). length x) (k.begins tells), length-append s.begun.taken (image s), length-append s.out (behind_head s))
 
-behind_grown : (s : Sending) (new : SinkState) (to faults : ℕ) (stopped : Option SinkFault) (more : List ℕ) → Keeps s → IsTrue s.sink.tells → new.taken ++ drop to s.out ≡ line s ++ more
-    → behind (moved s new to faults stopped) ≡ behind s ++ more
+behind_grown : (s : Sending) (new : SinkState) (to faults : ℕ) (stopped : Option SinkFault) (more : List ℕ) → KeepsSending s → IsTrue s.sink.tells → new.taken ++ drop to s.out ≡ taken_and_pending s ++ more
+    → behind_head (moved s new to faults stopped) ≡ behind_head s ++ more
 behind_grown s new to faults stopped more k tells e =
-    ap (λ (x : List ℕ). drop (length s.begun.taken + length s.out) x) e ∙ drop-append-le (length s.begun.taken + length s.out) (line s) more (long_line s k tells)
+    ap (λ (x : List ℕ). drop (length s.begun.taken + length s.out) x) e ∙ drop-append-le (length s.begun.taken + length s.out) (taken_and_pending s) more (long_line s k tells)
 
-pub written_grown : (s : Sending) (new : SinkState) (to faults : ℕ) (stopped : Option SinkFault) (more : List ℕ) → Keeps s → IsTrue s.sink.tells → new.taken ++ drop to s.out ≡ line s ++ more
-    → written (moved s new to faults stopped) ≡ written s ++ more
+pub written_grown : (s : Sending) (new : SinkState) (to faults : ℕ) (stopped : Option SinkFault) (more : List ℕ) → KeepsSending s → IsTrue s.sink.tells → new.taken ++ drop to s.out ≡ taken_and_pending s ++ more
+    → written_bytes (moved s new to faults stopped) ≡ written_bytes s ++ more
 written_grown s new to faults stopped more k tells e =
-    ap (λ (x : List ℕ). s.head ++ x) (behind_grown s new to faults stopped more k tells e) ∙ sym (append_assoc s.head (behind s) more)
+    ap (λ (x : List ℕ). s.head ++ x) (behind_grown s new to faults stopped more k tells e) ∙ sym (append_assoc s.head (behind_head s) more)
 
-pub keeps_grown : (s : Sending) (new : SinkState) (to faults : ℕ) (stopped : Option SinkFault) (more : List ℕ) → Keeps s → s.holding ≡ false → to ≤ length s.out
-    → (IsTrue s.sink.tells → new.taken ++ drop to s.out ≡ line s ++ more) → new.tells ≡ s.sink.tells → new.finished ≡ s.sink.finished → (stopped ≡ None → to ≡ length s.out) → s.sink.faults ≤ new.faults → (stopped ≡ Some fault.Failed → Rose s.begun.faults new.faults) → (stopped ≡ None → faults ≡ 0 → new.faults ≡ s.begun.faults) → Keeps (moved s new to faults stopped)
+pub keeps_grown : (s : Sending) (new : SinkState) (to faults : ℕ) (stopped : Option SinkFault) (more : List ℕ) → KeepsSending s → s.holding ≡ false → to ≤ length s.out
+    → (IsTrue s.sink.tells → new.taken ++ drop to s.out ≡ taken_and_pending s ++ more) → new.tells ≡ s.sink.tells → new.finished ≡ s.sink.finished → (stopped ≡ None → to ≡ length s.out) → s.sink.faults ≤ new.faults → (stopped ≡ Some fault.Failed → Rose s.begun.faults new.faults) → (stopped ≡ None → faults ≡ 0 → new.faults ≡ s.begun.faults) → KeepsSending (moved s new to faults stopped)
 keeps_grown s new to faults stopped more k passing le grown same_tells same_end all more_faults rose clean = record {
   within = le;
   decides = k.decides;
@@ -103,7 +103,7 @@ keeps_grown s new to faults stopped more k passing le grown same_tells same_end 
       let tells : IsTrue s.sink.tells = sym same_tells ∙ t in
       let e = grown tells in
       e ∙ ap (λ (x : List ℕ). x ++ more) (k.begins tells) ∙ append_assoc s.begun.taken (image s) more
-      ∙ ap (λ (x : List ℕ). s.begun.taken ++ x) (append_assoc s.out (behind s) more ∙ ap (λ (x : List ℕ). s.out ++ x) (sym (behind_grown s new to faults stopped more k tells e)));
+      ∙ ap (λ (x : List ℕ). s.begun.taken ++ x) (append_assoc s.out (behind_head s) more ∙ ap (λ (x : List ℕ). s.out ++ x) (sym (behind_grown s new to faults stopped more k tells e)));
   prompt = λ _ e. all e;
   later = omega (arith, k.later, more_faults);
   cause = rose;
@@ -115,10 +115,10 @@ keeps_grown s new to faults stopped more k passing le grown same_tells same_end 
 }
 
 -- the line is the same once more was sent
-pub line_sent : (s : Sending) (new : SinkState) (to : ℕ) → Sends s.sink new s.out s.at to → IsTrue s.sink.tells → new.taken ++ drop to s.out ≡ line s ++ []
-line_sent s new to h tells = h.joined tells ∙ sym (append-nil (line s))
+pub line_sent : (s : Sending) (new : SinkState) (to : ℕ) → SendsBytes s.sink new s.out s.at to → IsTrue s.sink.tells → new.taken ++ drop to s.out ≡ taken_and_pending s ++ []
+line_sent s new to h tells = h.joined tells ∙ sym (append-nil (taken_and_pending s))
 
-pub keeps_sent : (s : Sending) (new : SinkState) (to faults : ℕ) (stopped : Option SinkFault) → Keeps s → s.holding ≡ false → Sends s.sink new s.out s.at to → (stopped ≡ None → to ≡ length s.out) → (stopped ≡ Some fault.Failed → Rose s.begun.faults new.faults) → (stopped ≡ None → faults ≡ 0 → new.faults ≡ s.begun.faults) → Keeps (moved s new to faults stopped)
+pub keeps_sent : (s : Sending) (new : SinkState) (to faults : ℕ) (stopped : Option SinkFault) → KeepsSending s → s.holding ≡ false → SendsBytes s.sink new s.out s.at to → (stopped ≡ None → to ≡ length s.out) → (stopped ≡ Some fault.Failed → Rose s.begun.faults new.faults) → (stopped ≡ None → faults ≡ 0 → new.faults ≡ s.begun.faults) → KeepsSending (moved s new to faults stopped)
 keeps_sent s new to faults stopped k passing h all rose clean = keeps_grown s new to faults stopped [] k passing h.within (line_sent s new to h) h.goes_on.tells_same h.open_same all h.goes_on.faults_later rose clean
 
 -- ---- the end
@@ -128,8 +128,8 @@ end_decides _ _ _ _ _ (unfinished head le none may) = passes true head (λ e. (c
 end_decides _ _ _ _ _ (replaces f front x) = replaces true front x
 end_decides _ _ _ _ _ (passes f head never) = passes true head (λ e. (cc))
 
-pub keeps_ended : (s : Sending) (sent fin : SinkState) (to : ℕ) (stopped : Option SinkFault) → Keeps s → Sends s.sink sent s.out s.at to → Finishes sent fin → SinkGoesOn sent fin → (stopped ≡ None → to ≡ length s.out) → (stopped ≡ Some fault.Failed → Rose s.begun.faults sent.faults) → (stopped ≡ None → s.faults ≡ 0 → sent.faults ≡ s.begun.faults)
-    → Keeps (record { sink = fin; begun = s.begun; begun_in = s.begun_in; head = s.head; out = s.out; at = to; holding = false; replaced = s.replaced; method = s.method; stopped = stopped; faults = s.faults; finished = true })
+pub keeps_ended : (s : Sending) (sent fin : SinkState) (to : ℕ) (stopped : Option SinkFault) → KeepsSending s → SendsBytes s.sink sent s.out s.at to → Finishes sent fin → SinkGoesOn sent fin → (stopped ≡ None → to ≡ length s.out) → (stopped ≡ Some fault.Failed → Rose s.begun.faults sent.faults) → (stopped ≡ None → s.faults ≡ 0 → sent.faults ≡ s.begun.faults)
+    → KeepsSending (record { sink = fin; begun = s.begun; begun_in = s.begun_in; head = s.head; out = s.out; at = to; holding = false; replaced = s.replaced; method = s.method; stopped = stopped; faults = s.faults; finished = true })
 keeps_ended s sent fin to stopped k h f on all rose clean = record {
   within = h.within;
   decides = end_decides s.finished s.holding s.replaced s.head s.out k.decides;
@@ -181,11 +181,11 @@ joined_less taken pending begun image e le =
     sym (drop-append-add begun image n) ∙ ap (λ (x : List ℕ). drop (length begun + n) x) (sym e) ∙ ap (λ m. drop m (taken ++ pending)) (sym long) ∙ drop-append_seam taken pending in
     (sym (take-append-drop n image) ∙ ap (λ (x : List ℕ). take n image ++ x) rest, front)
 
-pub is_sent : (s : Sending) → Keeps s → IsTrue s.sink.tells → IsSent s
+pub is_sent : (s : Sending) → KeepsSending s → IsTrue s.sink.tells → IsSent s
 is_sent s k tells =
-    let less = joined_less s.sink.taken (pending s) s.begun.taken (image s) (k.begins tells) (omega (arith, length-drop s.at s.out, length-append s.out (behind s))) in record {
+    let less = joined_less s.sink.taken (pending s) s.begun.taken (image s) (k.begins tells) (omega (arith, length-drop s.at s.out, length-append s.out (behind_head s))) in record {
       is_image = λ f.
-          rw tells (image_of s.finished s.holding s.replaced s.head s.out (behind s) k.decides (λ h. (nothing_behind s.begun.taken s.out s.sink.taken s.at (k.none_sent h) (k.none_taken h tells)).1) f);
+          rw tells (image_of s.finished s.holding s.replaced s.head s.out (behind_head s) k.decides (λ h. (nothing_behind s.begun.taken s.out s.sink.taken s.at (k.none_sent h) (k.none_taken h tells)).1) f);
       image_is = less.0;
       joined = less.1;
       prompt = λ h e. drop_all s.at s.out (omega (arith, k.prompt h e));
@@ -218,7 +218,7 @@ held_by s step stopped = record {
   finished = s.finished;
 }
 
-pub keeps_held : (s : Sending) (step : Step) (bytes : List ℕ) (stopped : Option SinkFault) → Keeps s → IsTrue s.holding → Steps s.out bytes step → (step.holding ≡ false → stopped ≡ None → ⊥) → (stopped ≡ Some fault.Failed → Rose s.begun.faults s.sink.faults) → (stopped ≡ None → s.faults ≡ 0 → s.sink.faults ≡ s.begun.faults) → Keeps (held_by s step stopped)
+pub keeps_held : (s : Sending) (step : Step) (bytes : List ℕ) (stopped : Option SinkFault) → KeepsSending s → IsTrue s.holding → SendingSteps s.out bytes step → (step.holding ≡ false → stopped ≡ None → ⊥) → (stopped ≡ Some fault.Failed → Rose s.begun.faults s.sink.faults) → (stopped ≡ None → s.faults ≡ 0 → s.sink.faults ≡ s.begun.faults) → KeepsSending (held_by s step stopped)
 keeps_held s step bytes stopped k h d un rose clean =
     let was = held_is_out s.finished s.holding s.replaced s.head s.out k.decides h in
     let z : s.at ≡ 0 = k.none_sent h in record {
@@ -249,7 +249,7 @@ pub same_mark : (t u : Bool) (m n : ℕ) (w x : Passed) → t ≡ u → m ≡ n 
 same_mark t u m n w x e f g = rw (e, f, g) refl
 
 -- what lasts at the inner sink lasts at the outer one
-pub outer_goes_on : (s t : Sending) → so_far t.begun_in t.begun ≡ so_far s.begun_in s.begun → SinkGoesOn s.sink t.sink → (IsTrue s.finished → IsTrue t.finished) → (t.finished ≡ false → t.sink.finished ≡ false) → s.faults ≤ t.faults
+pub outer_goes_on : (s t : Sending) → passed_so_far t.begun_in t.begun ≡ passed_so_far s.begun_in s.begun → SinkGoesOn s.sink t.sink → (IsTrue s.finished → IsTrue t.finished) → (t.finished ≡ false → t.sink.finished ≡ false) → s.faults ≤ t.faults
     → (s.sink.faults ≡ 0 → t.sink.faults ≡ 0 → t.faults ≡ s.faults) → SinkGoesOn (outer_sink s) (outer_sink t)
 outer_goes_on s t went h kept still le none = record {
   tells_same = h.tells_same;
@@ -262,7 +262,7 @@ outer_goes_on s t went h kept still le none = record {
       (steady_whole t.sink.steady t.sink.faults q.0 (q.1 ∙ p.1), none p.1 (q.1 ∙ p.1));
 }
 
-pub sends_none : (sink : SinkState) (bytes : List ℕ) (at : ℕ) → at ≤ length bytes → Sends sink sink bytes at at
+pub sends_none : (sink : SinkState) (bytes : List ℕ) (at : ℕ) → at ≤ length bytes → SendsBytes sink sink bytes at at
 sends_none sink bytes at le = record {
   onward = omega arith;
   within = le;
@@ -271,7 +271,7 @@ sends_none sink bytes at le = record {
   goes_on = record { tells_same = refl; finished_kept = λ f. f; mark_same = refl; faults_later = omega arith; steady_kept = λ s _. (s, refl) };
 }
 
-pub wrote_held : (s : Sending) (step : Step) (bytes : List ℕ) (new : SinkState) (to : ℕ) (stopped : Option SinkFault) → Keeps s → IsTrue s.holding → Steps s.out bytes step → Sends s.sink new step.out s.at to
+pub wrote_held : (s : Sending) (step : Step) (bytes : List ℕ) (new : SinkState) (to : ℕ) (stopped : Option SinkFault) → KeepsSending s → IsTrue s.holding → SendingSteps s.out bytes step → SendsBytes s.sink new step.out s.at to
     → Wrote (outer_sink s) (outer_sink (moved (held_by s step stopped) new to s.faults stopped)) (Ok step.count) bytes
 wrote_held s step bytes new to stopped k h d sent =
     let was = held_is_out s.finished s.holding s.replaced s.head s.out k.decides h in
@@ -282,7 +282,7 @@ wrote_held s step bytes new to stopped k h d sent =
         added = λ tells.
             let mine = (nothing_behind s.begun.taken s.out s.sink.taken s.at z (k.none_taken h tells)).1 in
             let next = (nothing_behind s.begun.taken step.out s.sink.taken s.at z (k.none_taken h tells)).1 in
-            let e : written (moved (held_by s step stopped) new to s.faults stopped) ≡ written s ++ take step.count bytes =
+            let e : written_bytes (moved (held_by s step stopped) new to s.faults stopped) ≡ written_bytes s ++ take step.count bytes =
             ap (λ (x : List ℕ). step.head.value ++ x) (ap (λ (x : List ℕ). drop (length s.begun.taken + length step.out) x) (sent.joined tells) ∙ next) ∙ append-nil step.head.value
             ∙ d.head ∙ ap (λ (x : List ℕ). x ++ take step.count bytes) (sym was.0 ∙ sym (append-nil s.head) ∙ ap (λ (x : List ℕ). s.head ++ x) (sym mine)) in
             rw (sent.goes_on.tells_same, tells) e;

@@ -28,7 +28,7 @@ pub record IsInterim (block : List ℕ) : Type 0 where
 
 -- The block is a final head of HTTP/1.1 after which the link stays one of HTTP (RFC 9112, section 9.3, and RFC 9110, section
 -- 15.2.2), and by that rule the body is read. The rule is that for any method but HEAD.
-pub record IsFinal (block : List ℕ) (rule : BodyRule) : Type 0 where
+pub record IsFinalHead (block : List ℕ) (rule : BodyRule) : Type 0 where
   pub head : ResponseHead
   pub reads : IsResponse block head
   pub within : length block ≤ HEAD_LIMIT
@@ -49,19 +49,19 @@ pub record IsWholeBody (rule : BodyRule) (bytes : List ℕ) : Type 0 where
 -- the bytes are up to so many heads before the final one, a final head, a whole body whose end it says, and nothing more
 pub data IsAnswer : ℕ → List ℕ → Type 0 where
   interim : (count : ℕ) (block rest : List ℕ) → IsInterim block → IsAnswer count rest → IsAnswer (count + 1) (block ++ rest)
-  final : (count : ℕ) (block rest : List ℕ) (rule : BodyRule) → IsFinal block rule → IsWholeBody rule rest → IsAnswer count (block ++ rest)
+  final : (count : ℕ) (block rest : List ℕ) (rule : BodyRule) → IsFinalHead block rule → IsWholeBody rule rest → IsAnswer count (block ++ rest)
 
 -- what bytes are read to is a whole body, of all the bytes
-abbrev pub Ends : Part → List ℕ → Type 0
-Ends part bytes = (part.state ≡ Whole) × (part.used ≡ length bytes)
+abbrev pub EndsWhole : Part → List ℕ → Type 0
+EndsWhole part bytes = (part.state ≡ Whole) × (part.used ≡ length bytes)
 
 -- what the bytes to come must be, so that the whole is an answer
-abbrev pub Due : Following → List ℕ → Type 0
-Due (following.Heads count bytes search) more = IsAnswer (8 - count) (bytes ++ more)
-Due (following.Body reader) more = Ends (goes_on reader more) more
-Due following.Answered more = more ≡ []
-Due following.Never more = ⊥
-Due following.Lost more = ⊥
+abbrev pub CompletesAnswer : Following → List ℕ → Type 0
+CompletesAnswer (following.Heads count bytes search) more = IsAnswer (8 - count) (bytes ++ more)
+CompletesAnswer (following.Body reader) more = EndsWhole (goes_on reader more) more
+CompletesAnswer following.Answered more = more ≡ []
+CompletesAnswer following.Never more = ⊥
+CompletesAnswer following.Lost more = ⊥
 
 -- memory was wanting
 abbrev pub is_lost : Following → Bool
@@ -80,34 +80,34 @@ is_answered following.Never = false
 is_answered following.Lost = false
 
 -- how far an answer was heard: these bytes and some that follow are an answer exactly where those are due
-abbrev pub Stands : List ℕ → Following → Type 0
-Stands heard following = is_lost following ≡ false → (more : List ℕ) → IsAnswer 8 (heard ++ more) ↔ Due following more
+abbrev pub AnswerStands : List ℕ → Following → Type 0
+AnswerStands heard following = is_lost following ≡ false → (more : List ℕ) → IsAnswer 8 (heard ++ more) ↔ CompletesAnswer following more
 
 -- of heads and of a body, more bytes are due
-abbrev pub IsSettled : Following → Type 0
-IsSettled (following.Heads count bytes search) = (count ≤ 8) × (head_end HEAD_LIMIT bytes ≡ NotYet) × Searched HEAD_LIMIT bytes search
-IsSettled (following.Body reader) = (stage_state reader.stage ≡ More) × reading.IsSettled reader
-IsSettled following.Answered = Unit {0}
-IsSettled following.Never = Unit {0}
-IsSettled following.Lost = Unit {0}
+abbrev pub IsFollowingSettled : Following → Type 0
+IsFollowingSettled (following.Heads count bytes search) = (count ≤ 8) × (head_end HEAD_LIMIT bytes ≡ NotYet) × Searched HEAD_LIMIT bytes search
+IsFollowingSettled (following.Body reader) = (stage_state reader.stage ≡ More) × reading.IsSettled reader
+IsFollowingSettled following.Answered = Unit {0}
+IsFollowingSettled following.Never = Unit {0}
+IsFollowingSettled following.Lost = Unit {0}
 
 -- the answer is those bytes exactly where what is due then is due
 abbrev pub Leaves : Following → (List ℕ → Type 0) → Type 0
-Leaves following all = is_lost following ≡ false → (more : List ℕ) → all more ↔ Due following more
+Leaves following all = is_lost following ≡ false → (more : List ℕ) → all more ↔ CompletesAnswer following more
 
 -- what a head is
 abbrev pub Judges : List ℕ → Judged → Type 0
 Judges block judged.Interim = IsInterim block
-Judges block (judged.Final rule) = IsFinal block rule
-Judges block judged.Never = (IsInterim block → ⊥) × ((rule : BodyRule) → IsFinal block rule → ⊥)
+Judges block (judged.Final rule) = IsFinalHead block rule
+Judges block judged.Never = (IsInterim block → ⊥) × ((rule : BodyRule) → IsFinalHead block rule → ⊥)
 Judges block judged.Lost = Unit {0}
 
 -- the same of a head that was read from a block
-abbrev pub Says : ResponseHead → Judged → Type 0
-Says head judged.Interim = is_interim head.status ≡ true
-Says head (judged.Final rule) =
+abbrev pub JudgedSays : ResponseHead → Judged → Type 0
+JudgedSays head judged.Interim = is_interim head.status ≡ true
+JudgedSays head (judged.Final rule) =
     (is_interim head.status ≡ false) × (head.minor ≡ 1) × ((head.status == 101) ≡ false) × (is_connection_word (codes "close") head.fields ≡ false) × (response_rule head [] ≡ Ok rule) × (rule ≢ ToClose)
-Says head judged.Never =
+JudgedSays head judged.Never =
     (is_interim head.status ≡ false)
     × (head.minor ≡ 1 → (head.status == 101) ≡ false → is_connection_word (codes "close") head.fields ≡ false → (rule : BodyRule) → response_rule head [] ≡ Ok rule → rule ≢ ToClose → ⊥)
-Says head judged.Lost = Unit {0}
+JudgedSays head judged.Lost = Unit {0}

@@ -2,9 +2,9 @@
 use Rattle.std.specs.Prelude.{◌≡◌, ℕ, ◌-◌, ◌==◌, ◌&&◌, ◌++◌, IsTrue, List, length, take}
 use Rattle.px_base.specs.Sources.{SourceState, given}
 use Rattle.px_base.specs.Sinks.{SinkState}
-use Rattle.px_pool_ends.specs.Names.{so_far, lent_mark}
+use Rattle.px_pool_ends.specs.Names.{passed_so_far, lent_mark}
 use Rattle.px_pool_ends.specs.declared.followers.Following.{Following}
-use Rattle.px_pool_ends.specs.Answers.{Stands, IsSettled}
+use Rattle.px_pool_ends.specs.Answers.{AnswerStands, IsFollowingSettled}
 
 -- the incoming side of a link
 pub record Hearing : Type 0 where
@@ -29,7 +29,7 @@ lent_source begun begun_out now faults = record {
   left = now.left;
   faults = faults;
   steady = now.steady && (now.faults == 0);
-  mark = lent_mark now.tells now.mark (so_far begun begun_out);
+  mark = lent_mark now.tells now.mark (passed_so_far begun begun_out);
 }
 
 -- the source that callers see
@@ -49,14 +49,14 @@ abbrev pub heard : Hearing → List ℕ
 heard h = since h.begun h.source
 
 -- A source that tells, later: what it has given in all is what it had given before and what it gave since then.
-pub record IsLater (begun now : SourceState) : Type 0 where
+pub record IsLaterSource (begun now : SourceState) : Type 0 where
   pub offered_same : now.offered ≡ begun.offered
   pub left : begun.left ≡ since begun now ++ now.left
   pub given_joined : given now ≡ given begun ++ since begun now
   pub whole : now.offered ≡ given now ++ now.left
 
 -- what stands at each moment
-pub record Follows (h : Hearing) : Type 0 where
-  pub settled : IsSettled h.following
-  pub later : IsTrue h.source.tells → IsLater h.begun h.source
-  pub followed : IsTrue h.source.tells → Stands (heard h) h.following
+pub record KeepsHearing (h : Hearing) : Type 0 where
+  pub settled : IsFollowingSettled h.following
+  pub later : IsTrue h.source.tells → IsLaterSource h.begun h.source
+  pub followed : IsTrue h.source.tells → AnswerStands (heard h) h.following

@@ -1,13 +1,14 @@
 -- What contracts see of the outgoing side of a link.
-use Rattle.std.specs.Prelude.{◌≡◌, ℕ, ◌+◌, ◌-◌, ◌≤◌, Bool, true, false, IsTrue, ◌==◌, ◌&&◌, List, [], ◌++◌, length, take, drop, Result, Ok, Err, MatchResult, Option, Some, None}
+use Rattle.std.specs.Prelude.{◌≡◌, ℕ, ◌+◌, ◌-◌, ◌≤◌, Bool, false, IsTrue, ◌==◌, ◌&&◌, List, [], ◌++◌, length, take, drop, Result, Ok, Err, MatchResult, Option, Some, None}
 use Rattle.px_base.specs.Sources.{SourceState}
 use Rattle.px_base.specs.Sinks.{SinkState, Writes, SinkCause, SinkGoesOn}
 use Rattle.px_base.specs.Causes.{Rose}
 use Rattle.px_base.specs.declared.faults.SinkFault.{SinkFault}
 use Rattle.px_base.specs.declared.faults.SinkFault.TheVariants as fault
 use Rattle.px_pool_ends.specs.Closings.{IsImage, IsMethodOf}
-use Rattle.px_pool_ends.specs.Names.{so_far, lent_mark}
+use Rattle.px_pool_ends.specs.Names.{passed_so_far, lent_mark}
 use Rattle.px_pool_ends.specs.Steps.{Decides}
+use Rattle.px_base.specs.Lists.{told}
 
 -- the outgoing side of a link
 pub record Sending : Type 0 where
@@ -36,35 +37,30 @@ abbrev pub pending : Sending → List ℕ
 pending s = drop s.at s.out
 
 -- what the inner sink took, and will have taken then
-abbrev pub line : Sending → List ℕ
-line s = s.sink.taken ++ pending s
+abbrev pub taken_and_pending : Sending → List ℕ
+taken_and_pending s = s.sink.taken ++ pending s
 
 -- of these, what came behind the head
-abbrev pub behind : Sending → List ℕ
-behind s = drop (length s.begun.taken + length s.out) (line s)
+abbrev pub behind_head : Sending → List ℕ
+behind_head s = drop (length s.begun.taken + length s.out) (taken_and_pending s)
 
 -- what was written, and what is sent for it
-abbrev pub written : Sending → List ℕ
-written s = s.head ++ behind s
+abbrev pub written_bytes : Sending → List ℕ
+written_bytes s = s.head ++ behind_head s
 
 abbrev pub image : Sending → List ℕ
-image s = s.out ++ behind s
-
--- the bytes, where they are told
-abbrev pub told : Bool → List ℕ → List ℕ
-told true bytes = bytes
-told false bytes = []
+image s = s.out ++ behind_head s
 
 -- the sink that callers see
 abbrev pub outer_sink : Sending → SinkState
 outer_sink s = record {
   tells = s.sink.tells;
-  taken = told s.sink.tells (written s);
+  taken = told s.sink.tells (written_bytes s);
   finished = s.finished;
   faults = s.faults;
   steady = s.sink.steady && (s.sink.faults == 0);
   room = 0;
-  mark = lent_mark s.sink.tells s.sink.mark (so_far s.begun_in s.begun);
+  mark = lent_mark s.sink.tells s.sink.mark (passed_so_far s.begun_in s.begun);
 }
 
 -- the inner sink
@@ -81,10 +77,10 @@ last_refusal stopped (Ok u) = stopped
 last_refusal stopped (Err f) = Some f
 
 -- what stands at each moment
-pub record Keeps (s : Sending) : Type 0 where
+pub record KeepsSending (s : Sending) : Type 0 where
   pub within : s.at ≤ length s.out
   pub decides : Decides s.finished s.holding s.replaced s.head s.out
-  pub begins : IsTrue s.sink.tells → line s ≡ s.begun.taken ++ image s
+  pub begins : IsTrue s.sink.tells → taken_and_pending s ≡ s.begun.taken ++ image s
   pub prompt : s.holding ≡ false → s.stopped ≡ None → s.at ≡ length s.out
   pub later : s.begun.faults ≤ s.sink.faults
   pub cause : s.stopped ≡ Some fault.Failed → Rose s.begun.faults s.sink.faults
@@ -108,7 +104,7 @@ pub record IsSent (s : Sending) : Type 0 where
   pub clean : s.stopped ≡ None → s.faults ≡ 0 → s.sink.faults ≡ s.begun.faults
 
 -- bytes that were taken are sent in order, up to a place
-pub record Sends (old new : SinkState) (bytes : List ℕ) (from to : ℕ) : Type 0 where
+pub record SendsBytes (old new : SinkState) (bytes : List ℕ) (from to : ℕ) : Type 0 where
   pub onward : from ≤ to
   pub within : to ≤ length bytes
   pub joined : IsTrue old.tells → new.taken ++ drop to bytes ≡ old.taken ++ drop from bytes
@@ -123,9 +119,9 @@ pub record Wrote (old new : SinkState) (result : Result ℕ SinkFault) (bytes : 
   pub goes_on : SinkGoesOn old new
 
 -- why a sending stopped: the count rose, or memory was wanting
-abbrev pub StopsBy : ℕ → ℕ → SinkFault → Type 0
-StopsBy old new fault.Failed = Rose old new
-StopsBy old new fault.Mem = new ≡ old
+abbrev pub SendingStopsBy : ℕ → ℕ → SinkFault → Type 0
+SendingStopsBy old new fault.Failed = Rose old new
+SendingStopsBy old new fault.Mem = new ≡ old
 
 abbrev pub StopCause : {T : Type 0} → SinkState → SinkState → Result T SinkFault → Type 0
-StopCause old new result = MatchResult result (λ _. new.faults ≡ old.faults) (λ f. StopsBy old.faults new.faults f)
+StopCause old new result = MatchResult result (λ _. new.faults ≡ old.faults) (λ f. SendingStopsBy old.faults new.faults f)

@@ -3,7 +3,7 @@ ghost use Rattle.std.specs.Prelude.{◌≡◌, ◌≤◌, ◌-◌, ◌++◌, ◌
 ghost use Rattle.px_framing.specs.Reading.{goes_on};
 ghost use Rattle.px_head.specs.declared.TheConstants.{HEAD_LIMIT};
 ghost use Rattle.px_head.specs.Searches.{Searched, BeginsSearched};
-ghost use Rattle.px_pool_ends.specs.Answers.{Stands, Leaves, Ends, IsSettled, IsAnswer, is_answered as is_answered_spec, is_lost as is_lost_spec};
+ghost use Rattle.px_pool_ends.specs.Answers.{AnswerStands, Leaves, EndsWhole, IsFollowingSettled, IsAnswer, is_answered as is_answered_spec, is_lost as is_lost_spec};
 
 use crate::judges::{Judged, judge};
 use px_base::{Mem, Text};
@@ -31,17 +31,17 @@ pub enum Following {
 
 /// Nothing was heard.
 pub fn first(alloc: Global) -> Following
-    ensures stands { Stands [] result }
-    ensures settled { IsSettled result }
+    ensures stands { AnswerStands [] result }
+    ensures settled { IsFollowingSettled result }
 {
     Following::Heads(0, Text::new(alloc), HeadSearch::new())
 }
 
 /// Hears a piece.
 pub fn follow(alloc: Global, following: Following, piece: &[u8]) -> Following
-    requires settled { IsSettled following }
-    ensures stands { (heard : List ℕ) → Stands heard following → Stands (heard ++ piece.now) result }
-    ensures settled { IsSettled result }
+    requires settled { IsFollowingSettled following }
+    ensures stands { (heard : List ℕ) → AnswerStands heard following → AnswerStands (heard ++ piece.now) result }
+    ensures settled { IsFollowingSettled result }
 {
     match following {
         Following::Heads(count, bytes, search) => hear_heads(alloc, count, bytes, search, piece),
@@ -60,8 +60,8 @@ pub fn follow(alloc: Global, following: Following, piece: &[u8]) -> Following
 
 /// Whether the whole answer was heard, and nothing more.
 pub fn is_answered(following: &Following) -> bool
-    requires settled { IsSettled following.now }
-    ensures answered { is_lost_spec following.now ≡ false → (heard : List ℕ) → Stands heard following.now → (result ≡ true) ↔ IsAnswer 8 heard }
+    requires settled { IsFollowingSettled following.now }
+    ensures answered { is_lost_spec following.now ≡ false → (heard : List ℕ) → AnswerStands heard following.now → (result ≡ true) ↔ IsAnswer 8 heard }
     ensures value { result ≡ is_answered_spec following.now }
 {
     match following {
@@ -90,7 +90,7 @@ fn hear_heads(alloc: Global, count: u8, bytes: Text, search: HeadSearch, piece: 
     requires few { count ≤ 8 }
     requires searched { Searched HEAD_LIMIT bytes search }
     ensures due { Leaves result (λ more. IsAnswer (8 - count) (bytes ++ (piece.now ++ more))) }
-    ensures settled { IsSettled result }
+    ensures settled { IsFollowingSettled result }
 {
     let mut all = bytes;
     match all.push_all(piece) {
@@ -104,7 +104,7 @@ fn pass_heads(alloc: Global, count: u8, bytes: Text, search: HeadSearch) -> Foll
     requires few { count ≤ 8 }
     requires begins { BeginsSearched HEAD_LIMIT bytes search }
     ensures due { Leaves result (λ more. IsAnswer (8 - count) (bytes ++ more)) }
-    ensures settled { IsSettled result }
+    ensures settled { IsFollowingSettled result }
 {
     let mut passed = count;
     let mut rest = bytes;
@@ -137,8 +137,8 @@ fn pass_heads(alloc: Global, count: u8, bytes: Text, search: HeadSearch) -> Foll
 }
 
 fn hear_body(alloc: Global, reader: BodyReader, piece: &[u8]) -> Following
-    ensures due { Leaves result (λ more. Ends (goes_on reader (piece.now ++ more)) (piece.now ++ more)) }
-    ensures settled { IsSettled result }
+    ensures due { Leaves result (λ more. EndsWhole (goes_on reader (piece.now ++ more)) (piece.now ++ more)) }
+    ensures settled { IsFollowingSettled result }
 {
     let mut reader = reader;
     let mut line = Text::new(alloc);

@@ -3,7 +3,7 @@ ghost use Rattle.std.specs.Prelude.{◌≡◌, ◌==◌, not, ◌<◌, ◌↔◌
 ghost use Rattle.px_base.specs.Causes.{HasCause};
 ghost use Rattle.px_base.specs.Sources.{Reads, SourceGoesOn, given};
 ghost use Rattle.px_pool_ends.specs.Answers.{IsAnswer, is_answered as is_answered_spec, is_lost as is_lost_spec};
-ghost use Rattle.px_pool_ends.specs.Incomings.{Hearing, IsLater, outer_source, heard};
+ghost use Rattle.px_pool_ends.specs.Incomings.{Hearing, IsLaterSource, outer_source, heard};
 
 use crate::followers::{Following, first, follow, is_answered, is_lost};
 use px_base::{Failed, LocalSink, LocalSource, Sink, Source, Text};
@@ -27,13 +27,13 @@ pub struct Incoming<S: LocalSource, O: LocalSink> {
 }
 
 impl<S: LocalSource, O: LocalSink> Model for Incoming<S, O> {
-    ghost use Rattle.px_pool_ends.specs.Incomings.{Hearing, Follows};
+    ghost use Rattle.px_pool_ends.specs.Incomings.{Hearing, KeepsHearing};
 
     ghost Value = { Hearing };
 
     ghost view = { λ s. record { source = S.state s.source; begun = S.state s.begun.value; begun_out = O.state s.begun_out.value; host = s.host; port = s.port; following = s.following; faults = s.faults } };
 
-    ghost invariant = { λ s. Follows (record { source = S.state s.source; begun = S.state s.begun.value; begun_out = O.state s.begun_out.value; host = s.host; port = s.port; following = s.following; faults = s.faults }) };
+    ghost invariant = { λ s. KeepsHearing (record { source = S.state s.source; begun = S.state s.begun.value; begun_out = O.state s.begun_out.value; host = s.host; port = s.port; following = s.following; faults = s.faults }) };
 }
 
 impl<S: LocalSource, O: LocalSink> Incoming<S, O> {
@@ -93,7 +93,7 @@ impl<S: LocalSource, O: LocalSink> Incoming<S, O> {
         ensures source { S.state result.0 ≡ self.source }
         ensures host { result.1 ≡ self.host }
         ensures port { result.2 ≡ self.port }
-        ensures later { IsTrue self.source.tells → IsLater self.begun self.source }
+        ensures later { IsTrue self.source.tells → IsLaterSource self.begun self.source }
     {
         let Incoming {
             alloc: _,

@@ -1,6 +1,6 @@
 // What a response head says of the answer that it begins.
 ghost use Rattle.std.specs.Prelude.{◌≤◌, length};
-ghost use Rattle.px_pool_ends.specs.Answers.{Judges, Says};
+ghost use Rattle.px_pool_ends.specs.Answers.{Judges, JudgedSays};
 
 use px_framing::{BodyRule, response_body};
 use px_head::{HEAD_LIMIT, HeadFault, ResponseHead, is_connection_word, is_interim};
@@ -37,7 +37,7 @@ pub fn judge(alloc: Global, block: &[u8]) -> Judged
 }
 
 fn judge_head(head: &ResponseHead) -> Judged
-    ensures { Says head.now result }
+    ensures { JudgedSays head.now result }
 {
     if is_interim(head.status) {
         return Judged::Interim;

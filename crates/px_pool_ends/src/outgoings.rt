@@ -3,7 +3,7 @@ ghost use Rattle.std.specs.Prelude.{◌≡◌, ◌==◌, not, ◌<◌, ◌≤◌
 ghost use Rattle.px_base.specs.Causes.{Rose};
 ghost use Rattle.px_base.specs.Sinks.{SinkState, SinkCause, Finishes, SinkGoesOn};
 ghost use Rattle.px_pool_ends.specs.Closings.{IsMethodOf};
-ghost use Rattle.px_pool_ends.specs.Outgoings.{Sending, outer_sink, last_refusal as last_refusal_spec, Sends, StopCause, Wrote, IsSent};
+ghost use Rattle.px_pool_ends.specs.Outgoings.{Sending, outer_sink, last_refusal as last_refusal_spec, SendsBytes, StopCause, Wrote, IsSent};
 
 use crate::steps::{Step, step_on};
 use px_base::{LocalSink, LocalSource, Sink, SinkFault, Source, Text};
@@ -31,19 +31,19 @@ pub struct Outgoing<S: LocalSource, O: LocalSink> {
 }
 
 impl<S: LocalSource, O: LocalSink> Model for Outgoing<S, O> {
-    ghost use Rattle.px_pool_ends.specs.Outgoings.{Sending, Keeps};
+    ghost use Rattle.px_pool_ends.specs.Outgoings.{Sending, KeepsSending};
 
     ghost Value = { Sending };
 
     ghost view = { λ s. record { sink = O.state s.sink; begun = O.state s.begun.value; begun_in = S.state s.begun_in.value; head = s.head.value; out = s.out; at = s.at; holding = s.holding; replaced = s.replaced; method = s.method; stopped = s.stopped; faults = s.faults; finished = s.finished } };
 
-    ghost invariant = { λ s. Keeps (record { sink = O.state s.sink; begun = O.state s.begun.value; begun_in = S.state s.begun_in.value; head = s.head.value; out = s.out; at = s.at; holding = s.holding; replaced = s.replaced; method = s.method; stopped = s.stopped; faults = s.faults; finished = s.finished }) };
+    ghost invariant = { λ s. KeepsSending (record { sink = O.state s.sink; begun = O.state s.begun.value; begun_in = S.state s.begun_in.value; head = s.head.value; out = s.out; at = s.at; holding = s.holding; replaced = s.replaced; method = s.method; stopped = s.stopped; faults = s.faults; finished = s.finished }) };
 }
 
 /// Sends the bytes from a place on. It moves the place behind what was sent.
 fn send<O: LocalSink>(sink: &mut O, bytes: &[u8], at: &mut usize) -> Result<(), SinkFault>
     requires { at.old ≤ length bytes.now }
-    ensures sends { Sends (O.state sink.old) (O.state sink.new) bytes.now at.old at.new }
+    ensures sends { SendsBytes (O.state sink.old) (O.state sink.new) bytes.now at.old at.new }
     ensures all { OnOk result (at.new ≡ length bytes.now) }
     ensures cause { StopCause (O.state sink.old) (O.state sink.new) result }
 {

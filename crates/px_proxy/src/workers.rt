@@ -4,16 +4,16 @@ ghost use Rattle.std.specs.Prelude.{◌≡◌, ◌+◌, ◌<◌, ◌≤◌, [], 
 ghost use Rattle.px_publish.specs.Published.{told, receipt_pair, seen_by, reader_pair};
 ghost use Rattle.px_doors.specs.Doors.{DoorsState};
 ghost use Rattle.px_doors.specs.Conns.{conn_as, parted_as};
-ghost use Rattle.px_desk.specs.Facts.{Closes, Made, IsOut, Stands};
+ghost use Rattle.px_desk.specs.Facts.{Closes, Made, IsOut, DeskStands};
 ghost use Rattle.px_publish.specs.Views.{GoesOn};
-ghost use Rattle.px_desk.specs.Sessions.{IsNth, IsServed, ServedBy};
+ghost use Rattle.px_desk.specs.Sessions.{IsNth, IsConnServed, ServedBy};
 ghost use Rattle.px_serve.specs.Keeping.{IsStored};
 ghost use Rattle.px_desk.specs.Desks.{handed_as, made_of, StandsAfter};
 ghost use Rattle.px_desk.specs.declared.desks.ServeEnd.TheVariants.{DoorsFailed};
 
 use px_base::{Clock, Dialer, Files, Mem, Sink, Source};
 use px_config::Config;
-use px_desk::{Desk, Handed, Next, Served};
+use px_desk::{Desk, DeskNext, HandedConn, ServedDesk};
 use px_doors::{Conn, Doors, Parted};
 use px_publish::{ConfigReader, Configs, CountFull};
 use px_serve::{Store, serve_stored};
@@ -147,7 +147,7 @@ fn served<N: Making, R: Threads + Sync, S: Source, O: Sink, D: Dialer, T: Clock>
     requires learnt { task.handed < length (seen_by reader.old) }
     requires nth { IsNth N.made.doors.tells N.made.doors.conns task.number (conn_as S.state O.state D.state T.state task.conn) }
     ensures pair { reader_pair reader.new ≡ N.made.pair }
-    ensures served { IsServed N.made.doors.tells N.made.doors.conns (seen_by reader.new) (parted_as S.state O.state D.state T.state result) }
+    ensures served { IsConnServed N.made.doors.tells N.made.doors.conns (seen_by reader.new) (parted_as S.state O.state D.state T.state result) }
     ensures stored { IsStored (seen_by reader.new) store.new }
 {
     served_by(alloc, way, store, reader, task)
@@ -156,7 +156,7 @@ fn served<N: Making, R: Threads + Sync, S: Source, O: Sink, D: Dialer, T: Clock>
 /// What is to be served of a connection that was handed out, once its receipt is learnt.
 fn task_of<N: Making, S: Source, O: Sink, D: Dialer, T: Clock>(
     reader: &mut ConfigReader<Config>,
-    handed: Handed<S, O, D, T>,
+    handed: HandedConn<S, O, D, T>,
 ) -> Task<S, O, D, T>
     requires pair { reader_pair reader.old ≡ N.made.pair }
     requires receipt_pair { receipt_pair handed.receipt ≡ N.made.pair }
@@ -166,7 +166,7 @@ fn task_of<N: Making, S: Source, O: Sink, D: Dialer, T: Clock>(
     ensures number { result.number ≡ handed.number }
     ensures conn { conn_as S.state O.state D.state T.state result.conn ≡ conn_as S.state O.state D.state T.state handed.conn }
 {
-    let Handed {
+    let HandedConn {
         number,
         reload: _,
         receipt,
@@ -187,7 +187,7 @@ impl<N: Making, F: Files, A: Doors, E: Sink> Shared<N, F, A, E> {
         &mut self,
         rt: &R,
         mine: &mut Share<N>,
-    ) -> Next<A::In, A::Out, A::Dial, A::Time>
+    ) -> DeskNext<A::In, A::Out, A::Dial, A::Time>
         requires part { 0 < mine.old.parts }
         ensures parts { mine.new.parts ≡ mine.old.parts }
         ensures conn { IfSome (handed_as A.In.state A.Out.state A.Dial.state A.Time.state result) (λ h. mine.new.amount ≡ mine.old.amount + 1) }
@@ -197,11 +197,11 @@ impl<N: Making, F: Files, A: Doors, E: Sink> Shared<N, F, A, E> {
     {
         let Shared { desk, book } = self;
         match desk.next(rt) {
-            Next::Conn(handed) => {
+            DeskNext::Conn(handed) => {
                 book.add(mine, 1);
-                Next::Conn(handed)
+                DeskNext::Conn(handed)
             }
-            Next::Closed(closing) => Next::Closed(closing),
+            DeskNext::Closed(closing) => DeskNext::Closed(closing),
         }
     }
 
@@ -217,7 +217,7 @@ impl<N: Making, F: Files, A: Doors, E: Sink> Shared<N, F, A, E> {
     /// Takes a connection back.
     fn part(&mut self, mine: &mut Share<N>, parted: Parted<A::In, A::Out, A::Dial, A::Time>)
         requires out { IsOut (record { number = parted.number; handed = parted.handed }) self.old.desk.out }
-        requires served { IsServed N.made.doors.tells N.made.doors.conns self.old.desk.list (parted_as A.In.state A.Out.state A.Dial.state A.Time.state parted) }
+        requires served { IsConnServed N.made.doors.tells N.made.doors.conns self.old.desk.list (parted_as A.In.state A.Out.state A.Dial.state A.Time.state parted) }
         requires one { 0 < mine.old.amount }
         ensures parts { mine.new.parts ≡ mine.old.parts }
         ensures amount { mine.new.amount + 1 ≡ mine.old.amount }
@@ -261,8 +261,10 @@ fn take<N: Making, F: Files, A: Doors, E: Sink, R: Wait>(
     let next = desk.next(rt, mine);
     MutexGuard::unlock(desk);
     match next {
-        Next::Conn(handed) => Some(task_of::<N, A::In, A::Out, A::Dial, A::Time>(reader, handed)),
-        Next::Closed(_closing) => None,
+        DeskNext::Conn(handed) => Some(task_of::<N, A::In, A::Out, A::Dial, A::Time>(
+            reader, handed,
+        )),
+        DeskNext::Closed(_closing) => None,
     }
 }
 
@@ -275,7 +277,7 @@ fn give_back<N: Making, F: Files, A: Doors, E: Sink, R: Wait>(
     parted: Parted<A::In, A::Out, A::Dial, A::Time>,
 )
     requires pair { reader_pair reader.now ≡ N.made.pair }
-    requires served { IsServed N.made.doors.tells N.made.doors.conns (seen_by reader.now) (parted_as A.In.state A.Out.state A.Dial.state A.Time.state parted) }
+    requires served { IsConnServed N.made.doors.tells N.made.doors.conns (seen_by reader.now) (parted_as A.In.state A.Out.state A.Dial.state A.Time.state parted) }
     requires one { 0 < mine.old.amount }
     ensures parts { mine.new.parts ≡ mine.old.parts }
     ensures amount { mine.new.amount + 1 ≡ mine.old.amount }
@@ -491,7 +493,7 @@ fn serve_named<N: Making + Send + Sync, F: Files, A: Doors, E: Sink, R: Threads 
     desk: Desk<F, A, E>,
     readers: Vec<ConfigReader<Config>>,
     blank: Blank,
-) -> Served<F, A, E>
+) -> ServedDesk<F, A, E>
     requires name { blank.name ≡ N.name }
     requires parts { blank.parts ≡ N.parts }
     requires count { blank.parts ≡ vec_len readers }
@@ -516,7 +518,7 @@ pub fn serve_all<F: Files, A: Doors, E: Sink, R: Threads + Wait + Sync>(
     alloc: Global,
     desk: Desk<F, A, E>,
     readers: Vec<ConfigReader<Config>>,
-) -> Served<F, A, E>
+) -> ServedDesk<F, A, E>
     requires pair { All (λ r. reader_pair r ≡ desk.pair) readers.items }
     requires none_out { desk.out ≡ [] }
     requires some { 0 < vec_len readers }

@@ -4,7 +4,7 @@ use Rattle.std.proofs.lemmas.Bool.Decides.{nat_tests}
 use mathlib.Core.List.{IsPrefix}
 use prog.Atomic.{either}
 use Rattle.logbook.specs.Pages.{Cell, cell, keeps, no_nib, step, Moves, Goes}
-use Rattle.px_publish.specs.Lists.{IsKept, Adds}
+use Rattle.px_publish.specs.Lists.{IsKeptList, AddsToSeen}
 use Rattle.px_publish.proofs.FrontLemmas.{prefix_whole}
 
 module _ {C : Type 0} where
@@ -16,7 +16,7 @@ module _ {C : Type 0} where
 
   pub adds_goes : (log v : List C) (e : C) (old number : ℕ) → length v ≡ old + 1 → length log ≡ number + 1 → IsPrefix v log
       → (b : Bool) → (number == old) ≡ b
-      → Goes IsKept shown moved 0 (v, (no_nib, None)) (λ n. either (n == old) (old + 1) n) (Adds (step 0 old (old + 1) e) (v, (no_nib, None))) ((number, true) ∷ []) log
+      → Goes IsKeptList shown moved 0 (v, (no_nib, None)) (λ n. either (n == old) (old + 1) n) (AddsToSeen (step 0 old (old + 1) e) (v, (no_nib, None))) ((number, true) ∷ []) log
   adds_goes log v e old number len newest pre true is =
       let here : number ≡ old = grind (arith, nat_tests) in
       let same : v ≡ log = prefix_whole v log pre (omega arith) in
@@ -42,7 +42,7 @@ module _ {C : Type 0} where
       )
 
   pub adds_moves : (v : List C) (e : C) (old : ℕ) → length v ≡ old + 1
-      → Moves IsKept shown moved 0 (v, (no_nib, None)) (λ n. either (n == old) (old + 1) n) (Adds (step 0 old (old + 1) e) (v, (no_nib, None)))
+      → Moves IsKeptList shown moved 0 (v, (no_nib, None)) (λ n. either (n == old) (old + 1) n) (AddsToSeen (step 0 old (old + 1) e) (v, (no_nib, None)))
   adds_moves v e old len cs log kept pre away =
-      let P : List Cell → Type 0 = λ c. (0 < length c) × ((cell c 0).1 ≡ true) × Goes IsKept shown moved 0 (v, (no_nib, None)) (λ n. either (n == old) (old + 1) n) (Adds (step 0 old (old + 1) e) (v, (no_nib, None))) c log in
+      let P : List Cell → Type 0 = λ c. (0 < length c) × ((cell c 0).1 ≡ true) × Goes IsKeptList shown moved 0 (v, (no_nib, None)) (λ n. either (n == old) (old + 1) n) (AddsToSeen (step 0 old (old + 1) e) (v, (no_nib, None))) c log in
       subst P (sym kept.word) (omega arith, refl, adds_goes log v e old kept.number len kept.newest pre (kept.number == old) refl)

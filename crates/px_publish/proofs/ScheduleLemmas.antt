@@ -1,7 +1,7 @@
 -- The schedule core, over every list of events.
 use Rattle.std.proofs.Common.{◌≡◌, ℕ, zero, suc, ◌+◌, ◌-◌, ◌≤◌, ◌==◌, Bool, true, false, List, [], ◌∷◌, ◌++◌, length, take, map, All, Contains, refl, ap, sym, subst, arith, length-append}
 use Rattle.std.proofs.lemmas.Bool.Decides.{nat_tests}
-use Rattle.px_publish.specs.Schedule.{Session, Core, Event, Publish, HandOut, Use, newest, start, with_seen, with_used, after, MayCome, run, MayAllCome, Rises, begun_since}
+use Rattle.px_publish.specs.Schedule.{Session, Core, Event, Publish, HandOut, Use, newest, start, with_seen, with_used, core_after, MayCome, run, MayAllCome, Rises, begun_since}
 
 all_cons : {A : Type 0} (P : A → Type 0) (x : A) (xs : List A) → P x → All P xs → All P (x ∷ xs)
 all_cons P x xs p all zero d lt = p
@@ -95,7 +95,7 @@ used_sound seen worker number (s ∷ ss) le all = by_test (s.worker == worker) r
         (rises_up s.handed (seen s.worker) (with_seen seen worker number s.worker) s.numbers old (seen_rises seen worker number s.worker le)) rest)
 
 module _ {C : Type 0} where
-  kept_after : (core : Core C) (event : Event C) → MayCome core event → Kept core → Kept (after core event)
+  kept_after : (core : Core C) (event : Event C) → MayCome core event → Kept core → Kept (core_after core event)
   kept_after core (Publish config) may k =
       let some = k.some in
       let len : length (core.published ++ config ∷ []) ≡ length core.published + 1 = length-append core.published (config ∷ []) in record {
@@ -118,7 +118,7 @@ module _ {C : Type 0} where
 
   kept_run : (core : Core C) (events : List (Event C)) → MayAllCome core events → Kept core → Kept (run core events)
   kept_run core [] may k = k
-  kept_run core (event ∷ events) may k = kept_run (after core event) events may.1 (kept_after core event may.0 k)
+  kept_run core (event ∷ events) may k = kept_run (core_after core event) events may.1 (kept_after core event may.0 k)
 
   kept_start : (first : C) → Kept (start first)
   kept_start first = record { some = refl; seen = λ w. omega arith; sound = all_none (Sound (λ _. 0)) }
@@ -131,14 +131,14 @@ module _ {C : Type 0} where
       all_mapped (Sound core.seen) (λ (s : Session). Rises s.handed s.numbers (newest core)) core.sessions
       (λ s r. rises_up s.handed (core.seen s.worker) (newest core) s.numbers r (k.seen s.worker)) k.sound
 
-  some_after : (core : Core C) (event : Event C) → length core.published ≡ newest core + 1 → length (after core event).published ≡ newest (after core event) + 1
+  some_after : (core : Core C) (event : Event C) → length core.published ≡ newest core + 1 → length (core_after core event).published ≡ newest (core_after core event) + 1
   some_after core (Publish config) e = omega (arith, length-append core.published (config ∷ []))
   some_after core (HandOut worker) e = e
   some_after core (Use worker number) e = e
 
   some_run : (core : Core C) (events : List (Event C)) → length core.published ≡ newest core + 1 → length (run core events).published ≡ newest (run core events) + 1
   some_run core [] e = e
-  some_run core (event ∷ events) e = some_run (after core event) events (some_after core event e)
+  some_run core (event ∷ events) e = some_run (core_after core event) events (some_after core event e)
 
   pub some_published : (first : C) (events : List (Event C)) → length (run (start first) events).published ≡ newest (run (start first) events) + 1
   some_published first events = some_run (start first) events refl
@@ -192,22 +192,22 @@ hands_length (s ∷ ss) = ap suc (hands_length ss)
 
 module _ {C : Type 0} where
   late_after : (core : Core C) (event : Event C) (n m : ℕ) → m ≤ newest core → Late n m (hands core.sessions)
-      → Late n m (hands (after core event).sessions) × (m ≤ newest (after core event))
+      → Late n m (hands (core_after core event).sessions) × (m ≤ newest (core_after core event))
   late_after core (Publish config) n m le l = (l, omega (arith, length-append core.published (config ∷ [])))
   late_after core (HandOut worker) n m le l = (late_more n m (newest core) (hands core.sessions) le l, le)
   late_after core (Use worker number) n m le l = (subst (λ hs. Late n m hs) (sym (used_hands worker number core.sessions)) l, le)
 
   late_run : (core : Core C) (events : List (Event C)) (n m : ℕ) → m ≤ newest core → Late n m (hands core.sessions) → Late n m (hands (run core events).sessions)
   late_run core [] n m le l = l
-  late_run core (event ∷ events) n m le l = let next = late_after core event n m le l in late_run (after core event) events n m next.1 next.0
+  late_run core (event ∷ events) n m le l = let next = late_after core event n m le l in late_run (core_after core event) events n m next.1 next.0
 
   run_append : (core : Core C) (before events : List (Event C)) → run core (before ++ events) ≡ run (run core before) events
   run_append core [] events = refl
-  run_append core (event ∷ before) events = run_append (after core event) before events
+  run_append core (event ∷ before) events = run_append (core_after core event) before events
 
   front_may : (core : Core C) (before events : List (Event C)) → MayAllCome core (before ++ events) → MayAllCome core before
   front_may core [] events may = tt
-  front_may core (event ∷ before) events may = (may.0, front_may (after core event) before events may.1)
+  front_may core (event ∷ before) events may = (may.0, front_may (core_after core event) before events may.1)
 
   begun_late : (old : Core C) (events : List (Event C)) (m : ℕ) → m ≤ newest old → All (λ (s : Session). m ≤ s.handed) (begun_since old (run old events))
   begun_late old events m le =

@@ -4,11 +4,11 @@ use Rattle.left_right.specs.declared.Absorb.{Ghosts}
 use Rattle.px_publish.specs.Views.{Pair}
 use Rattle.px_publish.specs.declared.publishers.Publisher.{Publisher}
 use Rattle.px_publish.specs.declared.readers.ConfigReader.{ConfigReader}
-use Rattle.px_publish.specs.declared.shared.Shared.{Shared}
+use Rattle.px_publish.specs.declared.shared.SharedList.{SharedList}
 use Rattle.px_publish.specs.declared.receipts.Receipt.{Receipt}
 
 -- S and g are the library's view of what is shared, which says nothing here
-module _ {C S : Type 0} {g : Ghosts (Shared C) (Shared C) S} where
+module _ {C S : Type 0} {g : Ghosts (SharedList C) (SharedList C) S} where
   -- the published list
   abbrev pub published : Publisher C S g → List C
   published p = p.newest.front.seen.log

@@ -38,14 +38,14 @@ abbrev pub with_used : ℕ → ℕ → List Session → List Session
 with_used worker number [] = []
 with_used worker number (s ∷ ss) = if s.worker == worker then (record { worker = s.worker; handed = s.handed; numbers = s.numbers ++ number ∷ [] }) ∷ ss else s ∷ with_used worker number ss
 
-abbrev pub after : {C : Type 0} → Core C → Event C → Core C
-after core (Publish config) = record { published = core.published ++ config ∷ []; seen = core.seen; sessions = core.sessions }
-after core (HandOut worker) = record {
+abbrev pub core_after : {C : Type 0} → Core C → Event C → Core C
+core_after core (Publish config) = record { published = core.published ++ config ∷ []; seen = core.seen; sessions = core.sessions }
+core_after core (HandOut worker) = record {
   published = core.published;
   seen = with_seen core.seen worker (newest core);
   sessions = (record { worker = worker; handed = newest core; numbers = [] }) ∷ core.sessions;
 }
-after core (Use worker number) = record {
+core_after core (Use worker number) = record {
   published = core.published;
   seen = with_seen core.seen worker number;
   sessions = with_used worker number core.sessions;
@@ -59,11 +59,11 @@ MayCome core (Use worker number) = ((s : Session) × Contains core.sessions s ×
 
 abbrev pub run : {C : Type 0} → Core C → List (Event C) → Core C
 run core [] = core
-run core (event ∷ events) = run (after core event) events
+run core (event ∷ events) = run (core_after core event) events
 
 abbrev pub MayAllCome : {C : Type 0} → Core C → List (Event C) → Type 0
 MayAllCome core [] = ⊤
-MayAllCome core (event ∷ events) = MayCome core event × MayAllCome (after core event) events
+MayAllCome core (event ∷ events) = MayCome core event × MayAllCome (core_after core event) events
 
 -- the numbers never fall; none is below the first number, nor above the last
 abbrev pub Rises : ℕ → List ℕ → ℕ → Type 0

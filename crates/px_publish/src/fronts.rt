@@ -13,9 +13,9 @@ pub struct Law<C> {
 impl<C> Rule<C, ()> for Law<C> {
     ghost use Rattle.std.specs.Prelude.{[]};
     ghost use base.Fml.{ftrue};
-    ghost use Rattle.px_publish.specs.Lists.{IsKept};
+    ghost use Rattle.px_publish.specs.Lists.{IsKeptList};
 
-    ghost holds = { λ cells log. IsKept cells log };
+    ghost holds = { λ cells log. IsKeptList cells log };
 
     ghost first = { [] };
 
@@ -50,9 +50,9 @@ impl<C> Gain<C, ()> for Nothing {
 struct Add;
 
 impl<C> Play<C, ()> for Add {
-    ghost use Rattle.px_publish.specs.Lists.{Adds};
+    ghost use Rattle.px_publish.specs.Lists.{AddsToSeen};
 
-    ghost then = { Adds };
+    ghost then = { AddsToSeen };
 }
 
 impl<C> Plain<C, C, ()> for Add {
@@ -72,14 +72,14 @@ pub struct Head<C> {
 
 /// A beginning of the list that was seen, with the number of its last entry.
 #[derive(Drop)]
-pub struct Front<C> {
+pub struct ListFront<C> {
     pub number: u64,
     pub seen: Seen<C, (), Law<C>>,
     pub ghost newest: { length seen.log ≡ number + 1 },
 }
 
 /// A new list of one entry. It takes no memory.
-pub fn open<C>(first: &C) -> (Head<C>, Front<C>)
+pub fn open<C>(first: &C) -> (Head<C>, ListFront<C>)
     ensures pair { result.0.word.book ≡ result.1.seen.book }
     ensures list { result.1.seen.log ≡ first.now ∷ [] }
     ensures last { slice_get result.1.seen.log result.1.number ≡ Some first.now }
@@ -87,22 +87,22 @@ pub fn open<C>(first: &C) -> (Head<C>, Front<C>)
     let (seen, mut pens) = Seen::open_row::<C, Alone>(first, Start::alone(), 1);
     let mut pen = pens.take();
     let word = Word::tracked(0, &mut pen);
-    (Head { word }, Front { number: 0, seen })
+    (Head { word }, ListFront { number: 0, seen })
 }
 
-impl<C> Front<C> {
+impl<C> ListFront<C> {
     /// A copy.
-    pub fn again(&self) -> Front<C>
+    pub fn again(&self) -> ListFront<C>
         ensures { result ≡ self.now }
     {
-        Front {
+        ListFront {
             number: self.number,
             seen: self.seen.again(),
         }
     }
 
     /// Whether it is shorter than the other, of the same list. The one that isn't longer begins the other.
-    pub fn is_behind(&self, other: &Front<C>) -> bool
+    pub fn is_behind(&self, other: &ListFront<C>) -> bool
         requires { other.now.seen.book ≡ self.now.seen.book }
         ensures exact { IsTrue result ↔ (length self.now.seen.log < length other.now.seen.log) }
         ensures behind { IsTrue result → IsPrefix self.now.seen.log other.now.seen.log }
@@ -132,7 +132,7 @@ impl<C> Front<C> {
         if found != number {
             return false;
         }
-        *self = Front {
+        *self = ListFront {
             number: number + 1,
             seen,
         };

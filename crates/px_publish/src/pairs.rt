@@ -6,7 +6,7 @@ ghost use Rattle.px_publish.specs.Published.{published, pair_of, seen_by, reader
 use crate::fronts::open;
 use crate::publishers::Publisher;
 use crate::readers::ConfigReader;
-use crate::shared::{Held, Shared};
+use crate::shared::{Held, SharedList};
 use crate::writers::{readers, show};
 use left_right::writer::Writer;
 use px_base::Mem;
@@ -35,11 +35,11 @@ pub fn publish_pair<C: Drop, R: Wait>(
     };
     let writer = Writer::new(
         alloc,
-        Shared::of(&newest),
-        Shared::of(&newest),
+        SharedList::of(&newest),
+        SharedList::of(&newest),
         count as usize,
     )?;
-    let (mut writer, told) = show(rt, writer, Shared::of(&newest));
+    let (mut writer, told) = show(rt, writer, SharedList::of(&newest));
     if !told {
         drop(Publisher::over(writer, head, newest).end(rt));
         return Err(Mem);

@@ -9,7 +9,7 @@ use crate::fronts::Head;
 use crate::readers::ConfigReader;
 use crate::receipts::Receipt;
 use crate::rules::ListWriter;
-use crate::shared::{Held, Shared};
+use crate::shared::{Held, SharedList};
 use crate::writers::show;
 use core::mem::replace_with;
 use left_right::Absorb;
@@ -19,7 +19,7 @@ use std::sync::{Arc, Wait};
 /// The one publisher of a pair. It isn't dropped: `end` gives it up.
 pub struct Publisher<C: Drop>
 where
-    Shared<C>: Absorb<Shared<C>>,
+    SharedList<C>: Absorb<SharedList<C>>,
 {
     writer: ListWriter<C>,
     head: Head<C>,
@@ -30,12 +30,12 @@ where
 }
 
 impl<C: Drop> Publisher<C> {
-    ghost use Rattle.px_publish.specs.Rules.{Begins};
+    ghost use Rattle.px_publish.specs.Rules.{BeginsSameList};
     ghost use Rattle.px_publish.specs.Published.{published, pair_of, told, receipt_pair, seen_by, reader_pair};
 
     pub(crate) fn over(writer: ListWriter<C>, head: Head<C>, newest: Held<C>) -> Publisher<C>
         requires pair { head.word.book ≡ newest.front.seen.book }
-        requires shown { Begins writer.desk.shown.value.front.seen newest.front.seen }
+        requires shown { BeginsSameList writer.desk.shown.value.front.seen newest.front.seen }
         ensures { result.newest ≡ newest }
     {
         Publisher {
@@ -103,7 +103,7 @@ impl<C: Drop> Publisher<C> {
             front: front.again(),
         });
         let newest = Held { config, front };
-        let (writer, _) = show(rt, writer, Shared::of(&newest));
+        let (writer, _) = show(rt, writer, SharedList::of(&newest));
         (Publisher::over(writer, head, newest), Ok(receipt))
     }
 

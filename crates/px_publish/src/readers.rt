@@ -4,10 +4,10 @@ ghost use Rattle.left_right.specs.Sides.{view};
 ghost use Rattle.px_publish.specs.Views.{GoesOn};
 
 use crate::configs::{Configs, CountFull, Snapshot, another_owner};
-use crate::fronts::{Front, Law};
+use crate::fronts::{Law, ListFront};
 use crate::receipts::Receipt;
 use crate::rules::{ListReader, Seeing};
-use crate::shared::{Held, Shared};
+use crate::shared::{Held, SharedList};
 use core::mem::replace_with;
 use logbook::Seen;
 use std::sync::Arc;
@@ -26,7 +26,7 @@ pub struct ConfigReader<C: Drop> {
 }
 
 /// The newer of the two, where the shared entry can have one more owner.
-fn newer<C: Drop>(shared: &Shared<C>, held: Held<C>) -> Held<C>
+fn newer<C: Drop>(shared: &SharedList<C>, held: Held<C>) -> Held<C>
     requires { shared.now.front.seen.book ≡ held.front.seen.book }
     ensures pair { result.front.seen.book ≡ held.front.seen.book }
     ensures goes_on { GoesOn held.front.seen.log result.front.seen.log }
@@ -59,7 +59,7 @@ impl<C: Drop> ConfigReader<C> {
     }
 
     /// What it has seen of the published list.
-    pub(crate) fn front(&self) -> &Front<C>
+    pub(crate) fn front(&self) -> &ListFront<C>
         ensures { result.now ≡ self.now.held.front }
     {
         &self.held.front

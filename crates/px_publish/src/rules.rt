@@ -3,7 +3,7 @@ ghost use Rattle.std.specs.Prelude.{None};
 ghost use Rattle.px_publish.specs.Rules.{EachBegins, Sees};
 
 use crate::fronts::Law;
-use crate::shared::Shared;
+use crate::shared::SharedList;
 use atomic_table::{Join, Split};
 use crossbeam_utils::rule::{Outcome, Protocol};
 use left_right::reader::Reader;
@@ -19,7 +19,7 @@ pub struct Prefixes<C> {
     of: PhantomData<C>,
 }
 
-impl<C: Drop> Protocol<Shared<C>, Knowledge<C>> for Prefixes<C> {
+impl<C: Drop> Protocol<SharedList<C>, Knowledge<C>> for Prefixes<C> {
     ghost holds = { EachBegins };
 
     ghost first = { None };
@@ -28,7 +28,7 @@ impl<C: Drop> Protocol<Shared<C>, Knowledge<C>> for Prefixes<C> {
 /// A look or a publish: afterwards all that is shared is known.
 pub struct Seeing;
 
-impl<C: Drop> Outcome<Shared<C>, Knowledge<C>> for Seeing {
+impl<C: Drop> Outcome<SharedList<C>, Knowledge<C>> for Seeing {
     ghost then = { Sees };
 }
 
@@ -52,6 +52,6 @@ impl<C> Join<Knowledge<C>> for Taken {
     ghost spent = { None };
 }
 
-pub type ListReader<C> = Reader<Shared<C>, Knowledge<C>, Prefixes<C>>;
+pub type ListReader<C> = Reader<SharedList<C>, Knowledge<C>, Prefixes<C>>;
 
-pub type ListWriter<C> = Writer<Shared<C>, Shared<C>, Knowledge<C>, Prefixes<C>>;
+pub type ListWriter<C> = Writer<SharedList<C>, SharedList<C>, Knowledge<C>, Prefixes<C>>;

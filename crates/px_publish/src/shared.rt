@@ -4,7 +4,7 @@ ghost use Rattle.std.specs.Option.{ForSome};
 ghost use Rattle.std.specs.Arc.{arc_value};
 
 use crate::configs::{CountFull, another_owner};
-use crate::fronts::{Front, Law};
+use crate::fronts::{Law, ListFront};
 use left_right::Absorb;
 use logbook::Seen;
 use std::alloc::AllocError;
@@ -14,7 +14,7 @@ use std::sync::Arc;
 #[derive(Drop)]
 pub struct Held<C: Drop> {
     pub config: Arc<C>,
-    pub front: Front<C>,
+    pub front: ListFront<C>,
     pub ghost last: { slice_get front.seen.log front.number ≡ Some (arc_value config) },
 }
 
@@ -33,25 +33,25 @@ impl<C: Drop> Held<C> {
 
 /// The newest entry, and the list that it ends. The entry is missing where one more owner can't be counted.
 #[derive(Drop)]
-pub struct Shared<C: Drop> {
-    pub front: Front<C>,
+pub struct SharedList<C: Drop> {
+    pub front: ListFront<C>,
     pub config: Option<Arc<C>>,
     pub ghost last: { ForSome config (λ a. slice_get front.seen.log front.number ≡ Some (arc_value a)) },
 }
 
-impl<C: Drop> Shared<C> {
+impl<C: Drop> SharedList<C> {
     /// What is shared of an entry.
-    pub fn of(held: &Held<C>) -> Shared<C>
+    pub fn of(held: &Held<C>) -> SharedList<C>
         ensures { result.front ≡ held.now.front }
     {
-        Shared {
+        SharedList {
             front: held.front.again(),
             config: another_owner(&held.config).ok(),
         }
     }
 }
 
-impl<C: Drop> Absorb<Shared<C>> for Shared<C> {
+impl<C: Drop> Absorb<SharedList<C>> for SharedList<C> {
     type State = Seen<C, (), Law<C>>;
 
     ghost state = { λ s. s.front.seen };
@@ -62,14 +62,14 @@ impl<C: Drop> Absorb<Shared<C>> for Shared<C> {
 
     fn absorb_first(
         &mut self,
-        operation: &Shared<C>,
-        _other: &Shared<C>,
+        operation: &SharedList<C>,
+        _other: &SharedList<C>,
     ) -> Result<(), AllocError> {
         let config = match &operation.config {
             Some(config) => another_owner(config).ok(),
             None => None,
         };
-        *self = Shared {
+        *self = SharedList {
             front: operation.front.again(),
             config,
         };

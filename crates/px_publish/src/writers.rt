@@ -1,11 +1,11 @@
 // What the writer of a pair does with the library.
 ghost use Rattle.std.specs.Prelude.{◌≡◌, ◌≤◌, Some, IsTrue, IsFalse, IfOk, All, vec_len};
 ghost use Rattle.left_right.specs.Sides.{view};
-ghost use Rattle.px_publish.specs.Rules.{Begins};
+ghost use Rattle.px_publish.specs.Rules.{BeginsSameList};
 
 use crate::readers::ConfigReader;
 use crate::rules::{ListWriter, Seeing, Taken, Whole};
-use crate::shared::{Held, Shared};
+use crate::shared::{Held, SharedList};
 use px_base::Mem;
 use std::alloc::Global;
 use std::sync::Wait;
@@ -14,10 +14,10 @@ use std::sync::Wait;
 pub fn show<C: Drop, R: Wait>(
     rt: &R,
     mut writer: ListWriter<C>,
-    entry: Shared<C>,
+    entry: SharedList<C>,
 ) -> (ListWriter<C>, bool)
-    requires { Begins writer.desk.shown.value.front.seen entry.front.seen }
-    ensures shown { Begins result.0.desk.shown.value.front.seen entry.front.seen }
+    requires { BeginsSameList writer.desk.shown.value.front.seen entry.front.seen }
+    ensures shown { BeginsSameList result.0.desk.shown.value.front.seen entry.front.seen }
     ensures told { IsTrue result.1 → view result.0.desk.place ≡ Some entry.front.seen }
 {
     match writer.append(entry) {

@@ -2,10 +2,10 @@
 use Rattle.std.proofs.Common.{◌≡◌, ℕ, zero, suc, ◌+◌, ◌-◌, ◌<◌, ◌≤◌, nat_lt, ◌↔◌, ◌⊎◌, true, false, List, [], ◌++◌, length, take, drop, drop-drop, Option, Some, None, Result, Ok, Err, sym, ◌∙◌, refl, subst, arith, inl, inr, append_assoc, length-drop}
 use Rattle.std.proofs.lemmas.List.{take-append-le, drop-append-le, length-take-le}
 use Rattle.px_head.specs.declared.TheConstants.{HEAD_LIMIT}
-use Rattle.px_head.specs.Blocks.{head_end, block_len, block_of, lines_of}
+use Rattle.px_head.specs.Blocks.{head_end, block_len, block_of, whole_lines}
 use Rattle.px_head.specs.Heads.{IsResponse, is_interim}
 use Rattle.px_head.specs.Searches.{BeginsSearched, Searched}
-use Rattle.px_head.specs.Faults.{IsReadAs}
+use Rattle.px_head.specs.Faults.{IsHeadReadAs}
 use Rattle.px_head.specs.declared.searches.HeadSearch.{HeadSearch}
 use Rattle.px_head.specs.declared.blocks.HeadEnd.TheVariants as end
 use Rattle.px_head.specs.declared.faults.HeadFault.{HeadFault}
@@ -14,16 +14,16 @@ use Rattle.px_head.specs.declared.responses.ResponseHead.{ResponseHead}
 use Rattle.px_framing.specs.declared.rules.BodyRule.{BodyRule}
 use Rattle.px_pumps.specs.declared.heads.HeadRead.{HeadRead}
 use Rattle.px_pumps.specs.declared.heads.HeadRead.TheVariants as read
-use Rattle.px_pumps.specs.Answering.{Seen, Waiting, Bad, Good, Reads, Shows, ShowsRead, ShowsBlock, seen_final}
-use Rattle.px_pumps.specs.Heads.{ShowsOnly, Leads, IsWaiting, seen_of, IsFinal, EndsBehind, BlockShows, HeadShows, ReadsHead, AtHead, Waits, heads_room}
+use Rattle.px_pumps.specs.Answering.{Seen, Waiting, Bad, Good, ReadsAsHead, Shows, ShowsRead, ShowsBlock, seen_final}
+use Rattle.px_pumps.specs.Heads.{ShowsOnly, LeadsPastInterims, IsWaiting, seen_of, IsFinalRead, EndsBehind, BlockShows, HeadShows, ReadsHead, AtHead, Waits, heads_room}
 
 -- one reading of a block is its only one
-only_reading : (block : List ℕ) (one : Option ResponseHead) → Reads block one → ((other : ResponseHead) → IsResponse block other → Some other ≡ one) → (o : Option ResponseHead) → Reads block o → o ≡ one
+only_reading : (block : List ℕ) (one : Option ResponseHead) → ReadsAsHead block one → ((other : ResponseHead) → IsResponse block other → Some other ≡ one) → (o : Option ResponseHead) → ReadsAsHead block o → o ≡ one
 only_reading block one r same (Some other) h = same other h
 only_reading block None r same None h = refl
 only_reading block (Some head) r same None h = absurd (h head r)
 
-pub block_shown : (method block : List ℕ) (one : Option ResponseHead) → Reads block one → ((other : ResponseHead) → IsResponse block other → Some other ≡ one)
+pub block_shown : (method block : List ℕ) (one : Option ResponseHead) → ReadsAsHead block one → ((other : ResponseHead) → IsResponse block other → Some other ≡ one)
     → (n : ℕ) (rest : List ℕ) (seen : Seen) → ShowsRead (Shows n method) method one rest seen ↔ ShowsBlock (Shows n method) method block rest seen
 block_shown method block one r same n rest seen = (
   λ s. record { reading = one; reads = r; shows = s },
@@ -31,12 +31,12 @@ block_shown method block one r same n rest seen = (
 )
 
 -- a block that was read
-pub read_only : (result : Result ResponseHead HeadFault) (head other : ResponseHead) → result ≡ Ok head → IsReadAs result other → Some other ≡ Some head
+pub read_only : (result : Result ResponseHead HeadFault) (head other : ResponseHead) → result ≡ Ok head → IsHeadReadAs result other → Some other ≡ Some head
 read_only result head other e (inl same) = cc
 read_only result head other e (inr mem) = absurd (cc)
 
 -- a block that was refused
-pub not_read : (result : Result ResponseHead HeadFault) (f : HeadFault) (other : ResponseHead) → result ≡ Err f → (f ≡ fault.Mem → ⊥) → IsReadAs result other → ⊥
+pub not_read : (result : Result ResponseHead HeadFault) (f : HeadFault) (other : ResponseHead) → result ≡ Err f → (f ≡ fault.Mem → ⊥) → IsHeadReadAs result other → ⊥
 not_read result f other e n (inl same) = absurd (cc)
 not_read result f other e n (inr mem) = n (cc)
 
@@ -47,7 +47,7 @@ pub shown_interim : (method block : List ℕ) (head : ResponseHead) (count : ℕ
 shown_interim method block head count e h n rest seen = rw e at (h n rest seen)
 
 -- the answer's own head
-pub shown_final : (method block : List ℕ) (head : ResponseHead) (r : HeadRead) → is_interim head.status ≡ false → IsFinal r → ((rest : List ℕ) → seen_of r rest ≡ seen_final method head rest)
+pub shown_final : (method block : List ℕ) (head : ResponseHead) (r : HeadRead) → is_interim head.status ≡ false → IsFinalRead r → ((rest : List ℕ) → seen_of r rest ≡ seen_final method head rest)
     → ((n : ℕ) (rest : List ℕ) (seen : Seen) → ShowsRead (Shows n method) method (Some head) rest seen ↔ ShowsBlock (Shows n method) method block rest seen)
     → BlockShows method block r
 shown_final method block head read.NotYet e k s h n rest seen = absurd k
@@ -86,8 +86,8 @@ over_shows method bytes over = record {
 }
 
 -- behind an interim head
-pub leads_on : (n m from k : ℕ) (method bytes : List ℕ) → 0 < m → Leads n method bytes m (drop from bytes) → HeadShows method (drop from bytes) (read.Interim k) k
-    → Leads n method bytes (m - 1) (drop (from + k) bytes)
+pub leads_on : (n m from k : ℕ) (method bytes : List ℕ) → 0 < m → LeadsPastInterims n method bytes m (drop from bytes) → HeadShows method (drop from bytes) (read.Interim k) k
+    → LeadsPastInterims n method bytes (m - 1) (drop (from + k) bytes)
 leads_on n zero from k method bytes some l h = absurd (omega arith)
 leads_on n (suc m) from k method bytes some l h =
     let e : suc m - 1 ≡ m = omega arith in
@@ -151,22 +151,22 @@ shows_waiting zero method held some w = absurd (omega arith)
 shows_waiting (suc n) method held some w = record { shows = rw (w.0) refl; only = λ other s. rw (w.0) at s }
 
 -- what bytes show that lead to others
-pub leads_only : (n m : ℕ) (method bytes rest more : List ℕ) (seen : Seen) → Leads n method bytes m rest → ShowsOnly m method (rest ++ more) seen → ShowsOnly n method (bytes ++ more) seen
+pub leads_only : (n m : ℕ) (method bytes rest more : List ℕ) (seen : Seen) → LeadsPastInterims n method bytes m rest → ShowsOnly m method (rest ++ more) seen → ShowsOnly n method (bytes ++ more) seen
 leads_only n m method bytes rest more seen l s = record { shows = (l more seen).0 s.shows; only = λ other x. s.only other ((l more other).1 x) }
 
-pub leads_over : (n m k : ℕ) (method bytes rest last : List ℕ) → Leads n method bytes m rest → Leads m method rest k last → Leads n method bytes k last
+pub leads_over : (n m k : ℕ) (method bytes rest last : List ℕ) → LeadsPastInterims n method bytes m rest → LeadsPastInterims m method rest k last → LeadsPastInterims n method bytes k last
 leads_over n m k method bytes rest last l j more seen = (λ s. (l more seen).0 ((j more seen).0 s), λ s. (j more seen).1 ((l more seen).1 s))
 
 -- and with more bytes
-pub leads_more : (n m : ℕ) (method bytes rest piece : List ℕ) → Leads n method bytes m rest → Leads n method (bytes ++ piece) m (rest ++ piece)
+pub leads_more : (n m : ℕ) (method bytes rest piece : List ℕ) → LeadsPastInterims n method bytes m rest → LeadsPastInterims n method (bytes ++ piece) m (rest ++ piece)
 leads_more n m method bytes rest piece l more seen = rw (append_assoc rest piece more, append_assoc bytes piece more) (l (piece ++ more) seen)
 
-pub leads_self : (n : ℕ) (method bytes : List ℕ) → Leads n method bytes n bytes
+pub leads_self : (n : ℕ) (method bytes : List ℕ) → LeadsPastInterims n method bytes n bytes
 leads_self n method bytes more seen = (λ s. s, λ s. s)
 
 -- no bytes, by whatever limit but 0: at a limit as large as that of a head it would be computed step by step
 none_ends : (less : ℕ) → nat_lt 0 (suc less) ≡ true → head_end (suc less) [] ≡ end.NotYet
-unfolding head_end block_len block_of lines_of
+unfolding head_end block_len block_of whole_lines
 none_ends less h = rw h refl
 
 some_within : (limit : ℕ) → 0 < limit → length {A = ℕ} [] < limit

@@ -14,7 +14,7 @@ use Rattle.px_pumps.specs.declared.talks.Talked.TheVariants as talked
 use Rattle.px_pumps.specs.Answering.{Ask}
 use Rattle.px_pumps.specs.Pumps.{Pumping, PumpAfter}
 use Rattle.px_pumps.specs.Returning.{TalkCause, WriteCause, IsHeard}
-use Rattle.px_pumps.specs.Hearing.{FaultCause, Flowing, Hears, HeardOut, talk_refused}
+use Rattle.px_pumps.specs.Hearing.{PutFaultCause, Flowing, Hears, HeardOut, talk_refused}
 use Rattle.px_pumps.proofs.HearingLemmas.{in_goes_on, out_goes_on}
 
 write_cause : (o p q : SinkState) (x : After) → p.faults ≡ o.faults → WriteCause p q x → WriteCause o q x
@@ -30,7 +30,7 @@ talk_cause o p q (talked.Page g) same h = h ∙ same
 talk_cause o p q (talked.Ended x) same h = write_cause o p q x.after same h
 
 -- the cause of a write that was refused
-pub refused_cause : (o p : SinkState) (e : SinkFault) → FaultCause o p e → TalkCause o p (talk_refused e)
+pub refused_cause : (o p : SinkState) (e : SinkFault) → PutFaultCause o p e → TalkCause o p (talk_refused e)
 refused_cause o p fault.Failed h = h
 refused_cause o p fault.Mem h = h
 

@@ -36,15 +36,15 @@ abbrev pub after_whole : Bool → After
 after_whole keep = if keep then after.Keep else after.Close
 
 -- the ending of an answer that is returned so
-abbrev pub ending_of : Returned → Ending
-ending_of returned.Passed = ending.Passed
-ending_of returned.Filtered = ending.Filtered
-ending_of returned.Bodiless = ending.Bodiless
-ending_of returned.CutFront = ending.CutFront
+abbrev pub returned_ending : Returned → Ending
+returned_ending returned.Passed = ending.Passed
+returned_ending returned.Filtered = ending.Filtered
+returned_ending returned.Bodiless = ending.Bodiless
+returned_ending returned.CutFront = ending.CutFront
 
 -- what is due for an answer that is returned
-abbrev pub due_by : answers.Due → Due
-due_by d = record { bytes = d.bytes; ending = ending_of d.outcome.returned; after = after_whole d.outcome.keep }
+abbrev pub due_by : answers.FinishedAnswer → Due
+due_by d = record { bytes = d.bytes; ending = returned_ending d.outcome.returned; after = after_whole d.outcome.keep }
 
 -- what the bytes of an answer show: no whole head yet, none that is returned, or a head, its body's rule, and what stands behind it
 pub data Seen : Type 0 where
@@ -53,9 +53,9 @@ pub data Seen : Type 0 where
   Good : ResponseHead → BodyRule → List ℕ → Seen
 
 -- the block reads as that head, or it is none that is read
-abbrev pub Reads : List ℕ → Option ResponseHead → Type 0
-Reads block (Some head) = IsResponse block head
-Reads block None = (head : ResponseHead) → ¬ (IsResponse block head)
+abbrev pub ReadsAsHead : List ℕ → Option ResponseHead → Type 0
+ReadsAsHead block (Some head) = IsResponse block head
+ReadsAsHead block None = (head : ResponseHead) → ¬ (IsResponse block head)
 
 abbrev pub seen_by : ResponseHead → Result BodyRule BodyFault → List ℕ → Seen
 seen_by head (Ok r) rest = Good head r rest
@@ -73,7 +73,7 @@ ShowsRead Behind method (Some head) rest seen = MatchBool (is_interim head.statu
 -- what a block and the bytes behind it show
 pub record ShowsBlock (Behind : List ℕ → Seen → Type 0) (method block rest : List ℕ) (seen : Seen) : Type 0 where
   pub reading : Option ResponseHead
-  pub reads : Reads block reading
+  pub reads : ReadsAsHead block reading
   pub shows : ShowsRead Behind method reading rest seen
 
 abbrev pub ShowsAt : (List ℕ → Seen → Type 0) → List ℕ → HeadEnd → List ℕ → Seen → Type 0

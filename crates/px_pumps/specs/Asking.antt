@@ -4,7 +4,7 @@ use Rattle.px_head.specs.declared.fields.Field.{Field}
 use Rattle.px_head.specs.declared.responses.ResponseHead.{ResponseHead}
 use Rattle.px_head.specs.Prints.{status_line, field_line}
 use Rattle.px_framing.specs.declared.rules.BodyRule.{BodyRule}
-use Rattle.px_actions.specs.Sets.{values}
+use Rattle.px_actions.specs.Sets.{set_values}
 use Rattle.px_actions.specs.declared.kinds.Kind.TheVariants as kind
 use Rattle.px_actions.specs.declared.settings.Setting.{Setting}
 use Rattle.px_subst.specs.declared.words.Vars.{Vars}
@@ -45,7 +45,7 @@ terms_of config asked set fields = record {
   minor = asked.minor;
   keep = asked.keep;
   text = is_text set fields;
-  filters = values set kind.Filter;
+  filters = set_values set kind.Filter;
   limit = config.settings.buffer_limit;
 }
 
@@ -60,14 +60,14 @@ framed_by config asked set head r =
     (returned_lines (server_out set config.filters asked.vars asked.moment head))
 
 -- what a head settles
-unfoldable pub framed_of : Config → Asked → ResponseHead → BodyRule → Framed
-framed_of config asked head r = framed_by config asked (response_set config asked.set asked.tags asked.vars head) head r
+unfoldable pub framed_answer : Config → Asked → ResponseHead → BodyRule → Framed
+framed_answer config asked head r = framed_by config asked (response_set config asked.set asked.tags asked.vars head) head r
 
 -- what an answer becomes by a configuration and by what was asked, where that is due for each page
 abbrev pub ask_of : Config → Asked → (Page → Due) → Ask
 ask_of config asked page_due = record {
   method = asked.method;
-  framed = framed_of config asked;
+  framed = framed_answer config asked;
   work = record { filters = config.filters; vars = asked.vars };
   page_due = page_due;
 }

@@ -17,8 +17,8 @@ pub record ShowsOnly (n : ℕ) (method bytes : List ℕ) (seen : Seen) : Type 0 
   pub only : (other : Seen) → Shows n method bytes other → other ≡ seen
 
 -- what bytes show, of which at most n heads are read, is what others show behind whole interim heads, of which m more are read
-abbrev pub Leads : ℕ → List ℕ → List ℕ → ℕ → List ℕ → Type 0
-Leads n method bytes m rest = (more : List ℕ) (seen : Seen) → Shows m method (rest ++ more) seen ↔ Shows n method (bytes ++ more) seen
+abbrev pub LeadsPastInterims : ℕ → List ℕ → List ℕ → ℕ → List ℕ → Type 0
+LeadsPastInterims n method bytes m rest = (more : List ℕ) (seen : Seen) → Shows m method (rest ++ more) seen ↔ Shows n method (bytes ++ more) seen
 
 -- no block is whole in the bytes, and one may still be
 abbrev pub IsWaiting : List ℕ → Type 0
@@ -32,11 +32,11 @@ seen_of (read.Interim count) rest = Bad
 seen_of (read.Final head rule count) rest = Good head rule rest
 
 -- a whole head was read that isn't an interim one
-abbrev pub IsFinal : HeadRead → Type 0
-IsFinal read.NotYet = ⊥
-IsFinal read.Refused = Unit {0}
-IsFinal (read.Interim count) = ⊥
-IsFinal (read.Final head rule count) = Unit {0}
+abbrev pub IsFinalRead : HeadRead → Type 0
+IsFinalRead read.NotYet = ⊥
+IsFinalRead read.Refused = Unit {0}
+IsFinalRead (read.Interim count) = ⊥
+IsFinalRead (read.Final head rule count) = Unit {0}
 
 -- a whole head of so many bytes was read
 abbrev pub EndsBehind : ℕ → HeadRead → Type 0
@@ -76,7 +76,7 @@ heads_room left count = left * 2 ^ 17 + (HEAD_LIMIT - count)
 pub record Waits (n : ℕ) (method bytes : List ℕ) (m from : ℕ) (search : HeadSearch) : Type 0 where
   pub some : 0 < m
   pub within : from ≤ length bytes
-  pub leads : Leads n method bytes m (drop from bytes)
+  pub leads : LeadsPastInterims n method bytes m (drop from bytes)
   pub waits : IsWaiting (drop from bytes)
   pub searched : Searched HEAD_LIMIT (drop from bytes) search
   pub falls : (count : ℕ) → count < length bytes → count < HEAD_LIMIT → heads_room m (length (drop from bytes)) < heads_room n count
@@ -91,6 +91,6 @@ ReadsHeads n method bytes (heads.Final head rule from) =
 -- what the loop over the heads keeps: behind so many bytes a head begins, with which at most m heads are read
 pub record AtHead (n : ℕ) (method bytes : List ℕ) (m from : ℕ) (search : HeadSearch) : Type 0 where
   pub within : from ≤ length bytes
-  pub leads : Leads n method bytes m (drop from bytes)
+  pub leads : LeadsPastInterims n method bytes m (drop from bytes)
   pub begins : BeginsSearched HEAD_LIMIT (drop from bytes) search
   pub fewer : ((from ≡ 0) × (m ≡ n)) ⊎ (m < n)

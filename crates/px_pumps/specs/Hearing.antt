@@ -55,12 +55,12 @@ Stopped ask fed piece put taken taken' fault.Failed = CutOff ask (fed ++ piece) 
 Stopped ask fed piece put taken taken' fault.Mem = CutOff ask (fed ++ piece) put taken taken' ⊎ NoMore ask fed put taken taken'
 
 -- what a fault says of the sink's count
-abbrev pub FaultCause : SinkState → SinkState → SinkFault → Type 0
-FaultCause old new fault.Failed = Rose old.faults new.faults
-FaultCause old new fault.Mem = new.faults ≡ old.faults
+abbrev pub PutFaultCause : SinkState → SinkState → SinkFault → Type 0
+PutFaultCause old new fault.Failed = Rose old.faults new.faults
+PutFaultCause old new fault.Mem = new.faults ≡ old.faults
 
 abbrev pub FeedCause : {T : Type 0} → SinkState → SinkState → Result T SinkFault → Type 0
-FeedCause old new result = MatchResult result (λ _. new.faults ≡ old.faults) (λ f. FaultCause old new f)
+FeedCause old new result = MatchResult result (λ _. new.faults ≡ old.faults) (λ f. PutFaultCause old new f)
 
 -- what came of a talk in which a write was refused
 abbrev pub talk_refused : SinkFault → Talked
@@ -100,8 +100,8 @@ pub record HeardOut (first : Pumping) (i i' : SourceState) (o o' : SinkState) (w
   pub filters_same : w'.filters ≡ w.filters
 
 -- a step of a talk that leads on from wherever it stands
-abbrev pub GoesOn : SourceState → SourceState → SinkState → SinkState → Warm → Warm → Pumping → Pumping → Type 0
-GoesOn i i' o o' w w' p p' =
+abbrev pub TalkGoesOn : SourceState → SourceState → SinkState → SinkState → Warm → Warm → Pumping → Pumping → Type 0
+TalkGoesOn i i' o o' w w' p p' =
     (first : Pumping) (i0 : SourceState) (o0 : SinkState) (w0 : Warm) → Flowing first i0 i o0 o w0 w p → Flowing first i0 i' o0 o' w0 w' p'
 
 -- a step of a talk that ends it, wherever it stands

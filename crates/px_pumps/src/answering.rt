@@ -7,7 +7,7 @@ ghost use Rattle.px_pumps.specs.declared.dues.Due as due;
 ghost use Rattle.px_pumps.specs.Answering.{Ask};
 ghost use Rattle.px_pumps.specs.Asking.{ask_of};
 ghost use Rattle.px_pumps.specs.Pumps.{PumpAfter, IsOfAnswer, pieces_left, EndsTalk};
-ghost use Rattle.px_pumps.specs.Hearing.{AnswerGives, EndsHere, GoesOn, HeardOut, Hears, FedOn, Stopped, FeedCause, talk_refused};
+ghost use Rattle.px_pumps.specs.Hearing.{AnswerGives, EndsHere, TalkGoesOn, HeardOut, Hears, FedOn, Stopped, FeedCause, talk_refused};
 ghost use Rattle.px_pumps.specs.Returning.{TalkCause, IsHeard};
 
 use crate::flows::Flow;
@@ -127,7 +127,7 @@ fn pass_piece<I: Source, O: Sink>(
     requires room { 0 < length buf.old }
     requires sections { warm.old.sections ≡ pump.old.config.sections }
     requires filters { warm.old.filters ≡ pump.old.config.filters }
-    ensures goes_on { IfNone result (GoesOn (I.state link_in.old) (I.state link_in.new) (O.state client_out.old) (O.state client_out.new) warm.old warm.new pump.old pump.new) }
+    ensures goes_on { IfNone result (TalkGoesOn (I.state link_in.old) (I.state link_in.new) (O.state client_out.old) (O.state client_out.new) warm.old warm.new pump.old pump.new) }
     ensures fewer { IfNone result (pieces_left pump.new.stage < pieces_left pump.old.stage) }
     ensures ends { IfSome result (EndsHere (I.state link_in.old) (I.state link_in.new) (O.state client_out.old) (O.state client_out.new) warm.old warm.new pump.old) }
     ensures config { IfNone result (pump.new.config ≡ pump.old.config) }

@@ -3,7 +3,7 @@ ghost use Rattle.std.specs.Prelude.{◌≡◌, ◌++◌, ◌==◌, ◌&&◌, cod
 ghost use Rattle.px_headers.specs.Kinds.{is_text};
 ghost use Rattle.px_merge.specs.declared.sides.Side.TheVariants as side;
 ghost use Rattle.px_taggers.specs.Tagging.{TagsLike};
-ghost use Rattle.px_pumps.specs.Asking.{as_version_1_1, framed_by, framed_of, received_lines, response_set, returned_lines, terms_of};
+ghost use Rattle.px_pumps.specs.Asking.{as_version_1_1, framed_by, framed_answer, received_lines, response_set, returned_lines, terms_of};
 
 use px_actions::{ActionSet, Kind};
 use px_answers::{Asked, BodyPlan, Framed, HeaderLines, Terms};
@@ -138,7 +138,7 @@ fn is_filtered_text(filters: &[Text], fields: &[Field], set: &ActionSet) -> bool
 }
 
 /// What a head settles. The store lent is that of the configuration.
-#[tactic(auto, unfolding(crate::specs::Asking::framed_of))]
+#[tactic(auto, unfolding(crate::specs::Asking::framed_answer))]
 pub fn settle(
     alloc: Global,
     config: &Config,
@@ -149,7 +149,7 @@ pub fn settle(
 ) -> Result<Settled, Mem>
     requires sections { warm.old.sections ≡ config.now.sections }
     requires filters { warm.old.filters ≡ config.now.filters }
-    ensures framed { IfOk result (λ settled. settled.framed ≡ framed_of config.now asked head rule) }
+    ensures framed { IfOk result (λ settled. settled.framed ≡ framed_answer config.now asked head rule) }
     ensures vars { IfOk result (λ settled. settled.vars ≡ asked.vars) }
     ensures same_sections { warm.new.sections ≡ warm.old.sections }
     ensures same_filters { warm.new.filters ≡ warm.old.filters }

@@ -2,7 +2,7 @@
 ghost use Rattle.std.specs.Prelude.{◌≡◌, ◌&&◌, ◌==◌, ℕ, List, [], length, IfOk};
 ghost use Rattle.px_head.specs.Searches.{BeginsSearched, Searched};
 ghost use Rattle.px_pumps.specs.Answering.{Seen, seen_final};
-ghost use Rattle.px_pumps.specs.Heads.{BlockShows, EndsBehind, IsFinal, ReadsHead, ReadsHeads, seen_of};
+ghost use Rattle.px_pumps.specs.Heads.{BlockShows, EndsBehind, IsFinalRead, ReadsHead, ReadsHeads, seen_of};
 
 use px_base::Mem;
 use px_framing::{BodyRule, response_body};
@@ -51,7 +51,7 @@ pub enum HeadsRead {
 #[tactic(auto, unfolding(crate::specs::Answering::seen_final))]
 fn read_final(method: &[u8], head: ResponseHead, count: usize) -> HeadRead
     ensures seen { (rest : List ℕ) → seen_of result rest ≡ seen_final method.now head rest }
-    ensures kind { IsFinal result }
+    ensures kind { IsFinalRead result }
     ensures count { EndsBehind count result }
 {
     if head.status == 101 {

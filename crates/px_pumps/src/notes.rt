@@ -1,6 +1,6 @@
 // How an exchange ends.
 ghost use Rattle.std.specs.Prelude.{◌≡◌};
-ghost use Rattle.px_pumps.specs.Answering.{after_whole, ending_of};
+ghost use Rattle.px_pumps.specs.Answering.{after_whole, returned_ending};
 ghost use Rattle.px_pumps.specs.Returning.{IsAnswerAfter, broken};
 
 use px_answers::Returned;
@@ -73,7 +73,7 @@ pub fn after_whole(keep: bool) -> After
 
 /// The ending of an answer that was returned so.
 pub fn ending_of(returned: Returned) -> Ending
-    ensures { result ≡ ending_of returned }
+    ensures { result ≡ returned_ending returned }
 {
     match returned {
         Returned::Passed => Ending::Passed,

@@ -8,15 +8,16 @@ ghost use Rattle.px_templates.specs.declared.pages.Page as page;
 ghost use Rattle.px_pumps.specs.declared.dues.Due as due;
 ghost use Rattle.px_pumps.specs.Answering.{Ask, most_heads};
 ghost use Rattle.px_pumps.specs.Asking.{ask_of};
-ghost use Rattle.px_pumps.specs.Heads.{Leads, heads_room};
-ghost use Rattle.px_pumps.specs.Pumps.{added, EndsAnswer, flow_at, flow_by, front_bytes, held_at, IsOfAnswer, IsSettled, keeps_at, keeps_by, PassageAfter, pieces_left, PumpAfter, Pumped, SoFar, StageAfter, StaysAtEnd};
+ghost use Rattle.px_pumps.specs.Heads.{LeadsPastInterims, heads_room};
+ghost use Rattle.px_pumps.specs.Pumps.{EndsAnswer, flow_at, flow_by, front_bytes, held_at, IsOfAnswer, IsStageSettled, keeps_at, keeps_by, PassageAfter, pieces_left, PumpAfter, Pumped, SoFar, StageAfter, StaysAtEnd};
+ghost use Rattle.px_framing.specs.Reading.{added};
 
 use crate::flows::Flow;
 use crate::framings::{Settled, settle};
 use crate::heads::{HeadsRead, read_heads};
 use crate::laws::passage_tells;
 use crate::notes::ending_of;
-use px_answers::{Asked, Outcome, Passage};
+use px_answers::{AnswerOutcome, Asked, Passage};
 use px_base::{Mem, Text};
 use px_config::{Config, Warm};
 use px_filter_files::WarmFilters;
@@ -31,7 +32,7 @@ const MOST_HEADS: u8 = 9;
 
 /// An answer's head that isn't whole.
 #[derive(Drop)]
-pub struct Heading {
+pub struct UnfinishedHead {
     pub asked: Asked,
     /// With it at most so many heads are read.
     pub left: u8,
@@ -42,8 +43,8 @@ pub struct Heading {
 
 /// How far an answer has come.
 #[derive(Drop)]
-pub enum Stage {
-    Heading(Heading),
+pub enum PumpStage {
+    Heading(UnfinishedHead),
     /// The answer's own head is whole.
     Behind(Passage),
     Refused(Page),
@@ -51,7 +52,7 @@ pub enum Stage {
     Wanting,
 }
 
-fn flow_by(outcome: Option<Outcome>) -> Flow
+fn flow_by(outcome: Option<AnswerOutcome>) -> Flow
     ensures { result ≡ flow_by outcome }
 {
     match outcome {
@@ -60,7 +61,7 @@ fn flow_by(outcome: Option<Outcome>) -> Flow
     }
 }
 
-fn keeps_by(outcome: Option<Outcome>) -> bool
+fn keeps_by(outcome: Option<AnswerOutcome>) -> bool
     ensures { result ≡ keeps_by outcome }
 {
     match outcome {
@@ -69,15 +70,15 @@ fn keeps_by(outcome: Option<Outcome>) -> bool
     }
 }
 
-impl Stage {
+impl PumpStage {
     fn flow(&self) -> Flow
         ensures { result ≡ flow_at self.now }
     {
         match self {
-            Stage::Heading(_) => Flow::More,
-            Stage::Behind(passage) => flow_by(passage.ended()),
-            Stage::Refused(page) => Flow::Refused(*page),
-            Stage::Wanting => Flow::More,
+            PumpStage::Heading(_) => Flow::More,
+            PumpStage::Behind(passage) => flow_by(passage.ended()),
+            PumpStage::Refused(page) => Flow::Refused(*page),
+            PumpStage::Wanting => Flow::More,
         }
     }
 
@@ -85,40 +86,40 @@ impl Stage {
         ensures { result ≡ keeps_at self.now }
     {
         match self {
-            Stage::Heading(_) => false,
-            Stage::Behind(passage) => keeps_by(passage.ended()),
-            Stage::Refused(_) => false,
-            Stage::Wanting => false,
+            PumpStage::Heading(_) => false,
+            PumpStage::Behind(passage) => keeps_by(passage.ended()),
+            PumpStage::Refused(_) => false,
+            PumpStage::Wanting => false,
         }
     }
 }
 
 /// The bytes at whose front heads are read: those of the first piece as they came, or those that are held.
 #[derive(Drop)]
-pub enum Front<'p> {
+pub enum HeadFront<'p> {
     Piece(&'p [u8]),
     Held(Text),
 }
 
-impl<'p> Front<'p> {
+impl<'p> HeadFront<'p> {
     /// The bytes that are held with a piece behind them. Where none are held the piece is not copied.
-    fn joined(held: Text, piece: &'p [u8]) -> Result<Front<'p>, Mem>
+    fn joined(held: Text, piece: &'p [u8]) -> Result<HeadFront<'p>, Mem>
         ensures { IfOk result (λ front. front_bytes front ≡ held ++ piece.now) }
     {
         if held.is_empty() {
-            return Ok(Front::Piece(piece));
+            return Ok(HeadFront::Piece(piece));
         }
         let mut held = held;
         held.push_all(piece)?;
-        Ok(Front::Held(held))
+        Ok(HeadFront::Held(held))
     }
 
     fn as_bytes(&self) -> &[u8]
         ensures { result.now ≡ front_bytes self.now }
     {
         match self {
-            Front::Piece(piece) => piece,
-            Front::Held(held) => held.as_bytes(),
+            HeadFront::Piece(piece) => piece,
+            HeadFront::Held(held) => held.as_bytes(),
         }
     }
 
@@ -128,8 +129,8 @@ impl<'p> Front<'p> {
         ensures { IfOk result (λ rest. rest ≡ drop from (front_bytes self.entry)) }
     {
         match self {
-            Front::Piece(piece) => Text::from_bytes(alloc, &piece[from..]),
-            Front::Held(held) => bytes_from(alloc, held, from),
+            HeadFront::Piece(piece) => Text::from_bytes(alloc, &piece[from..]),
+            HeadFront::Held(held) => bytes_from(alloc, held, from),
         }
     }
 }
@@ -173,17 +174,17 @@ fn pass_heads(
     warm: &mut Warm<'_>,
     asked: Asked,
     left: u8,
-    front: Front<'_>,
+    front: HeadFront<'_>,
     search: HeadSearch,
     out: &mut Text,
-) -> Result<Stage, Mem>
+) -> Result<PumpStage, Mem>
     requires begins { BeginsSearched HEAD_LIMIT (front_bytes front) search }
     requires sections { warm.old.sections ≡ config.now.sections }
     requires filters { warm.old.filters ≡ config.now.filters }
-    ensures after { IfOk result (λ next. (ask : Ask) (fed : List ℕ) → ask ≡ ask_of config.now asked ask.page_due → Leads most_heads ask.method fed left (front_bytes front.entry)
+    ensures after { IfOk result (λ next. (ask : Ask) (fed : List ℕ) → ask ≡ ask_of config.now asked ask.page_due → LeadsPastInterims most_heads ask.method fed left (front_bytes front.entry)
         → StageAfter ask fed (added out.old out.new) config.now next) }
     ensures grows { IfOk result (λ _. out.new ≡ out.old ++ added out.old out.new) }
-    ensures settled { IfOk result (IsSettled config.now) }
+    ensures settled { IfOk result (IsStageSettled config.now) }
     ensures pieces { IfOk result (λ next. (count : ℕ) → count < length (front_bytes front.entry) → count < HEAD_LIMIT → flow_at next ≡ Flow.More
         → pieces_left next < 2 ^ 64 + heads_room left count) }
     ensures same_sections { warm.new.sections ≡ warm.old.sections }
@@ -198,14 +199,14 @@ fn pass_heads(
     )? {
         HeadsRead::Waiting { left, from, search } => {
             let held = front.hold_from(alloc, from)?;
-            Ok(Stage::Heading(Heading {
+            Ok(PumpStage::Heading(UnfinishedHead {
                 asked,
                 left,
                 held,
                 search,
             }))
         }
-        HeadsRead::Refused => Ok(Stage::Refused(Page::BadReply)),
+        HeadsRead::Refused => Ok(PumpStage::Refused(Page::BadReply)),
         HeadsRead::Final { head, rule, from } => {
             let settled = settle(alloc, config, warm, asked, head, rule)?;
             let passage = begin_behind(
@@ -215,7 +216,7 @@ fn pass_heads(
                 &front.as_bytes()[from..],
                 out,
             )?;
-            Ok(Stage::Behind(passage))
+            Ok(PumpStage::Behind(passage))
         }
     }
 }
@@ -225,41 +226,41 @@ fn advance(
     alloc: Global,
     config: &Config,
     warm: &mut Warm<'_>,
-    stage: Stage,
+    stage: PumpStage,
     piece: &[u8],
     out: &mut Text,
-) -> Result<Stage, Mem>
-    requires settled { IsSettled config.now stage }
+) -> Result<PumpStage, Mem>
+    requires settled { IsStageSettled config.now stage }
     requires sections { warm.old.sections ≡ config.now.sections }
     requires filters { warm.old.filters ≡ config.now.filters }
     ensures after { IfOk result (λ next. (ask : Ask) (fed put : List ℕ) → StageAfter ask fed put config.now stage → StageAfter ask (fed ++ piece.now) (put ++ added out.old out.new) config.now next) }
     ensures grows { IfOk result (λ _. out.new ≡ out.old ++ added out.old out.new) }
-    ensures settled { IfOk result (IsSettled config.now) }
+    ensures settled { IfOk result (IsStageSettled config.now) }
     ensures repeats { IfOk result (λ next. StaysAtEnd stage next out.old out.new) }
-    ensures live { IfOk result (λ _. stage ≢ Stage.Wanting) }
+    ensures live { IfOk result (λ _. stage ≢ PumpStage.Wanting) }
     ensures pieces { IfOk result (λ next. flow_at next ≡ Flow.More → 0 < length piece.now → pieces_left next < pieces_left stage) }
     ensures same_sections { warm.new.sections ≡ warm.old.sections }
     ensures same_filters { warm.new.filters ≡ warm.old.filters }
 {
     match stage {
-        Stage::Heading(heading) => {
-            let Heading {
+        PumpStage::Heading(heading) => {
+            let UnfinishedHead {
                 asked,
                 left,
                 held,
                 search,
             } = heading;
-            let front = Front::joined(held, piece)?;
+            let front = HeadFront::joined(held, piece)?;
             let next = pass_heads(alloc, config, warm, asked, left, front, search, out)?;
             Ok(next)
         }
-        Stage::Behind(passage) => {
+        PumpStage::Behind(passage) => {
             let mut passage = passage;
             passage.feed(&mut warm.filters, piece, out)?;
-            Ok(Stage::Behind(passage))
+            Ok(PumpStage::Behind(passage))
         }
-        Stage::Refused(page) => Ok(Stage::Refused(page)),
-        Stage::Wanting => Err(Mem),
+        PumpStage::Refused(page) => Ok(PumpStage::Refused(page)),
+        PumpStage::Wanting => Err(Mem),
     }
 }
 
@@ -267,32 +268,32 @@ fn advance(
 fn finish(
     config: &Config,
     warm: &mut Warm<'_>,
-    stage: Stage,
+    stage: PumpStage,
     failed: bool,
     out: &mut Text,
-) -> Result<Stage, Mem>
-    requires settled { IsSettled config.now stage }
+) -> Result<PumpStage, Mem>
+    requires settled { IsStageSettled config.now stage }
     requires sections { warm.old.sections ≡ config.now.sections }
     requires filters { warm.old.filters ≡ config.now.filters }
     ensures ended { IfOk result (λ next. (ask : Ask) (fed put : List ℕ) → StageAfter ask fed put config.now stage
         → EndsAnswer ask (flow_at next) (keeps_at next) fed failed (put ++ added out.old out.new)) }
     ensures grows { IfOk result (λ _. out.new ≡ out.old ++ added out.old out.new) }
-    ensures settled { IfOk result (IsSettled config.now) }
+    ensures settled { IfOk result (IsStageSettled config.now) }
     ensures repeats { IfOk result (λ next. StaysAtEnd stage next out.old out.new) }
     ensures over { IfOk result (λ next. flow_at next ≢ Flow.More) }
-    ensures live { IfOk result (λ _. stage ≢ Stage.Wanting) }
+    ensures live { IfOk result (λ _. stage ≢ PumpStage.Wanting) }
     ensures same_sections { warm.new.sections ≡ warm.old.sections }
     ensures same_filters { warm.new.filters ≡ warm.old.filters }
 {
     match stage {
-        Stage::Heading(_) => Ok(Stage::Refused(Page::NoServerData)),
-        Stage::Behind(passage) => {
+        PumpStage::Heading(_) => Ok(PumpStage::Refused(Page::NoServerData)),
+        PumpStage::Behind(passage) => {
             let mut passage = passage;
             passage.end(&mut warm.filters, failed, out)?;
-            Ok(Stage::Behind(passage))
+            Ok(PumpStage::Behind(passage))
         }
-        Stage::Refused(page) => Ok(Stage::Refused(page)),
-        Stage::Wanting => Err(Mem),
+        PumpStage::Refused(page) => Ok(PumpStage::Refused(page)),
+        PumpStage::Wanting => Err(Mem),
     }
 }
 
@@ -302,17 +303,17 @@ fn finish(
 pub struct Pump<'a> {
     alloc: Global,
     config: &'a Config,
-    stage: Stage,
+    stage: PumpStage,
 }
 
 impl<'a> Model for Pump<'a> {
-    ghost use Rattle.px_pumps.specs.Pumps.{Pumping, IsSettled};
+    ghost use Rattle.px_pumps.specs.Pumps.{Pumping, IsStageSettled};
 
     ghost Value = { Pumping };
 
     ghost view = { λ p. record { config = p.config.now; stage = p.stage } };
 
-    ghost invariant = { λ p. IsSettled p.config.now p.stage };
+    ghost invariant = { λ p. IsStageSettled p.config.now p.stage };
 }
 
 impl<'a> Pump<'a> {
@@ -324,7 +325,7 @@ impl<'a> Pump<'a> {
         Pump {
             alloc,
             config,
-            stage: Stage::Heading(Heading {
+            stage: PumpStage::Heading(UnfinishedHead {
                 asked,
                 left: MOST_HEADS,
                 held: Text::new(alloc),
@@ -346,14 +347,14 @@ impl<'a> Pump<'a> {
         ensures repeats { IfOk result (λ _. StaysAtEnd self.old.stage self.new.stage out.old out.new) }
         ensures progress { IfOk result (λ f. f ≡ Flow.More → 0 < length piece.now → pieces_left self.new.stage < pieces_left self.old.stage) }
         ensures so_far { (ask : Ask) (fed put : List ℕ) → PumpAfter ask fed put self.old → SoFar ask fed put }
-        ensures live { IfOk result (λ _. self.old.stage ≢ Stage.Wanting) }
-        ensures wanting { OnErr result (self.new.stage ≡ Stage.Wanting) }
+        ensures live { IfOk result (λ _. self.old.stage ≢ PumpStage.Wanting) }
+        ensures wanting { OnErr result (self.new.stage ≡ PumpStage.Wanting) }
         ensures config { self.new.config ≡ self.old.config }
         ensures same_sections { warm.new.sections ≡ warm.old.sections }
         ensures same_filters { warm.new.filters ≡ warm.old.filters }
     {
         passage_tells();
-        let stage = replace(&mut self.stage, Stage::Wanting);
+        let stage = replace(&mut self.stage, PumpStage::Wanting);
         let next = advance(self.alloc, self.config, warm, stage, piece, out)?;
         let flow = next.flow();
         self.stage = next;
@@ -372,14 +373,14 @@ impl<'a> Pump<'a> {
         ensures repeats { IfOk result (λ _. StaysAtEnd self.old.stage self.new.stage out.old out.new) }
         ensures over { IfOk result (λ f. f ≢ Flow.More) }
         ensures so_far { (ask : Ask) (fed put : List ℕ) → PumpAfter ask fed put self.old → SoFar ask fed put }
-        ensures live { IfOk result (λ _. self.old.stage ≢ Stage.Wanting) }
-        ensures wanting { OnErr result (self.new.stage ≡ Stage.Wanting) }
+        ensures live { IfOk result (λ _. self.old.stage ≢ PumpStage.Wanting) }
+        ensures wanting { OnErr result (self.new.stage ≡ PumpStage.Wanting) }
         ensures config { self.new.config ≡ self.old.config }
         ensures same_sections { warm.new.sections ≡ warm.old.sections }
         ensures same_filters { warm.new.filters ≡ warm.old.filters }
     {
         passage_tells();
-        let stage = replace(&mut self.stage, Stage::Wanting);
+        let stage = replace(&mut self.stage, PumpStage::Wanting);
         let next = finish(self.config, warm, stage, failed, out)?;
         let flow = next.flow();
         self.stage = next;
@@ -393,10 +394,10 @@ impl<'a> Pump<'a> {
         ensures within { result ≤ self.now.config.settings.buffer_limit + HEAD_LIMIT }
     {
         match &self.stage {
-            Stage::Heading(heading) => heading.held.len() as u64,
-            Stage::Behind(passage) => passage.held(),
-            Stage::Refused(_) => 0,
-            Stage::Wanting => 0,
+            PumpStage::Heading(heading) => heading.held.len() as u64,
+            PumpStage::Behind(passage) => passage.held(),
+            PumpStage::Refused(_) => 0,
+            PumpStage::Wanting => 0,
         }
     }
 

@@ -8,8 +8,8 @@ use Rattle.px_patterns.specs.declared.urls.Url.{Url}
 use Rattle.px_templates.specs.declared.symbols.Symbols.{Symbols}
 
 -- a line of a file
-abbrev pub line : ℕ → List ℕ → Line
-line number text = record { number = number; text = text }
+abbrev pub file_line : ℕ → List ℕ → Line
+file_line number text = record { number = number; text = text }
 
 abbrev pub field : List ℕ → List ℕ → Field
 field name value = record { name = name; value = value }
@@ -17,8 +17,8 @@ field name value = record { name = name; value = value }
 abbrev pub url_at : List ℕ → ℕ → List ℕ → Url
 url_at host port path = record { host = host; port = port; path = path }
 
-abbrev pub request : List ℕ → List ℕ → ℕ → List Field → RequestHead
-request method target minor fields = record { method = method; target = target; minor = minor; fields = fields }
+abbrev pub request_head : List ℕ → List ℕ → ℕ → List Field → RequestHead
+request_head method target minor fields = record { method = method; target = target; minor = minor; fields = fields }
 
 abbrev pub answer : ℕ → ℕ → List ℕ → List Field → ResponseHead
 answer minor status reason fields = record { minor = minor; status = status; reason = reason; fields = fields }

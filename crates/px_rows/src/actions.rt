@@ -1,12 +1,12 @@
 //! Words of actions, their parameters, and next hops (Privoxy's manual, "Actions Files").
-#![tactic(auto, unfolding(core::specs::Str::chars, core::specs::Str::is_utf8, httparse::specs::Grammar::is_token_byte, px_actions::specs::Braces::balances, px_actions::specs::Braces::is_closed, px_actions::specs::Braces::words, px_actions::specs::Hops::is_address_byte, px_actions::specs::Hops::is_host_byte, px_actions::specs::Hops::next_hop, px_actions::specs::Kinds::entry_of, px_actions::specs::Kinds::kind_named, px_actions::specs::Rules::is_plain, px_actions::specs::Rules::keeps, px_actions::specs::Rules::meets, px_actions::specs::Rules::override_hop, px_actions::specs::Sets::empty_set, px_actions::specs::Sets::set_lines, px_actions::specs::Sets::updated, px_actions::specs::Sets::value, px_actions::specs::Sets::values, px_actions::specs::Updates::has_parameter, px_actions::specs::Updates::word_update, px_base::specs::Blanks::trimmed, px_base::specs::Numbers::decimal, px_base::specs::Ports::item, px_base::specs::Ports::port, px_base::specs::Ports::port_list, px_head::specs::FieldLines::read_field, px_head::specs::Names::is_held_back_of_request))]
+#![tactic(auto, unfolding(core::specs::Str::chars, core::specs::Str::is_utf8, httparse::specs::Grammar::is_token_byte, px_actions::specs::Braces::balances, px_actions::specs::Braces::is_closed, px_actions::specs::Braces::words, px_actions::specs::Hops::is_hop_address_byte, px_actions::specs::Hops::is_host_byte, px_actions::specs::Hops::next_hop, px_actions::specs::Kinds::entry_of, px_actions::specs::Kinds::kind_named, px_actions::specs::Rules::is_plain_text, px_actions::specs::Rules::keeps_rule, px_actions::specs::Rules::meets, px_actions::specs::Rules::override_hop, px_actions::specs::Sets::empty_set, px_actions::specs::Sets::set_lines, px_actions::specs::Sets::updated, px_actions::specs::Sets::value, px_actions::specs::Sets::set_values, px_actions::specs::Updates::has_parameter, px_actions::specs::Updates::word_update, px_base::specs::Blanks::trimmed, px_base::specs::Numbers::decimal, px_base::specs::Ports::item, px_base::specs::Ports::port, px_base::specs::Ports::port_list, px_head::specs::FieldLines::read_field, px_head::specs::Names::is_held_back_of_request))]
 
 ghost use Rattle.std.specs.Prelude.{◌≡◌, ◌∷◌, [], Some, None, Ok, Err, true, false, codes};
 ghost use Rattle.px_actions.specs.Braces.{balances, is_closed, words};
 ghost use Rattle.px_actions.specs.Faults.{refusal};
 ghost use Rattle.px_actions.specs.Hops.{direct, next_hop, parent};
 ghost use Rattle.px_actions.specs.Kinds.{entry_of, kind_named};
-ghost use Rattle.px_actions.specs.Rules.{keeps, meets};
+ghost use Rattle.px_actions.specs.Rules.{keeps_rule, meets};
 ghost use Rattle.px_actions.specs.Sets.{empty_set, set_lines, updated};
 ghost use Rattle.px_actions.specs.Updates.{word_update};
 ghost use Rattle.px_actions.specs.declared.changes.Change.TheVariants as change;
@@ -62,11 +62,11 @@ fn parameters()
     ensures socks { meets rule.Parent (codes "forward-socks5 p.test:1080 .") ≡ false }
     ensures field { meets rule.AddedField (codes "X-A: 1") ≡ true }
     ensures no_field { meets rule.AddedField (codes "X-A") ≡ false }
-    ensures tab { keeps rule.Text (codes "a\tb") ≡ true }
-    ensures control { keeps rule.Text (97 ∷ 1 ∷ []) ≡ false }
-    ensures no_text { keeps rule.Text (255 ∷ []) ≡ false }
-    ensures empty { keeps rule.Text [] ≡ false }
-    ensures empty_reason { keeps rule.TextOrEmpty [] ≡ true }
+    ensures tab { keeps_rule rule.Text (codes "a\tb") ≡ true }
+    ensures control { keeps_rule rule.Text (97 ∷ 1 ∷ []) ≡ false }
+    ensures no_text { keeps_rule rule.Text (255 ∷ []) ≡ false }
+    ensures empty { keeps_rule rule.Text [] ≡ false }
+    ensures empty_reason { keeps_rule rule.TextOrEmpty [] ≡ true }
 {
     // Nothing runs: the prover computes the rows.
 }

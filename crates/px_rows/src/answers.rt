@@ -2,8 +2,8 @@
 #![tactic(auto, unfolding(core::specs::Fmt::digits, px_answers::specs::Framings::is_length, px_base::specs::Blanks::trimmed, px_base::specs::Numbers::decimal, px_head::specs::Prints::field_lines, px_head::specs::Prints::printed_head, px_head::specs::Prints::request_line, px_sending::specs::Heads::next_head))]
 
 ghost use Rattle.std.specs.Prelude.{◌≡◌, ◌∷◌, [], Some, None, true, false, codes};
-ghost use Rattle.px_answers.specs.Forms.{ends_by, stands};
-ghost use Rattle.px_answers.specs.Framings.{form_by, framing_of, has_body, is_identity, is_plainly_coded, stated_length};
+ghost use Rattle.px_answers.specs.Forms.{ends_by, state_at_end};
+ghost use Rattle.px_answers.specs.Framings.{form_by, framing_of, answer_has_body, is_identity, is_plainly_coded, stated_length};
 ghost use Rattle.px_answers.specs.declared.forms.Form.TheVariants as form;
 ghost use Rattle.px_framing.specs.declared.places.State.TheVariants as state;
 ghost use Rattle.px_framing.specs.declared.rules.BodyRule.TheVariants as rule;
@@ -42,7 +42,7 @@ fn framings_of_answers()
 
 /// Which bodies may be filtered, as far as their head says.
 fn filterable_heads()
-    ensures none { has_body rule.Absent ≡ false }
+    ensures none { answer_has_body rule.Absent ≡ false }
     ensures plain { is_plainly_coded [] ≡ true }
     ensures chunks { is_plainly_coded (codes "chunked" ∷ []) ≡ true }
     ensures coded { is_plainly_coded (codes "gzip" ∷ codes "chunked" ∷ []) ≡ false }
@@ -53,10 +53,10 @@ fn filterable_heads()
 
 /// How a body stands where its bytes end or their reading fails.
 fn ends_of_answers()
-    ensures failed { stands rule.ToClose true state.More ≡ state.Cut }
-    ensures ended { stands rule.ToClose false state.More ≡ state.Whole }
-    ensures short { stands (rule.Length 3) false state.More ≡ state.Cut }
-    ensures whole { stands rule.Chunked true state.Whole ≡ state.Whole }
+    ensures failed { state_at_end rule.ToClose true state.More ≡ state.Cut }
+    ensures ended { state_at_end rule.ToClose false state.More ≡ state.Whole }
+    ensures short { state_at_end (rule.Length 3) false state.More ≡ state.Cut }
+    ensures whole { state_at_end rule.Chunked true state.Whole ≡ state.Whole }
 {
     // Nothing runs: the prover computes the rows.
 }

@@ -1,5 +1,5 @@
 //! Decisions, redirects and routes (Privoxy's manual, "Actions Files" and "The Main Configuration File").
-#![tactic(auto, unfolding(core::specs::Str::chars, percent_encoding::specs::Percent::percent_decode, percent_encoding::specs::Percent::percent_encode_byte, px_actions::specs::Hops::is_address_byte, px_actions::specs::Hops::is_host_byte, px_actions::specs::Hops::next_hop, px_actions::specs::Kinds::entry_of, px_actions::specs::Rules::override_hop, px_actions::specs::Sets::empty_set, px_actions::specs::Sets::is_on, px_actions::specs::Sets::updated, px_actions::specs::Sets::value, px_actions::specs::Sets::values, px_base::specs::Blanks::trimmed, px_base::specs::Numbers::decimal, px_base::specs::Ports::item, px_base::specs::Ports::port, px_base::specs::Ports::port_list, px_decide::specs::Decisions::block_decision, px_decide::specs::Decisions::tunnel_decision, px_decide::specs::Forwards::first_word, px_decide::specs::Forwards::two_words, px_decide::specs::Routes::last_line, px_decide::specs::Routes::route_of, px_decide::specs::Targets::begins_url, px_decide::specs::Targets::last_url, px_decide::specs::Targets::target_text, px_patterns::specs::Expressions::expression, px_patterns::specs::Expressions::finds, px_patterns::specs::Globs::glob_matches, px_patterns::specs::Hosts::host_matches, px_patterns::specs::Hosts::labels_match, px_patterns::specs::Patterns::url_matches))]
+#![tactic(auto, unfolding(core::specs::Str::chars, percent_encoding::specs::Percent::percent_decode, percent_encoding::specs::Percent::percent_encode_byte, px_actions::specs::Hops::is_hop_address_byte, px_actions::specs::Hops::is_host_byte, px_actions::specs::Hops::next_hop, px_actions::specs::Kinds::entry_of, px_actions::specs::Rules::override_hop, px_actions::specs::Sets::empty_set, px_actions::specs::Sets::is_on, px_actions::specs::Sets::updated, px_actions::specs::Sets::value, px_actions::specs::Sets::set_values, px_base::specs::Blanks::trimmed, px_base::specs::Numbers::decimal, px_base::specs::Ports::item, px_base::specs::Ports::port, px_base::specs::Ports::port_list, px_decide::specs::Decisions::block_decision, px_decide::specs::Decisions::tunnel_decision, px_decide::specs::Forwards::first_word, px_decide::specs::Forwards::two_words, px_decide::specs::Routes::last_line, px_decide::specs::Routes::route_of, px_decide::specs::Targets::begins_url, px_decide::specs::Targets::last_url, px_decide::specs::Targets::target_text, px_patterns::specs::Expressions::pattern_expression, px_patterns::specs::Expressions::finds, px_patterns::specs::Globs::glob_matches, px_patterns::specs::Hosts::host_matches, px_patterns::specs::Hosts::labels_match, px_patterns::specs::Patterns::url_matches))]
 
 ghost use Rattle.std.specs.Prelude.{◌≡◌, ◌∷◌, [], Some, None, Ok, Err, true, false, codes};
 ghost use Rattle.px_actions.specs.Hops.{direct, parent};
@@ -9,7 +9,7 @@ ghost use Rattle.px_actions.specs.declared.kinds.Kind.TheVariants as kind;
 ghost use Rattle.px_decide.specs.Decisions.{block_decision, image_decision, may_connect, tunnel_decision};
 ghost use Rattle.px_decide.specs.Forwards.{two_words};
 ghost use Rattle.px_decide.specs.Routes.{route_by, route_of};
-ghost use Rattle.px_decide.specs.Targets.{is_job, last_url, leading_away, searched_path, target_text};
+ghost use Rattle.px_decide.specs.Targets.{is_job_value, last_url, leading_away, searched_path, target_text};
 ghost use Rattle.px_decide.specs.declared.decisions.Decision.TheVariants as decision;
 ghost use Rattle.px_rows.specs.Rows.{url_at};
 
@@ -32,9 +32,9 @@ fn targets()
     ensures away { leading_away (codes "http://a.test/") (codes "http://b.test/") ≡ Some (codes "http://b.test/") }
     ensures itself { leading_away (codes "http://a.test/") (codes "http://a.test/") ≡ None }
     ensures nowhere { leading_away (codes "http://a.test/") [] ≡ None }
-    ensures job { is_job (codes "s@a@b@") ≡ true }
-    ensures url { is_job (codes "http://r.test/") ≡ false }
-    ensures word { is_job (codes "sa") ≡ false }
+    ensures job { is_job_value (codes "s@a@b@") ≡ true }
+    ensures url { is_job_value (codes "http://r.test/") ≡ false }
+    ensures word { is_job_value (codes "sa") ≡ false }
 {}
 
 /// A blocked request gets a page, an empty document or an image.

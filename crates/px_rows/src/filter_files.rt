@@ -1,12 +1,12 @@
 //! Filter files (Privoxy's manual, "Filter Files").
-#![tactic(auto, unfolding(core::specs::Str::chars, core::specs::Str::is_utf8, px_filter_files::specs::FilterFiles::all_skipped, px_filter_files::specs::FilterFiles::first_fault, px_subst::specs::Expressions::expression, px_subst::specs::Jobs::job_of))]
+#![tactic(auto, unfolding(core::specs::Str::chars, core::specs::Str::is_utf8, px_filter_files::specs::FilterFiles::all_skipped, px_filter_files::specs::FilterFiles::first_filter_fault, px_subst::specs::Expressions::job_expression, px_subst::specs::Jobs::job_of))]
 
 ghost use Rattle.std.specs.Prelude.{◌≡◌, ◌∷◌, [], Some, None, true, false, codes};
-ghost use Rattle.px_filter_files.specs.FilterFiles.{all_skipped, first_fault};
+ghost use Rattle.px_filter_files.specs.FilterFiles.{all_skipped, first_filter_fault};
 ghost use Rattle.px_filter_files.specs.Headings.{heading_at};
 ghost use Rattle.px_filter_files.specs.declared.faults.FilterFault.TheVariants.{At};
 ghost use Rattle.px_filter_files.specs.declared.kinds.FilterKind.TheVariants.{Content, ClientHeader, ClientTagger, ServerHeader, ServerTagger};
-ghost use Rattle.px_rows.specs.Rows.{line};
+ghost use Rattle.px_rows.specs.Rows.{file_line};
 
 /// Keywords, with case, and the name behind each.
 fn headings_of_filters()
@@ -24,17 +24,17 @@ fn headings_of_filters()
 
 /// The first refusal of a file.
 fn refused_filters()
-    ensures job_first { first_fault [] (line 1 (codes "s/a/b/") ∷ []) ≡ Some (At 1 25) }
-    ensures no_name { first_fault [] (line 2 (codes "FILTER:") ∷ []) ≡ Some (At 2 26) }
-    ensures no_name_outside { first_fault [] (line 2 (codes "EXTERNAL-FILTER:") ∷ []) ≡ Some (At 2 26) }
-    ensures twice { first_fault [] (line 1 (codes "FILTER: f a") ∷ line 4 (codes "FILTER: f b") ∷ []) ≡ Some (At 4 27) }
-    ensures two_kinds { first_fault [] (line 1 (codes "FILTER: f a") ∷ line 2 (codes "SERVER-HEADER-FILTER: f a") ∷ []) ≡ None }
-    ensures outside { first_fault [] (line 1 (codes "EXTERNAL-FILTER: f") ∷ line 2 (codes "not a job") ∷ line 3 (codes "EXTERNAL-FILTER: f") ∷ [])
+    ensures job_first { first_filter_fault [] (file_line 1 (codes "s/a/b/") ∷ []) ≡ Some (At 1 25) }
+    ensures no_name { first_filter_fault [] (file_line 2 (codes "FILTER:") ∷ []) ≡ Some (At 2 26) }
+    ensures no_name_outside { first_filter_fault [] (file_line 2 (codes "EXTERNAL-FILTER:") ∷ []) ≡ Some (At 2 26) }
+    ensures twice { first_filter_fault [] (file_line 1 (codes "FILTER: f a") ∷ file_line 4 (codes "FILTER: f b") ∷ []) ≡ Some (At 4 27) }
+    ensures two_kinds { first_filter_fault [] (file_line 1 (codes "FILTER: f a") ∷ file_line 2 (codes "SERVER-HEADER-FILTER: f a") ∷ []) ≡ None }
+    ensures outside { first_filter_fault [] (file_line 1 (codes "EXTERNAL-FILTER: f") ∷ file_line 2 (codes "not a job") ∷ file_line 3 (codes "EXTERNAL-FILTER: f") ∷ [])
         ≡ None }
 {}
 
 /// A job that isn't read is left out by its line.
 fn skipped_jobs()
-    ensures one { all_skipped (line 1 (codes "FILTER: f") ∷ line 2 (codes "s/a/b") ∷ []) ≡ 2 ∷ [] }
-    ensures outside { all_skipped (line 1 (codes "EXTERNAL-FILTER: f") ∷ line 2 (codes "s/a/b") ∷ []) ≡ [] }
+    ensures one { all_skipped (file_line 1 (codes "FILTER: f") ∷ file_line 2 (codes "s/a/b") ∷ []) ≡ 2 ∷ [] }
+    ensures outside { all_skipped (file_line 1 (codes "EXTERNAL-FILTER: f") ∷ file_line 2 (codes "s/a/b") ∷ []) ≡ [] }
 {}

@@ -1,11 +1,11 @@
 //! How bodies are framed (RFC 9112, sections 6 and 7).
-#![tactic(auto, unfolding(px_base::specs::Blanks::trimmed, px_base::specs::Numbers::decimal, px_framing::specs::Lines::after, px_framing::specs::Lines::may_stand, px_framing::specs::Lines::size_of, px_framing::specs::Rules::request_rule, px_framing::specs::Rules::response_rule))]
+#![tactic(auto, unfolding(px_base::specs::Blanks::trimmed, px_base::specs::Numbers::decimal, px_framing::specs::Lines::place_after_line, px_framing::specs::Lines::may_stand, px_framing::specs::Lines::size_of, px_framing::specs::Rules::request_rule, px_framing::specs::Rules::response_rule))]
 
 ghost use Rattle.std.specs.Prelude.{◌≡◌, ◌∷◌, ◌^◌, ◌-◌, [], Some, None, Ok, Err, true, false, codes};
 ghost use Rattle.px_framing.specs.Body.{at_end, first_bytes};
-ghost use Rattle.px_framing.specs.Lines.{after, may_stand, size_of};
-ghost use Rattle.px_framing.specs.Rules.{codings_of, fault_name, fault_number, request_rule, response_rule};
-ghost use Rattle.px_framing.specs.declared.places.Place.TheVariants.{Data, Done, Gap, Size, Trailers};
+ghost use Rattle.px_framing.specs.Lines.{place_after_line, may_stand, size_of};
+ghost use Rattle.px_framing.specs.Rules.{codings_of, body_fault_name, body_fault_number, request_rule, response_rule};
+ghost use Rattle.px_framing.specs.declared.places.ChunkPlace.TheVariants.{Data, Done, Gap, Size, Trailers};
 ghost use Rattle.px_framing.specs.declared.places.State.TheVariants as state;
 ghost use Rattle.px_framing.specs.declared.rules.BodyFault.TheVariants.{BadLength, LengthAndChunks, TwoLengths, UnknownCoding};
 ghost use Rattle.px_framing.specs.declared.rules.BodyRule.TheVariants.{Absent, Chunked, Length, ToClose};
@@ -29,11 +29,11 @@ fn sizes_of_chunks()
 
 /// What comes behind the lines of a chunked body.
 fn places_of_lines()
-    ensures data { after Size (codes "2") ≡ Data 2 }
-    ensures last_chunk { after Size (codes "0") ≡ Trailers 0 }
-    ensures gap { after Gap [] ≡ Size }
-    ensures trailer { after (Trailers 0) (codes "T: 1") ≡ Trailers 6 }
-    ensures end { after (Trailers 6) [] ≡ Done }
+    ensures data { place_after_line Size (codes "2") ≡ Data 2 }
+    ensures last_chunk { place_after_line Size (codes "0") ≡ Trailers 0 }
+    ensures gap { place_after_line Gap [] ≡ Size }
+    ensures trailer { place_after_line (Trailers 0) (codes "T: 1") ≡ Trailers 6 }
+    ensures end { place_after_line (Trailers 6) [] ≡ Done }
     ensures no_gap { may_stand Gap (codes "x") ≡ false }
     ensures trailers { may_stand (Trailers 65530) (codes "T: 1") ≡ true }
     ensures many_trailers { may_stand (Trailers 65531) (codes "T: 1") ≡ false }
@@ -90,12 +90,12 @@ fn ends_of_bodies()
 
 /// The refusals of framings.
 fn refusals_of_framings()
-    ensures two { fault_number TwoLengths ≡ 37 }
-    ensures two_name { fault_name TwoLengths ≡ codes "TwoLengths" }
-    ensures bad { fault_number BadLength ≡ 38 }
-    ensures bad_name { fault_name BadLength ≡ codes "BadLength" }
-    ensures both { fault_number LengthAndChunks ≡ 39 }
-    ensures both_name { fault_name LengthAndChunks ≡ codes "LengthAndChunks" }
-    ensures coding { fault_number UnknownCoding ≡ 40 }
-    ensures coding_name { fault_name UnknownCoding ≡ codes "UnknownCoding" }
+    ensures two { body_fault_number TwoLengths ≡ 37 }
+    ensures two_name { body_fault_name TwoLengths ≡ codes "TwoLengths" }
+    ensures bad { body_fault_number BadLength ≡ 38 }
+    ensures bad_name { body_fault_name BadLength ≡ codes "BadLength" }
+    ensures both { body_fault_number LengthAndChunks ≡ 39 }
+    ensures both_name { body_fault_name LengthAndChunks ≡ codes "LengthAndChunks" }
+    ensures coding { body_fault_number UnknownCoding ≡ 40 }
+    ensures coding_name { body_fault_name UnknownCoding ≡ codes "UnknownCoding" }
 {}

@@ -1,14 +1,14 @@
 //! Heads of messages (RFC 9110 and RFC 9112).
-#![tactic(auto, unfolding(core::specs::Fmt::digits, px_base::specs::Blanks::trimmed, px_head::specs::Blocks::block_len, px_head::specs::Blocks::block_of, px_head::specs::Blocks::head_end, px_head::specs::Blocks::lines_of, px_head::specs::Blocks::up_to_empty, px_head::specs::Names::is_held_back_of_request, px_head::specs::Names::is_held_back_of_response, px_head::specs::Names::lists_word, px_head::specs::Prints::field_lines, px_head::specs::Prints::printed_head, px_head::specs::Prints::request_line, px_head::specs::Prints::status_line, px_head::specs::Prints::status_text))]
+#![tactic(auto, unfolding(core::specs::Fmt::digits, px_base::specs::Blanks::trimmed, px_head::specs::Blocks::block_len, px_head::specs::Blocks::block_of, px_head::specs::Blocks::head_end, px_head::specs::Blocks::whole_lines, px_head::specs::Blocks::up_to_empty, px_head::specs::Names::is_held_back_of_request, px_head::specs::Names::is_held_back_of_response, px_head::specs::Names::lists_word, px_head::specs::Prints::field_lines, px_head::specs::Prints::printed_head, px_head::specs::Prints::request_line, px_head::specs::Prints::status_line, px_head::specs::Prints::status_text))]
 
 ghost use Rattle.std.specs.Prelude.{◌≡◌, ◌∷◌, [], Some, None, true, false, codes};
 ghost use Rattle.px_head.specs.Blocks.{block_len, head_end};
-ghost use Rattle.px_head.specs.Faults.{fault_name, fault_number, too_long_name, too_long_number};
+ghost use Rattle.px_head.specs.Faults.{head_fault_name, head_fault_number, too_long_name, too_long_number};
 ghost use Rattle.px_head.specs.Names.{has_field, is_connection_word, is_held_back_of_request, is_held_back_of_response, lists_word};
 ghost use Rattle.px_head.specs.Prints.{printed_head, request_line, status_line, status_text};
 ghost use Rattle.px_head.specs.declared.blocks.HeadEnd.TheVariants.{At, NotYet, Over};
 ghost use Rattle.px_head.specs.declared.faults.HeadFault.TheVariants.{Malformed, TooManyFields};
-ghost use Rattle.px_rows.specs.Rows.{answer, field, request};
+ghost use Rattle.px_rows.specs.Rows.{answer, field, request_head};
 
 /// The names that are held back, without case (RFC 9110, section 7.6.1).
 fn names_that_are_held_back()
@@ -52,8 +52,8 @@ fn ends_of_heads()
 
 /// How heads are printed.
 fn printed_heads()
-    ensures request { request_line (request (codes "GET") (codes "/x") 1 []) ≡ codes "GET /x HTTP/1.1" }
-    ensures old { request_line (request (codes "GET") (codes "/x") 0 []) ≡ codes "GET /x HTTP/1.0" }
+    ensures request { request_line (request_head (codes "GET") (codes "/x") 1 []) ≡ codes "GET /x HTTP/1.1" }
+    ensures old { request_line (request_head (codes "GET") (codes "/x") 0 []) ≡ codes "GET /x HTTP/1.0" }
     ensures answer { status_line (answer 1 404 (codes "Not Found") []) ≡ codes "HTTP/1.1 404 Not Found" }
     ensures no_reason { status_line (answer 1 200 [] []) ≡ codes "HTTP/1.1 200" }
     ensures three_digits { status_text 7 ≡ codes "007" }
@@ -65,10 +65,10 @@ fn printed_heads()
 
 /// The refusals of heads.
 fn refusals_of_heads()
-    ensures malformed { fault_number Malformed ≡ 34 }
-    ensures malformed_name { fault_name Malformed ≡ codes "Malformed" }
-    ensures many { fault_number TooManyFields ≡ 35 }
-    ensures many_name { fault_name TooManyFields ≡ codes "TooManyFields" }
+    ensures malformed { head_fault_number Malformed ≡ 34 }
+    ensures malformed_name { head_fault_name Malformed ≡ codes "Malformed" }
+    ensures many { head_fault_number TooManyFields ≡ 35 }
+    ensures many_name { head_fault_name TooManyFields ≡ codes "TooManyFields" }
     ensures long { too_long_number ≡ 36 }
     ensures long_name { too_long_name ≡ codes "TooLong" }
 {}

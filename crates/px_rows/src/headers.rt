@@ -1,14 +1,14 @@
 //! Header actions (Privoxy's manual, "Actions Files"; RFC 9110; RFC 6265).
-#![tactic(auto, unfolding(core::specs::Fmt::digits, core::specs::Str::chars, core::specs::Str::is_utf8, memchr::specs::Find::first_of, memchr::specs::Find::matches_from, px_base::specs::Blanks::trimmed, px_base::specs::Numbers::decimal, px_base::specs::Ports::port, px_headers::specs::ClientRows::blocked, px_headers::specs::ClientRows::blocked_or_set, px_headers::specs::Cookies::is_expires, px_headers::specs::Cookies::is_max_age, px_headers::specs::Cookies::piece_name, px_headers::specs::Cookies::piece_value, px_headers::specs::Cookies::session_cookie, px_headers::specs::Kinds::holds_without_case, px_headers::specs::Kinds::is_text_type, px_headers::specs::Referrers::is_foreign, px_headers::specs::Referrers::root_of, px_headers::specs::Referrers::with_hidden_referrer, px_headers::specs::Referrers::without_brackets, px_headers::specs::Rewrites::before_version, px_headers::specs::Rewrites::behind, px_headers::specs::Rewrites::behind_version, px_headers::specs::Rewrites::is_status_part, px_headers::specs::Rewrites::rewritten, px_headers::specs::Rewrites::target_in, px_headers::specs::Rows::with_more, px_headers::specs::Rows::with_value, px_headers::specs::Rows::without, px_headers::specs::Rows::without_holding, px_patterns::specs::Urls::host_of, px_patterns::specs::Urls::port_of, px_patterns::specs::Urls::shown_host_port, px_patterns::specs::Urls::url_of))]
+#![tactic(auto, unfolding(core::specs::Fmt::digits, core::specs::Str::chars, core::specs::Str::is_utf8, memchr::specs::Find::first_of, memchr::specs::Find::matches_from, px_base::specs::Blanks::trimmed, px_base::specs::Numbers::decimal, px_base::specs::Ports::port, px_headers::specs::ClientRows::blocked_fields, px_headers::specs::ClientRows::blocked_or_set, px_headers::specs::Cookies::is_expires, px_headers::specs::Cookies::is_max_age, px_headers::specs::Cookies::piece_name, px_headers::specs::Cookies::piece_value, px_headers::specs::Cookies::session_cookie, px_headers::specs::Kinds::holds_without_case, px_headers::specs::Kinds::is_text_type, px_headers::specs::Referrers::is_foreign, px_headers::specs::Referrers::root_of, px_headers::specs::Referrers::with_hidden_referrer, px_headers::specs::Referrers::without_brackets, px_headers::specs::Rewrites::before_version, px_headers::specs::Rewrites::behind_prefix, px_headers::specs::Rewrites::behind_version, px_headers::specs::Rewrites::is_status_part, px_headers::specs::Rewrites::rewritten, px_headers::specs::Rewrites::target_in, px_headers::specs::Rows::with_more, px_headers::specs::Rows::with_value, px_headers::specs::Rows::without_field, px_headers::specs::Rows::without_holding, px_patterns::specs::Urls::host_of, px_patterns::specs::Urls::port_of, px_patterns::specs::Urls::shown_host_port, px_patterns::specs::Urls::url_of))]
 
 ghost use Rattle.std.specs.Prelude.{◌≡◌, ◌∷◌, [], Some, None, true, false, codes, option_map};
-ghost use Rattle.px_headers.specs.ClientRows.{blocked, blocked_or_set};
+ghost use Rattle.px_headers.specs.ClientRows.{blocked_fields, blocked_or_set};
 ghost use Rattle.px_headers.specs.Cookies.{are_some_digits, is_expires, is_max_age, is_negative, piece_name, piece_value, session_cookie};
 ghost use Rattle.px_headers.specs.HeldBack.{connection_words, words_in};
 ghost use Rattle.px_headers.specs.Kinds.{is_text_type};
 ghost use Rattle.px_headers.specs.Referrers.{host_behind, is_foreign, with_hidden_referrer};
 ghost use Rattle.px_headers.specs.Rewrites.{is_status_line, kept_status_line, rewritten};
-ghost use Rattle.px_headers.specs.Rows.{with_more, with_value, without, without_holding};
+ghost use Rattle.px_headers.specs.Rows.{with_more, with_value, without_field, without_holding};
 ghost use Rattle.px_rows.specs.Rows.{field, url_at};
 
 /// The host of a referrer is what stands behind `://` up to a slash, a question mark or a hash mark, without a port and without
@@ -83,12 +83,12 @@ fn changed_fields()
     ensures set { with_value (codes "User-Agent") (codes "x") (field (codes "user-agent") (codes "y") ∷ field (codes "A") (codes "1") ∷ [])
         ≡ field (codes "user-agent") (codes "x") ∷ field (codes "A") (codes "1") ∷ [] }
     ensures not_added { with_value (codes "User-Agent") (codes "x") [] ≡ [] }
-    ensures each { without (codes "A") (field (codes "a") (codes "1") ∷ field (codes "B") (codes "2") ∷ field (codes "A") (codes "3") ∷ [])
+    ensures each { without_field (codes "A") (field (codes "a") (codes "1") ∷ field (codes "B") (codes "2") ∷ field (codes "A") (codes "3") ∷ [])
         ≡ field (codes "B") (codes "2") ∷ [] }
     ensures block { blocked_or_set (codes "From") (codes "block") (field (codes "From") (codes "u") ∷ []) ≡ [] }
     ensures other { blocked_or_set (codes "From") (codes "v") (field (codes "From") (codes "u") ∷ [])
         ≡ field (codes "From") (codes "v") ∷ [] }
-    ensures no_effect { blocked (codes "If-Modified-Since") (codes "1") (field (codes "If-Modified-Since") (codes "u") ∷ [])
+    ensures no_effect { blocked_fields (codes "If-Modified-Since") (codes "1") (field (codes "If-Modified-Since") (codes "u") ∷ [])
         ≡ field (codes "If-Modified-Since") (codes "u") ∷ [] }
     ensures more { with_more (codes "X-Forwarded-For") (codes ", ") (codes "127.0.0.1") (field (codes "X-Forwarded-For") (codes "10.0.0.1") ∷ [])
         ≡ field (codes "X-Forwarded-For") (codes "10.0.0.1, 127.0.0.1") ∷ [] }

@@ -1,16 +1,16 @@
 //! URLs, and patterns of hosts (RFC 9112, section 3.2; Privoxy's manual, "Patterns").
-#![tactic(auto, unfolding(core::specs::Fmt::digits, core::specs::Str::chars, core::specs::Str::is_utf8, px_base::specs::Blanks::trimmed, px_base::specs::Numbers::decimal, px_base::specs::Ports::item, px_base::specs::Ports::port, px_base::specs::Ports::port_list, px_patterns::specs::Expressions::expression, px_patterns::specs::Globs::glob_matches, px_patterns::specs::Globs::items_from, px_patterns::specs::Globs::label_of, px_patterns::specs::Globs::ranges_of, px_patterns::specs::Hosts::host_matches, px_patterns::specs::Hosts::host_pattern, px_patterns::specs::Hosts::labels_match, px_patterns::specs::Patterns::path_of, px_patterns::specs::Patterns::ports_of, px_patterns::specs::Patterns::url_pattern, px_patterns::specs::Urls::authority_of, px_patterns::specs::Urls::host_of, px_patterns::specs::Urls::port_of, px_patterns::specs::Urls::shown_host_port, px_patterns::specs::Urls::shown_url, px_patterns::specs::Urls::url_of))]
+#![tactic(auto, unfolding(core::specs::Fmt::digits, core::specs::Str::chars, core::specs::Str::is_utf8, px_base::specs::Blanks::trimmed, px_base::specs::Numbers::decimal, px_base::specs::Ports::item, px_base::specs::Ports::port, px_base::specs::Ports::port_list, px_patterns::specs::Expressions::pattern_expression, px_patterns::specs::Globs::glob_matches, px_patterns::specs::Globs::items_from, px_patterns::specs::Globs::label_of, px_patterns::specs::Globs::class_ranges, px_patterns::specs::Hosts::host_matches, px_patterns::specs::Hosts::host_pattern, px_patterns::specs::Hosts::labels_match, px_patterns::specs::Patterns::path_expression, px_patterns::specs::Patterns::ports_of, px_patterns::specs::Patterns::url_pattern, px_patterns::specs::Urls::authority_of, px_patterns::specs::Urls::host_of, px_patterns::specs::Urls::port_of, px_patterns::specs::Urls::shown_host_port, px_patterns::specs::Urls::shown_url, px_patterns::specs::Urls::url_of))]
 
 ghost use Rattle.std.specs.Prelude.{◌≡◌, ◌∷◌, [], Some, None, Ok, Err, true, false, codes};
 ghost use Rattle.px_patterns.specs.Faults.{pattern_fault_name, pattern_fault_number, url_fault_name, url_fault_number};
-ghost use Rattle.px_patterns.specs.Globs.{label_of, ranges_of};
+ghost use Rattle.px_patterns.specs.Globs.{label_of, class_ranges};
 ghost use Rattle.px_patterns.specs.Hosts.{host_labels, host_matches, host_pattern, is_candidate, labels_within, last_plain};
 ghost use Rattle.px_patterns.specs.Patterns.{url_pattern};
-ghost use Rattle.px_patterns.specs.Results.{result_map};
 ghost use Rattle.px_patterns.specs.Urls.{authority_of, shown_host_port, shown_url, url_of};
 ghost use Rattle.px_patterns.specs.declared.faults.PatternFault.TheVariants as pattern;
 ghost use Rattle.px_patterns.specs.declared.faults.UrlFault.TheVariants as url;
 ghost use Rattle.px_rows.specs.Rows.{url_at};
+ghost use Rattle.px_base.specs.Results.{result_map};
 
 /// URLs as a request names them.
 fn urls()
@@ -79,7 +79,7 @@ fn refused_patterns()
     ensures label { host_pattern (codes "a..b") ≡ Err pattern.EmptyLabel }
     ensures class { host_pattern (codes "[z-a].test") ≡ Err pattern.BadClass }
     ensures open_class { label_of (codes "a[b") ≡ None }
-    ensures no_class { ranges_of (codes "z-a") ≡ None }
+    ensures no_class { class_ranges (codes "z-a") ≡ None }
     ensures port_before_label { url_pattern (codes "a..b:0") ≡ Err pattern.BadPort }
 {}
 

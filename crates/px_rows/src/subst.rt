@@ -1,14 +1,14 @@
 //! Jobs: their fields, flags, items and words (Privoxy's manual, "Filter Files").
-#![tactic(auto, unfolding(core::specs::Str::chars, core::specs::Str::is_utf8, px_subst::specs::Expressions::expression, px_subst::specs::Jobs::job_of))]
+#![tactic(auto, unfolding(core::specs::Str::chars, core::specs::Str::is_utf8, px_subst::specs::Expressions::job_expression, px_subst::specs::Jobs::job_of))]
 
 ghost use Rattle.std.specs.Prelude.{◌≡◌, ◌∷◌, [], Some, None, Ok, Err, true, false, codes, option_map};
-ghost use Rattle.px_subst.specs.Fields.{field_end, is_delimiter, unescaped};
+ghost use Rattle.px_subst.specs.Fields.{field_end, is_delimiter, unescaped_field};
 ghost use Rattle.px_subst.specs.JobFlags.{flags_of};
 ghost use Rattle.px_subst.specs.Jobs.{job_of, Worded};
-ghost use Rattle.px_subst.specs.Substitutes.{items_by, items_of};
+ghost use Rattle.px_subst.specs.Substitutes.{items_by_flag, substitute_items};
 ghost use Rattle.px_subst.specs.Words.{filled};
 ghost use Rattle.px_subst.specs.declared.faults.JobFault.TheVariants.{BadFlag, NoDelimiter, Unfinished};
-ghost use Rattle.px_subst.specs.declared.items.Item.TheVariants.{Byte, Group};
+ghost use Rattle.px_subst.specs.declared.items.SubstituteItem.TheVariants.{Byte, Group};
 
 /// A delimiter is an ASCII byte that is no letter, digit, white space or backslash; a backslash takes the next byte along.
 fn fields_of_jobs()
@@ -20,8 +20,8 @@ fn fields_of_jobs()
     ensures past_ascii { is_delimiter 128 ≡ false }
     ensures end { field_end 47 false (codes "a\\/b/c") ≡ Some 4 }
     ensures no_end { field_end 47 false (codes "ab") ≡ None }
-    ensures dropped { unescaped 47 false (codes "a\\/b") ≡ codes "a/b" }
-    ensures kept { unescaped 47 false (codes "a\\.b") ≡ codes "a\\.b" }
+    ensures dropped { unescaped_field 47 false (codes "a\\/b") ≡ codes "a/b" }
+    ensures kept { unescaped_field 47 false (codes "a\\.b") ≡ codes "a\\.b" }
 {}
 
 /// What isn't a job.
@@ -51,16 +51,16 @@ fn flags_of_jobs()
 
 /// What a substitute is read to.
 fn items_of_substitutes()
-    ensures group { items_of (codes "$1") ≡ Group 1 ∷ [] }
-    ensures backslash_group { items_of (codes "\\2") ≡ Group 2 ∷ [] }
-    ensures whole { items_of (codes "$&") ≡ Group 0 ∷ [] }
-    ensures two_digits { items_of (codes "$10") ≡ Group 1 ∷ Byte 48 ∷ [] }
-    ensures zero { items_of (codes "\\0") ≡ Byte 48 ∷ [] }
-    ensures control { items_of (codes "\\n\\r\\t\\f") ≡ Byte 10 ∷ Byte 13 ∷ Byte 9 ∷ Byte 12 ∷ [] }
-    ensures escaped { items_of (codes "\\$1") ≡ Byte 36 ∷ Byte 49 ∷ [] }
-    ensures dollar { items_of (codes "$a") ≡ Byte 36 ∷ Byte 97 ∷ [] }
-    ensures end { items_of (codes "a\\") ≡ Byte 97 ∷ Byte 92 ∷ [] }
-    ensures plain { items_by true (codes "$1\\n") ≡ Byte 36 ∷ Byte 49 ∷ Byte 92 ∷ Byte 110 ∷ [] }
+    ensures group { substitute_items (codes "$1") ≡ Group 1 ∷ [] }
+    ensures backslash_group { substitute_items (codes "\\2") ≡ Group 2 ∷ [] }
+    ensures whole { substitute_items (codes "$&") ≡ Group 0 ∷ [] }
+    ensures two_digits { substitute_items (codes "$10") ≡ Group 1 ∷ Byte 48 ∷ [] }
+    ensures zero { substitute_items (codes "\\0") ≡ Byte 48 ∷ [] }
+    ensures control { substitute_items (codes "\\n\\r\\t\\f") ≡ Byte 10 ∷ Byte 13 ∷ Byte 9 ∷ Byte 12 ∷ [] }
+    ensures escaped { substitute_items (codes "\\$1") ≡ Byte 36 ∷ Byte 49 ∷ [] }
+    ensures dollar { substitute_items (codes "$a") ≡ Byte 36 ∷ Byte 97 ∷ [] }
+    ensures end { substitute_items (codes "a\\") ≡ Byte 97 ∷ Byte 92 ∷ [] }
+    ensures plain { items_by_flag true (codes "$1\\n") ≡ Byte 36 ∷ Byte 49 ∷ Byte 92 ∷ Byte 110 ∷ [] }
 {
     // Nothing runs: the prover computes the rows.
 }

@@ -7,7 +7,7 @@ use Rattle.px_base.specs.Sinks.{AddsFront}
 use Rattle.px_sending.specs.declared.messages.Message.{Message}
 use Rattle.px_sending.specs.declared.messages.Sent.{Sent}
 use Rattle.px_sending.specs.declared.messages.Sent.TheVariants as sent
-use Rattle.px_sending.specs.Prefixes.{IsFront, IsPrefix}
+use Rattle.px_sending.specs.Prefixes.{IsProperFront, IsPrefix}
 use Rattle.px_sending.specs.Sends.{Sends, SendsBy, body_in, interim, interim_behind}
 use Rattle.px_sending.specs.Pieces.{bare}
 
@@ -95,7 +95,7 @@ interim_wanting m left link link' taken taken' w (n, h, e) =
     }
 
 -- bytes behind the head
-longer : (head raw out : List ℕ) (f : IsFront out raw) → IsFront (head ++ out) (head ++ raw)
+longer : (head raw out : List ℕ) (f : IsProperFront out raw) → IsProperFront (head ++ out) (head ++ raw)
 longer head raw out f = record {
   count = length head + f.count;
   shorter = (let s = f.shorter in omega (arith, s, length-append head raw));

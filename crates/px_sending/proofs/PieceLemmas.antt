@@ -8,9 +8,9 @@ use Rattle.px_base.specs.Sinks.{SinkState, SinkGoesOn, AddsFront}
 use Rattle.px_base.specs.declared.faults.SinkFault.{SinkFault}
 use Rattle.px_base.specs.declared.faults.SinkFault.TheVariants as fault
 use Rattle.px_framing.specs.Body.{Part, nothing, first_bytes, at_end}
-use Rattle.px_framing.specs.Reading.{After, IsSettled, IsSettledAt, Reading, Uses, before, capped, first, goes_on, is_last, reads, reads_on, stage_state}
-use Rattle.px_framing.specs.declared.places.Place.{Place}
-use Rattle.px_framing.specs.declared.places.Place.TheVariants as place
+use Rattle.px_framing.specs.Reading.{ReaderAfter, IsSettled, IsSettledAt, Reading, Uses, before, capped, first, goes_on, is_last, reads, reads_on, stage_state}
+use Rattle.px_framing.specs.declared.places.ChunkPlace.{ChunkPlace}
+use Rattle.px_framing.specs.declared.places.ChunkPlace.TheVariants as place
 use Rattle.px_framing.specs.declared.places.State.{State}
 use Rattle.px_framing.specs.declared.places.State.TheVariants as state
 use Rattle.px_framing.specs.declared.rules.BodyRule.{BodyRule}
@@ -20,7 +20,7 @@ use Rattle.px_framing.specs.declared.stages.Stage.TheVariants as stage
 use Rattle.px_sending.specs.declared.messages.Sent.TheVariants as sent
 use Rattle.px_sending.specs.Prefixes.{IsPrefix}
 use Rattle.px_sending.specs.Sends.{Sends, body_in, end_of_body, behind_body, interim_behind}
-use Rattle.px_sending.specs.Pieces.{PassesPiece, StopsInPiece, StopsBy, SentSoFar, bare, link_refused, sent_at}
+use Rattle.px_sending.specs.Pieces.{PassesPiece, StopsInPiece, PieceStopsBy, SentSoFar, bare, link_refused, sent_at}
 
 -- a reader at its end reads nothing more
 pub ended_reads : (r : Reading) (more : List ℕ) → stage_state r.stage ≢ state.More → goes_on r more ≡ nothing (stage_state r.stage)
@@ -41,7 +41,7 @@ bytes_none n s some =
     let full : nat_le n 0 ≡ false = grind (arith, nat_tests) in
     λ i. record { raw = none i; plain = none i; used = count i; state = cond (full i) s state.More }
 
-place_none : (p : Place) (kept : List ℕ) → is_last p ≡ false → reads p kept [] ≡ nothing state.More
+place_none : (p : ChunkPlace) (kept : List ℕ) → is_last p ≡ false → reads p kept [] ≡ nothing state.More
 unfolding reads
 place_none place.Size kept e = refl
 place_none (place.Data n) kept e = refl
@@ -89,7 +89,7 @@ ends_by r stream rest link link' out state.Misframed n e o b w = record { came =
 
 -- the loop goes on
 pub sent_on : (r : BodyRule) (stream ahead ahead' left link link1 link2 : List ℕ) (s : State) (old new : Reading) → SentSoFar r stream (ahead ++ left) link link1 old
-    → ((fed put plain : List ℕ) → After r fed put plain (length fed) old → PassesPiece r fed put plain ahead ahead' link1 link2 s new) → s ≡ state.More → ahead' ≡ []
+    → ((fed put plain : List ℕ) → ReaderAfter r fed put plain (length fed) old → PassesPiece r fed put plain ahead ahead' link1 link2 s new) → s ≡ state.More → ahead' ≡ []
     → SentSoFar r stream (ahead' ++ left) link link2 new
 sent_on r stream ahead ahead' left link link1 link2 s old new h k m e =
     let p = k h.fed h.put h.plain h.after in
@@ -105,7 +105,7 @@ sent_on r stream ahead ahead' left link link1 link2 s old new h k m e =
 
 -- the body ends with a piece
 pub sent_whole : (r : BodyRule) (stream ahead ahead' left link link1 link2 : List ℕ) (s : State) (old new : Reading) → SentSoFar r stream (ahead ++ left) link link1 old
-    → ((fed put plain : List ℕ) → After r fed put plain (length fed) old → PassesPiece r fed put plain ahead ahead' link1 link2 s new) → s ≡ stage_state new.stage → s ≢ state.More
+    → ((fed put plain : List ℕ) → ReaderAfter r fed put plain (length fed) old → PassesPiece r fed put plain ahead ahead' link1 link2 s new) → s ≡ stage_state new.stage → s ≢ state.More
     → Sends (bare r) stream (ahead' ++ left) link link2 [] [] (sent_at s)
 sent_whole r stream ahead ahead' left link link1 link2 s old new h k is n =
     let p = k h.fed h.put h.plain h.after in
@@ -122,7 +122,7 @@ sent_whole r stream ahead ahead' left link link1 link2 s old new h k is n =
     ends_by r stream (ahead' ++ left) link link2 (h.put ++ p.more) s n state_is (sym raw_is) (sym rest_is) (p.sent ∙ ap (λ (zs : List ℕ). zs ++ p.more) h.sent ∙ append_assoc link h.put p.more)
 
 -- what a stream settles begins with what was put out
-raw_of : (r : BodyRule) (stream bytes rest put plain : List ℕ) (count : ℕ) (reading : Reading) → stream ≡ bytes ++ rest → After r bytes put plain count reading
+raw_of : (r : BodyRule) (stream bytes rest put plain : List ℕ) (count : ℕ) (reading : Reading) → stream ≡ bytes ++ rest → ReaderAfter r bytes put plain count reading
     → (goes_on (first r) stream).raw ≡ put ++ (goes_on reading rest).raw
 raw_of r stream bytes rest put plain count reading e a = ap (λ (zs : List ℕ). (goes_on (first r) zs).raw) e ∙ ap (λ (q : Part). q.raw) (a.same rest)
 
@@ -160,7 +160,7 @@ sent_wanting r stream rest rest' link link' reading h = record {
 
 -- a write was refused
 pub sent_some : (r : BodyRule) (stream ahead left rest link link1 link2 : List ℕ) (f : SinkFault) (old : Reading) → SentSoFar r stream (ahead ++ left) link link1 old
-    → ((fed put plain : List ℕ) → After r fed put plain (length fed) old → StopsBy r fed put plain ahead link1 link2 f)
+    → ((fed put plain : List ℕ) → ReaderAfter r fed put plain (length fed) old → PieceStopsBy r fed put plain ahead link1 link2 f)
     → Sends (bare r) stream rest link link2 [] [] (link_refused f)
 sent_some r stream ahead left rest link link1 link2 f old h k = by f (k h.fed h.put h.plain h.after)
   where
@@ -170,7 +170,7 @@ sent_some r stream ahead left rest link link1 link2 f old h k = by f (k h.fed h.
     sent_is : (x : StopsInPiece r h.fed h.put h.plain ahead link1 link2) → link2 ≡ link ++ (h.put ++ take x.front.0 x.more)
     sent_is x = x.front.2 ∙ ap (λ (zs : List ℕ). zs ++ take x.front.0 x.more) h.sent ∙ append_assoc link h.put (take x.front.0 x.more)
 
-    by : (f : SinkFault) → StopsBy r h.fed h.put h.plain ahead link1 link2 f → Sends (bare r) stream rest link link2 [] [] (link_refused f)
+    by : (f : SinkFault) → PieceStopsBy r h.fed h.put h.plain ahead link1 link2 f → Sends (bare r) stream rest link link2 [] [] (link_refused f)
     by fault.Failed x = record {
       came = stream;
       is_stream = refl;
@@ -207,7 +207,7 @@ sent_some r stream ahead left rest link link1 link2 f old h k = by f (k h.fed h.
 
 -- the stream ends
 pub sent_to_end : (r : BodyRule) (stream rest rest' link link' : List ℕ) (s : State) (reading : Reading) → SentSoFar r stream rest link link' reading → rest ≡ [] → rest' ≡ [] → IsSettled reading → stage_state reading.stage ≡ state.More
-    → ((fed put plain : List ℕ) (count : ℕ) → After r fed put plain count reading → s ≡ at_end r (stage_state reading.stage)) → Sends (bare r) stream rest' link link' [] [] (sent_at s)
+    → ((fed put plain : List ℕ) (count : ℕ) → ReaderAfter r fed put plain count reading → s ≡ at_end r (stage_state reading.stage)) → Sends (bare r) stream rest' link link' [] [] (sent_at s)
 sent_to_end r stream rest rest' link link' s reading h e e' i m k =
     let by_rule : s ≡ at_end r state.More = k h.fed h.put h.plain (length h.fed) h.after ∙ ap (at_end r) m in
     let whole : stream ≡ h.fed ++ [] = h.read ∙ ap (λ (zs : List ℕ). h.fed ++ zs) e in
@@ -237,19 +237,19 @@ sent_read r stream rest link link' reading h i m =
 
 -- a piece was sent behind a line that an earlier one began
 pub passes_piece : (r : BodyRule) (fed put plain piece piece' line data_more link link' : List ℕ) (whole used : ℕ) (s : State) (new : Reading) → Uses piece used s → piece' ≡ drop used piece → link' ≡ link ++ (line ++ take whole piece)
-    → After r (fed ++ piece) (put ++ (line ++ take whole piece)) (plain ++ data_more) (length fed + used) new → PassesPiece r fed put plain piece piece' link link' s new
+    → ReaderAfter r (fed ++ piece) (put ++ (line ++ take whole piece)) (plain ++ data_more) (length fed + used) new → PassesPiece r fed put plain piece piece' link link' s new
 passes_piece r fed put plain piece piece' line data_more link link' whole used s new u e w a =
     record { more = line ++ take whole piece; data_more = data_more; used = used; uses = u; left = e; sent = w; after = a }
 
 -- a write was refused in it
 pub stops_in_piece : (r : BodyRule) (fed put plain piece line data_more link link' : List ℕ) (whole used : ℕ) (f : SinkFault) (new : Reading) → AddsFront link link' (line ++ take whole piece)
-    → After r (fed ++ piece) (put ++ (line ++ take whole piece)) (plain ++ data_more) (length fed + used) new → StopsBy r fed put plain piece link link' f
+    → ReaderAfter r (fed ++ piece) (put ++ (line ++ take whole piece)) (plain ++ data_more) (length fed + used) new → PieceStopsBy r fed put plain piece link link' f
 stops_in_piece r fed put plain piece line data_more link link' whole used f new w a = by f
   where
     stops : StopsInPiece r fed put plain piece link link'
     stops = record { more = line ++ take whole piece; data_more = data_more; used = used; reading = new; front = w; after = a }
 
-    by : (f : SinkFault) → StopsBy r fed put plain piece link link' f
+    by : (f : SinkFault) → PieceStopsBy r fed put plain piece link link' f
     by fault.Failed = stops
     by fault.Mem = inl stops
 

@@ -23,11 +23,11 @@ pub record Next : Type 0 where
   pub rule : BodyRule
 
 -- a request has a body, if only one of length 0
-abbrev pub has_body : BodyRule → Bool
-has_body Absent = false
-has_body (Length n) = true
-has_body Chunked = true
-has_body ToClose = true
+abbrev pub request_has_body : BodyRule → Bool
+request_has_body Absent = false
+request_has_body (Length n) = true
+request_has_body Chunked = true
+request_has_body ToClose = true
 
 -- the field is Expect: 100-continue
 abbrev pub asks_continue : Field → Bool
@@ -35,7 +35,7 @@ asks_continue f = has_name (codes "Expect") f && str_eq_ignore_ascii_case f.valu
 
 -- the client waits for 100 Continue: a request of HTTP/1.1 that has a body and asks for it
 abbrev pub expects_continue : ℕ → List Field → BodyRule → Bool
-expects_continue minor fields rule = minor == 1 && has_body rule && list_any asks_continue fields
+expects_continue minor fields rule = minor == 1 && request_has_body rule && list_any asks_continue fields
 
 -- the minor version: chunks need HTTP/1.1
 abbrev pub next_minor : Bool → BodyRule → ℕ
@@ -55,8 +55,8 @@ framing_fields Chunked = plain_field (codes "Transfer-Encoding") (codes "chunked
 framing_fields ToClose = []
 
 -- the field's line with its end
-abbrev pub line_of : List ℕ → List ℕ → List ℕ
-line_of name value = (name ++ codes ": " ++ value) ++ crlf
+abbrev pub field_line_of : List ℕ → List ℕ → List ℕ
+field_line_of name value = (name ++ codes ": " ++ value) ++ crlf
 
 -- Host of the destination, the fields, the framing, and Connection: close
 abbrev pub next_fields : Next → List Field

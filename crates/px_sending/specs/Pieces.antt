@@ -5,7 +5,7 @@ use Rattle.px_base.specs.Sources.{SourceState, SourceGoesOn}
 use Rattle.px_base.specs.Causes.{Rose}
 use Rattle.px_base.specs.declared.faults.SinkFault.{SinkFault}
 use Rattle.px_base.specs.declared.faults.SinkFault.TheVariants as fault
-use Rattle.px_framing.specs.Reading.{After, Reading, Uses}
+use Rattle.px_framing.specs.Reading.{ReaderAfter, Reading, Uses}
 use Rattle.px_framing.specs.declared.places.State.{State}
 use Rattle.px_framing.specs.declared.places.State.TheVariants as state
 use Rattle.px_framing.specs.declared.rules.BodyRule.{BodyRule}
@@ -26,7 +26,7 @@ pub record PassesPiece (rule : BodyRule) (fed put plain ahead ahead' link link' 
   pub uses : Uses ahead used s
   pub left : ahead' ≡ drop used ahead
   pub sent : link' ≡ link ++ more
-  pub after : After rule (fed ++ ahead) (put ++ more) (plain ++ data_more) (length fed + used) r
+  pub after : ReaderAfter rule (fed ++ ahead) (put ++ more) (plain ++ data_more) (length fed + used) r
 
 -- a write was refused: a proper prefix of what the piece settles was sent
 pub record StopsInPiece (rule : BodyRule) (fed put plain ahead link link' : List ℕ) : Type 0 where
@@ -35,20 +35,20 @@ pub record StopsInPiece (rule : BodyRule) (fed put plain ahead link link' : List
   pub used : ℕ
   pub reading : Reading
   pub front : AddsFront link link' more
-  pub after : After rule (fed ++ ahead) (put ++ more) (plain ++ data_more) (length fed + used) reading
+  pub after : ReaderAfter rule (fed ++ ahead) (put ++ more) (plain ++ data_more) (length fed + used) reading
 
 -- why a piece wasn't passed on whole; for want of memory nothing of it may have been sent
-abbrev pub StopsBy : BodyRule → List ℕ → List ℕ → List ℕ → List ℕ → List ℕ → List ℕ → SinkFault → Type 0
-StopsBy rule fed put plain ahead link link' fault.Failed = StopsInPiece rule fed put plain ahead link link'
-StopsBy rule fed put plain ahead link link' fault.Mem = StopsInPiece rule fed put plain ahead link link' ⊎ (link' ≡ link)
+abbrev pub PieceStopsBy : BodyRule → List ℕ → List ℕ → List ℕ → List ℕ → List ℕ → List ℕ → SinkFault → Type 0
+PieceStopsBy rule fed put plain ahead link link' fault.Failed = StopsInPiece rule fed put plain ahead link link'
+PieceStopsBy rule fed put plain ahead link link' fault.Mem = StopsInPiece rule fed put plain ahead link link' ⊎ (link' ≡ link)
 
 -- what a fault says of the sink's count
-abbrev pub FaultCause : SinkState → SinkState → SinkFault → Type 0
-FaultCause old new fault.Failed = Rose old.faults new.faults
-FaultCause old new fault.Mem = new.faults ≡ old.faults
+abbrev pub SendFaultCause : SinkState → SinkState → SinkFault → Type 0
+SendFaultCause old new fault.Failed = Rose old.faults new.faults
+SendFaultCause old new fault.Mem = new.faults ≡ old.faults
 
 abbrev pub PieceCause : {T : Type 0} → SinkState → SinkState → Result T SinkFault → Type 0
-PieceCause old new result = MatchResult result (λ _. new.faults ≡ old.faults) (λ f. FaultCause old new f)
+PieceCause old new result = MatchResult result (λ _. new.faults ≡ old.faults) (λ f. SendFaultCause old new f)
 
 -- what came of it where a write was refused
 abbrev pub link_refused : SinkFault → Sent
@@ -69,10 +69,10 @@ pub record SentSoFar (rule : BodyRule) (stream rest link link' : List ℕ) (r : 
   pub plain : List ℕ
   pub read : stream ≡ fed ++ rest
   pub sent : link' ≡ link ++ put
-  pub after : After rule fed put plain (length fed) r
+  pub after : ReaderAfter rule fed put plain (length fed) r
 
 -- what the loop over the pieces of a body keeps
-pub record Sending (rule : BodyRule) (s s' : SourceState) (ahead ahead' : List ℕ) (p p' : SinkState) (r : Reading) : Type 0 where
+pub record KeepsPieces (rule : BodyRule) (s s' : SourceState) (ahead ahead' : List ℕ) (p p' : SinkState) (r : Reading) : Type 0 where
   pub so_far : IsTrue s.tells → IsTrue p.tells → SentSoFar rule (ahead ++ s.left) (ahead' ++ s'.left) p.taken p'.taken r
   pub in_faults_same : s'.faults ≡ s.faults
   pub link_faults_same : p'.faults ≡ p.faults

@@ -2,7 +2,7 @@
 use Rattle.std.specs.Prelude.{◌≡◌, ℕ, ◌<◌, ◌≤◌, List, length, take}
 
 -- a proper prefix of the bytes
-pub record IsFront (front bytes : List ℕ) : Type 0 where
+pub record IsProperFront (front bytes : List ℕ) : Type 0 where
   pub count : ℕ
   pub shorter : count < length bytes
   pub is : front ≡ take count bytes

@@ -9,7 +9,7 @@ use Rattle.px_framing.specs.declared.places.State.TheVariants as state
 use Rattle.px_sending.specs.declared.messages.Message.{Message}
 use Rattle.px_sending.specs.declared.messages.Sent.{Sent}
 use Rattle.px_sending.specs.declared.messages.Sent.TheVariants as sent
-use Rattle.px_sending.specs.Prefixes.{IsFront, IsPrefix}
+use Rattle.px_sending.specs.Prefixes.{IsProperFront, IsPrefix}
 
 -- ---- what is due
 
@@ -52,8 +52,8 @@ SendsBy m stream rest out back sent.Misframed =
     (end_of_body m stream ≡ state.Misframed) × (out ≡ all_of m stream) × (back ≡ interim m) × (rest ≡ behind_body m stream)
 SendsBy m stream rest out back sent.ReadFailed =
     ((body_in m stream).state ≡ state.More) × (out ≡ all_of m stream) × (back ≡ interim m)
-SendsBy m stream rest out back sent.LinkFailed = IsFront out (all_of m stream) × (back ≡ interim_behind m out)
-SendsBy m stream rest out back sent.WriteFailed = (out ≡ m.head) × IsFront back (interim m)
+SendsBy m stream rest out back sent.LinkFailed = IsProperFront out (all_of m stream) × (back ≡ interim_behind m out)
+SendsBy m stream rest out back sent.WriteFailed = (out ≡ m.head) × IsProperFront back (interim m)
 SendsBy m stream rest out back sent.NoMemory = IsPrefix out (all_of m stream) × IsPrefix back (interim_behind m out)
 
 abbrev pub is_link_failed : Sent → Bool

@@ -2,7 +2,7 @@
 ghost use Rattle.std.specs.Prelude.{◌≡◌, ◌++◌, IfOk, OnOk, if◌then◌else◌};
 ghost use Rattle.std.specs.List.{list_any};
 ghost use Rattle.px_head.specs.Prints.{crlf, field_lines};
-ghost use Rattle.px_sending.specs.Heads.{asks_continue, expects_continue as expects_continue_spec, framing_fields, has_body as has_body_spec, next_head as next_head_spec, next_line, next_minor as next_minor_spec};
+ghost use Rattle.px_sending.specs.Heads.{asks_continue, expects_continue as expects_continue_spec, framing_fields, request_has_body as has_body_spec, next_head as next_head_spec, next_line, next_minor as next_minor_spec};
 
 use itoa::Buffer;
 use px_base::{Mem, Text, same_without_case};

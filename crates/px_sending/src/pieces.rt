@@ -2,11 +2,11 @@
 ghost use Rattle.std.specs.Prelude.{◌≡◌, ◌≢◌, ◌++◌, ℕ, [], List, false, IsTrue, IfOk, ◌+◌, length, MatchResult};
 ghost use Rattle.px_base.specs.Sinks.{AddsAll, SinkGoesOn};
 ghost use Rattle.px_base.specs.Sources.{SourceGoesOn};
-ghost use Rattle.px_framing.specs.Reading.{After, IsSettled, stage_state};
+ghost use Rattle.px_framing.specs.Reading.{ReaderAfter, IsSettled, stage_state};
 ghost use Rattle.px_framing.specs.Passing.{bytes_left};
 ghost use Rattle.px_framing.specs.declared.rules.BodyRule.{BodyRule as Rule};
 ghost use Rattle.px_sending.specs.Sends.{RoseWhere, Sends, is_link_failed, is_read_failed, is_write_failed};
-ghost use Rattle.px_sending.specs.Pieces.{PassesPiece, PieceCause, StopsBy, bare, link_refused as link_refused_spec, sent_at};
+ghost use Rattle.px_sending.specs.Pieces.{PassesPiece, PieceCause, PieceStopsBy, bare, link_refused as link_refused_spec, sent_at};
 
 use crate::messages::Sent;
 use px_base::{Mem, Sink, SinkFault, Source, Text, write_all};
@@ -62,9 +62,9 @@ fn send_piece<P: Sink>(
     line: &mut Text,
     link_out: &mut P,
 ) -> Result<State, SinkFault>
-    ensures passes { IsTrue (P.state link_out.old).tells → (rule : Rule) (fed put plain : List ℕ) → After rule fed put plain (length fed) reader.old
+    ensures passes { IsTrue (P.state link_out.old).tells → (rule : Rule) (fed put plain : List ℕ) → ReaderAfter rule fed put plain (length fed) reader.old
         → MatchResult result (λ state. PassesPiece rule fed put plain ahead.old ahead.new (P.state link_out.old).taken (P.state link_out.new).taken state reader.new)
-        (λ fault. StopsBy rule fed put plain ahead.old (P.state link_out.old).taken (P.state link_out.new).taken fault) }
+        (λ fault. PieceStopsBy rule fed put plain ahead.old (P.state link_out.old).taken (P.state link_out.new).taken fault) }
     ensures state { IfOk result (λ state. state ≡ stage_state reader.new.stage) }
     ensures settled { IfOk result (λ _. IsSettled reader.new) }
     ensures used_up { IfOk result (λ state. state ≡ State.More → ahead.new ≡ []) }

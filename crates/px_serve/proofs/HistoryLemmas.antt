@@ -7,7 +7,7 @@ use Rattle.px_base.specs.Moments.{ClockState}
 use Rattle.px_base.specs.Repeating.{behind_first, behind_firsts, first_or, firsts_or}
 use Rattle.px_config.specs.declared.configs.Config.{Config}
 use Rattle.px_publish.specs.Views.{Entry, EndsIn, GoesOn, LookGives}
-use Rattle.px_serve.specs.Histories.{Begun, Looks, UsesOf, Take, NoneOlder, Noted, TakesOne, entry_of, held_number, moment_of}
+use Rattle.px_serve.specs.Histories.{Begun, Looks, UsesOf, Take, NoneOlder, Noted, TakesOne, entry_used, held_number, moment_of}
 
 -- the length of a list with one more
 one_more : (xs : List Begun) (x : Begun) → length (xs ++ x ∷ []) ≡ suc (length xs)
@@ -76,7 +76,7 @@ noted_more first looks looks' clock now next begun b one h = record {
   clock_tells = one.clock_tells ∙ h.clock_tells;
   entries = λ t none.
       let told : IsTrue looks.tells = h.looks_tell ∙ t in
-      take_more entry_of none first.coming looks.coming looks'.coming begun b (h.entries t none) (first_look looks.coming looks'.view (entry_of b) none one.used (one.look told)) (one.looks_left told);
+      take_more entry_used none first.coming looks.coming looks'.coming begun b (h.entries t none) (first_look looks.coming looks'.view (entry_used b) none one.used (one.look told)) (one.looks_left told);
   moments = λ t.
       let told : IsTrue now.tells = h.clock_tells ∙ t in
       take_more moment_of 0 clock.coming now.coming next.coming begun b (h.moments t) (one.moment told) (one.moments_left told);

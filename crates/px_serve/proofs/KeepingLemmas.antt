@@ -3,14 +3,14 @@ use Rattle.std.specs.Prelude.{unwrap_or}
 use Rattle.std.proofs.Common.{◌≡◌, ℕ, ◌+◌, List, length, slice_get, Some, refl, sym, ap, ◌∙◌}
 use Rattle.px_config.specs.declared.configs.Config.{Config}
 use Rattle.px_publish.specs.Views.{GoesOn, IsLast}
-use Rattle.px_serve.specs.declared.keeping.Kept.{Kept}
+use Rattle.px_serve.specs.declared.keeping.KeptEntry.{KeptEntry}
 use Rattle.px_serve.specs.declared.keeping.Store.{Store}
 use Rattle.px_serve.specs.declared.keeping.Store.TheVariants as store
-use Rattle.px_serve.specs.Keeping.{IsKept, IsStored, IsStoreOf, OfEntry}
+use Rattle.px_serve.specs.Keeping.{IsKeptStore, IsStored, IsStoreOf, OfEntry}
 
 -- entries may have come behind that one
-pub kept_on : (view view' : List Config) (kept kept' : Kept) → GoesOn view view' → kept'.number ≡ kept.number
-    → kept'.warm.sections ≡ kept.warm.sections → kept'.warm.filters ≡ kept.warm.filters → IsKept view kept → IsKept view' kept'
+pub kept_on : (view view' : List Config) (kept kept' : KeptEntry) → GoesOn view view' → kept'.number ≡ kept.number
+    → kept'.warm.sections ≡ kept.warm.sections → kept'.warm.filters ≡ kept.warm.filters → IsKeptStore view kept → IsKeptStore view' kept'
 kept_on view view' kept kept' on number sections filters h = record {
   config = h.config;
   entry = rw number (on.stands kept.number h.config h.entry);
@@ -22,7 +22,7 @@ same_entry : (a b : Config) → Some a ≡ Some b → a ≡ b
 same_entry a b e = ap (λ o. unwrap_or o a) e
 
 -- where the number is that of an entry, the store is that entry's
-pub store_of : (view view' : List Config) (kept : Kept) (number : ℕ) (config : Config) → GoesOn view view' → IsKept view kept → slice_get view' number ≡ Some config
+pub store_of : (view view' : List Config) (kept : KeptEntry) (number : ℕ) (config : Config) → GoesOn view view' → IsKeptStore view kept → slice_get view' number ≡ Some config
     → kept.number ≡ number → IsStoreOf config kept
 store_of view view' kept number config on h entry e =
     let same : h.config ≡ config = same_entry h.config config (sym (on.stands kept.number h.config h.entry) ∙ ap (λ (n : ℕ). slice_get view' n) e ∙ entry) in

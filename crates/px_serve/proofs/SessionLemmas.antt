@@ -17,13 +17,13 @@ use Rattle.px_head.specs.declared.blocks.HeadEnd.TheVariants as head
 use Rattle.std.specs.Prelude.{if◌then◌else◌}
 use Rattle.px_serve.specs.Ends.{end_after, end_of_bytes, only_empty}
 use Rattle.px_serve.specs.Histories.{Begun, Looks, Noted, note_of}
-use Rattle.px_serve.specs.Sessions.{Caller, Objects, Lasts, HeadOf, EndsBetween, Tell, Begins, Turns, Turned, Serves, Reaches, begin, state_at, is_last, Step}
+use Rattle.px_serve.specs.Sessions.{Caller, Objects, Lasts, HeadOf, EndsBetween, Tell, BeginsExchange, SessionTurns, Turned, Serves, Reaches, begin, session_state, is_last_request, SessionStep}
 use Rattle.px_serve.proofs.HistoryLemmas.{noted_more, noted_none, none_noted}
 
 -- a turn with one exchange; i1 is the client's source behind the head
 pub turned_one : {caller : Caller} {n : ℕ} {looks looks' : Looks} {i i1 i' : SourceState} {ahead ahead' : List ℕ} {old new : Objects} {notes notes' : List ExchangeNote} {e : Option SessionEnd} (seen : HeadSeen) (rest : List ℕ)
     → SourceGoesOn i i1 → (Tell i old → HeadOf (ahead ++ i.left) seen rest)
-    → Begins caller n seen i1 rest (ahead' ++ i'.left) looks looks' old new notes notes' e → Turned caller n looks looks' i i' ahead ahead' old new notes notes' e
+    → BeginsExchange caller n seen i1 rest (ahead' ++ i'.left) looks looks' old new notes notes' e → Turned caller n looks looks' i i' ahead ahead' old new notes notes' e
 turned_one {caller = caller} {n = n} {looks = looks} {looks' = looks'} {i = i} {i' = i'} {ahead = ahead} {ahead' = ahead'} {old = old} {new = new} {e = e} seen rest on head b = record {
   begun = b.begun ∷ [];
   noted = b.noted;
@@ -31,9 +31,9 @@ turned_one {caller = caller} {n = n} {looks = looks} {looks' = looks'} {i = i} {
   turns = λ t before. by e b.ends (record { seen = seen; rest = rest; head = head t; noted = refl; answers = b.answers (on.tells_same ∙ t.client_in) t.client_out t.dialer });
 }
   where
-    by : {before : List Begun} (end : Option SessionEnd) → end ≡ end_after (is_last n) b.begun.concluded
-        → Step caller n (state_at (ahead ++ i.left) old before) (state_at (ahead' ++ i'.left) new (before ++ b.begun ∷ [])) b.begun
-        → Turns caller n (state_at (ahead ++ i.left) old before) (state_at (ahead' ++ i'.left) new (before ++ b.begun ∷ [])) i'.left end
+    by : {before : List Begun} (end : Option SessionEnd) → end ≡ end_after (is_last_request n) b.begun.concluded
+        → SessionStep caller n (session_state (ahead ++ i.left) old before) (session_state (ahead' ++ i'.left) new (before ++ b.begun ∷ [])) b.begun
+        → SessionTurns caller n (session_state (ahead ++ i.left) old before) (session_state (ahead' ++ i'.left) new (before ++ b.begun ∷ [])) i'.left end
     by None is step = record { begun = b.begun; step = step; goes_on = sym is }
     by (Some end) is step = inr (record { begun = b.begun; step = step; ends = sym is })
 
@@ -65,7 +65,7 @@ pub record Serving (caller : Caller) (n : ℕ) (first last : Looks) (i i' : Sour
   pub begun : List Begun
   pub notes_are : notes ≡ map note_of begun
   pub noted : Noted first last old.clock now.clock begun
-  pub reached : Tell i old → Reaches caller (begin i.left old.dialer old.client_out.taken) n (state_at (ahead ++ i'.left) now begun)
+  pub reached : Tell i old → Reaches caller (begin i.left old.dialer old.client_out.taken) n (session_state (ahead ++ i'.left) now begun)
   pub unfailed_in : i'.faults ≡ i.faults
   pub unfailed_out : now.client_out.faults ≡ old.client_out.faults
   pub open_ : now.client_out.finished ≡ old.client_out.finished
@@ -147,7 +147,7 @@ serves_to {n = n} {first = first} {i1 = i1} {i2 = i2} {ahead = ahead} {ahead' = 
   noted = turned.history first old.clock h.begun h.noted;
   session = λ t. record {
     kept = n;
-    middle = state_at (ahead ++ i1.left) now h.begun;
+    middle = session_state (ahead ++ i1.left) now h.begun;
     rest = ahead' ++ i2.left;
     reached = h.reached t;
     ended = turned.turns (tells_on h.in_goes_on h.lasts t) h.begun;

@@ -77,15 +77,15 @@ WriteTurnCause old new None = new.faults ≡ old.faults
 WriteTurnCause old new (Some e) = WriteEndCause old new e
 
 -- the client's sink is as open as it was, save behind a tunnel
-abbrev pub StaysOpen : SinkState → SinkState → SessionEnd → Type 0
-StaysOpen old new end.Ended = new.finished ≡ old.finished
-StaysOpen old new end.Cut = new.finished ≡ old.finished
-StaysOpen old new end.Spent = new.finished ≡ old.finished
-StaysOpen old new end.Closed = Unit {0}
-StaysOpen old new end.ReadFailed = Unit {0}
-StaysOpen old new end.WriteFailed = Unit {0}
-StaysOpen old new end.NoMemory = Unit {0}
+abbrev pub SessionStaysOpen : SinkState → SinkState → SessionEnd → Type 0
+SessionStaysOpen old new end.Ended = new.finished ≡ old.finished
+SessionStaysOpen old new end.Cut = new.finished ≡ old.finished
+SessionStaysOpen old new end.Spent = new.finished ≡ old.finished
+SessionStaysOpen old new end.Closed = Unit {0}
+SessionStaysOpen old new end.ReadFailed = Unit {0}
+SessionStaysOpen old new end.WriteFailed = Unit {0}
+SessionStaysOpen old new end.NoMemory = Unit {0}
 
 abbrev pub TurnStaysOpen : SinkState → SinkState → Option SessionEnd → Type 0
 TurnStaysOpen old new None = new.finished ≡ old.finished
-TurnStaysOpen old new (Some e) = StaysOpen old new e
+TurnStaysOpen old new (Some e) = SessionStaysOpen old new e

@@ -17,8 +17,8 @@ pub record Begun : Type 0 where
 abbrev pub note_of : Begun → ExchangeNote
 note_of b = record { config = b.number; moment = b.moment; ending = b.concluded.ending }
 
-abbrev pub entry_of : Begun → Entry Config
-entry_of b = record { number = b.number; config = b.config }
+abbrev pub entry_used : Begun → Entry Config
+entry_used b = record { number = b.number; config = b.config }
 
 abbrev pub moment_of : Begun → ℕ
 moment_of b = b.moment
@@ -60,7 +60,7 @@ pub record Noted (looks looks' : Looks) (clock clock' : ClockState) (begun : Lis
   pub looks_tell : looks'.tells ≡ looks.tells
   pub pair : looks'.pair ≡ looks.pair
   pub clock_tells : clock'.tells ≡ clock.tells
-  pub entries : IsTrue looks.tells → (none : Entry Config) → Take entry_of none looks.coming looks'.coming begun
+  pub entries : IsTrue looks.tells → (none : Entry Config) → Take entry_used none looks.coming looks'.coming begun
   pub moments : IsTrue clock.tells → Take moment_of 0 clock.coming clock'.coming begun
   pub goes_on : GoesOn looks.view looks'.view
   pub used : All (UsesOf looks'.view) begun
@@ -72,7 +72,7 @@ pub record TakesOne (looks looks' : Looks) (clock clock' : ClockState) (b : Begu
   pub pair : looks'.pair ≡ looks.pair
   pub clock_tells : clock'.tells ≡ clock.tells
   pub goes_on : GoesOn looks.view looks'.view
-  pub used : EndsIn looks'.view (entry_of b)
+  pub used : EndsIn looks'.view (entry_used b)
   pub look : IsTrue looks.tells → LookGives looks.coming looks'.view
   pub looks_left : IsTrue looks.tells → looks'.coming ≡ behind_first looks.coming
   pub moment : IsTrue clock.tells → b.moment ≡ first_or 0 clock.coming

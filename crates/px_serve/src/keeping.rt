@@ -3,9 +3,9 @@ ghost use Rattle.std.specs.Prelude.{◌≡◌, ◌↔◌, ◌++◌, IsTrue, Some
 ghost use Rattle.px_base.specs.Dials.{DialerGoesOn};
 ghost use Rattle.px_base.specs.Sinks.{SinkGoesOn};
 ghost use Rattle.px_base.specs.Sources.{SourceGoesOn};
-ghost use Rattle.px_exchange.specs.Causes.{ReadCause, StaysOpen, WriteCause};
+ghost use Rattle.px_exchange.specs.Causes.{ClientReadCause, ClientStaysOpen, ClientWriteCause};
 ghost use Rattle.px_exchange.specs.Exchange.{Answers};
-ghost use Rattle.px_serve.specs.Keeping.{IsStoreOf, OfEntry, number_of};
+ghost use Rattle.px_serve.specs.Keeping.{IsStoreOf, OfEntry, store_number};
 
 use px_base::{Dialer, Mem, Sink, Source};
 use px_config::{Config, Warm};
@@ -17,7 +17,7 @@ use std::thread::Threads;
 
 /// What the patterns and filters of the entry with that number keep from search to search.
 #[derive(Drop)]
-pub struct Kept<'c> {
+pub struct KeptEntry<'c> {
     pub number: u64,
     pub warm: Warm<'c>,
 }
@@ -25,7 +25,7 @@ pub struct Kept<'c> {
 /// The store with which sessions are served, if there was memory for one.
 #[derive(Drop)]
 pub enum Store<'c> {
-    Of(Kept<'c>),
+    Of(KeptEntry<'c>),
     /// Memory was wanting: a session that is served with it ends so, before anything is read.
     Wanting,
 }
@@ -36,14 +36,14 @@ impl<'c> Store<'c> {
         ensures { OfEntry number config.now result }
     {
         match config.warm(alloc) {
-            Ok(warm) => Store::Of(Kept { number, warm }),
+            Ok(warm) => Store::Of(KeptEntry { number, warm }),
             Err(Mem) => Store::Wanting,
         }
     }
 
     /// Whether it is the store of the entry with that number.
     pub fn is_of(&self, number: u64) -> bool
-        ensures { IsTrue result ↔ (number_of self.now ≡ Some number) }
+        ensures { IsTrue result ↔ (store_number self.now ≡ Some number) }
     {
         match self {
             Store::Of(kept) => kept.number == number,
@@ -58,7 +58,7 @@ pub fn answer<R: Threads + Sync, S: Source, O: Sink, D: Dialer>(
     way: &Way<'_, R>,
     handed: &Handed<'_>,
     number: u64,
-    kept: &mut Kept<'_>,
+    kept: &mut KeptEntry<'_>,
     client_in: &mut S,
     ahead: &mut Ahead,
     client_out: &mut O,
@@ -69,9 +69,9 @@ pub fn answer<R: Threads + Sync, S: Source, O: Sink, D: Dialer>(
         → Answers handed.now
         (record { stream = ahead.old ++ (S.state client_in.old).left; behind = ahead.new ++ (S.state client_in.new).left })
         (D.state dialer.old) (D.state dialer.new) (O.state client_out.old).taken (O.state client_out.new).taken result }
-    ensures read_cause { ReadCause (S.state client_in.old) (S.state client_in.new) result.after }
-    ensures write_cause { WriteCause (O.state client_out.old) (O.state client_out.new) result }
-    ensures open { StaysOpen (O.state client_out.old) (O.state client_out.new) result }
+    ensures read_cause { ClientReadCause (S.state client_in.old) (S.state client_in.new) result.after }
+    ensures write_cause { ClientWriteCause (O.state client_out.old) (O.state client_out.new) result }
+    ensures open { ClientStaysOpen (O.state client_out.old) (O.state client_out.new) result }
     ensures in_goes_on { SourceGoesOn (S.state client_in.old) (S.state client_in.new) }
     ensures out_goes_on { SinkGoesOn (O.state client_out.old) (O.state client_out.new) }
     ensures goes_on { DialerGoesOn (D.state dialer.old) (D.state dialer.new) }

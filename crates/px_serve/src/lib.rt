@@ -8,7 +8,7 @@ mod keeping;
 mod sessions;
 
 pub use ends::{REQUEST_LIMIT, SessionEnd};
-pub use keeping::{Kept, Store};
+pub use keeping::{KeptEntry, Store};
 pub use sessions::{Session, serve_connection, serve_stored};
 
 /// What the constant of this crate is.

@@ -2,18 +2,18 @@
 ghost use Rattle.std.specs.Prelude.{◌≡◌, ◌≢◌, ◌<◌, ◌≤◌, ◌+◌, ◌++◌, ◌∷◌, [], List, ℕ, IsTrue, None, Some, length, vec_len, vec_capacity};
 ghost use Rattle.px_base.specs.Sources.{SourceGoesOn};
 ghost use Rattle.px_publish.specs.Views.{Entry};
-ghost use Rattle.px_serve.specs.Ends.{end_of_bytes, ReadEndCause, WriteEndCause, ReadTurnCause, StaysOpen, TurnStaysOpen, WriteTurnCause};
+ghost use Rattle.px_serve.specs.Ends.{end_of_bytes, ReadEndCause, WriteEndCause, ReadTurnCause, SessionStaysOpen, TurnStaysOpen, WriteTurnCause};
 ghost use Rattle.px_serve.specs.Histories.{Looks};
-ghost use Rattle.px_serve.specs.Keeping.{IsKept, IsStored};
-ghost use Rattle.px_serve.specs.Sessions.{Caller, Objects, Lasts, Begins, Turned, Serves};
+ghost use Rattle.px_serve.specs.Keeping.{IsKeptStore, IsStored};
+ghost use Rattle.px_serve.specs.Sessions.{Caller, Objects, Lasts, BeginsExchange, Turned, Serves};
 
 use crate::ends::{REQUEST_LIMIT, SessionEnd, end_after, is_empty_lines};
-use crate::keeping::{Kept, Store, answer};
+use crate::keeping::{KeptEntry, Store, answer};
 use px_base::{Clock, Dialer, List, Peer, Sink, Source, Text};
 use px_exchange::{Config, ExchangeNote, Handed, HeadSeen};
 use px_head::HEAD_LIMIT;
 use px_publish::{Configs, CountFull};
-use px_streams::{Ahead, Front, ReadFault, read_front};
+use px_streams::{Ahead, ReadFault, StreamFront, read_front};
 use px_ways::Way;
 use std::alloc::Global;
 use std::thread::Threads;
@@ -50,7 +50,7 @@ fn serve_request<R, K, S, O, D, T>(
     way: &Way<'_, R>,
     client: &Client<'_>,
     number: u64,
-    kept: &mut Kept<'_>,
+    kept: &mut KeptEntry<'_>,
     configs: &mut K,
     seen: &HeadSeen,
     client_in: &mut S,
@@ -69,8 +69,8 @@ where
     T: Clock,
     requires number { number < REQUEST_LIMIT }
     requires room { vec_len notes.old < vec_capacity notes.old }
-    requires kept { IsKept (K.view configs.old) kept.old }
-    ensures begins { Begins (record { tags = client.now.tags.now; peer = client.now.peer.now.address }) number seen.now (S.state client_in.old) (ahead.old ++ (S.state client_in.old).left) (ahead.new ++ (S.state client_in.new).left)
+    requires kept { IsKeptStore (K.view configs.old) kept.old }
+    ensures begins { BeginsExchange (record { tags = client.now.tags.now; peer = client.now.peer.now.address }) number seen.now (S.state client_in.old) (ahead.old ++ (S.state client_in.old).left) (ahead.new ++ (S.state client_in.new).left)
         (record { tells = K.tells; view = K.view configs.old; pair = K.pair configs.old; coming = K.coming configs.old })
         (record { tells = K.tells; view = K.view configs.new; pair = K.pair configs.new; coming = K.coming configs.new })
         (record { client_out = O.state client_out.old; dialer = D.state dialer.old; clock = T.state clock.old })
@@ -81,7 +81,7 @@ where
     ensures goes_on_below { result ≡ None → number + 1 < REQUEST_LIMIT }
     ensures read_cause { ReadTurnCause (S.state client_in.old) (S.state client_in.new) result }
     ensures write_cause { WriteTurnCause (O.state client_out.old) (O.state client_out.new) result }
-    ensures kept { IsKept (K.view configs.new) kept.new }
+    ensures kept { IsKeptStore (K.view configs.new) kept.new }
     ensures open { TurnStaysOpen (O.state client_out.old) (O.state client_out.new) result }
     ensures in_goes_on { SourceGoesOn (S.state client_in.old) (S.state client_in.new) }
     ensures lasts { Lasts
@@ -137,7 +137,7 @@ fn turn<R, K, S, O, D, T>(
     way: &Way<'_, R>,
     client: &Client<'_>,
     number: u64,
-    kept: &mut Kept<'_>,
+    kept: &mut KeptEntry<'_>,
     configs: &mut K,
     client_in: &mut S,
     ahead: &mut Ahead,
@@ -155,7 +155,7 @@ where
     T: Clock,
     requires number { number < REQUEST_LIMIT }
     requires room { vec_len notes.old < vec_capacity notes.old }
-    requires kept { IsKept (K.view configs.old) kept.old }
+    requires kept { IsKeptStore (K.view configs.old) kept.old }
     ensures turned { Turned (record { tags = client.now.tags.now; peer = client.now.peer.now.address }) number
         (record { tells = K.tells; view = K.view configs.old; pair = K.pair configs.old; coming = K.coming configs.old })
         (record { tells = K.tells; view = K.view configs.new; pair = K.pair configs.new; coming = K.coming configs.new })
@@ -168,7 +168,7 @@ where
     ensures goes_on_below { result ≡ None → number + 1 < REQUEST_LIMIT }
     ensures read_cause { ReadTurnCause (S.state client_in.old) (S.state client_in.new) result }
     ensures write_cause { WriteTurnCause (O.state client_out.old) (O.state client_out.new) result }
-    ensures kept { IsKept (K.view configs.new) kept.new }
+    ensures kept { IsKeptStore (K.view configs.new) kept.new }
     ensures open { TurnStaysOpen (O.state client_out.old) (O.state client_out.new) result }
     ensures in_goes_on { SourceGoesOn (S.state client_in.old) (S.state client_in.new) }
     ensures lasts { Lasts
@@ -176,7 +176,7 @@ where
         (record { client_out = O.state client_out.new; dialer = D.state dialer.new; clock = T.state clock.new }) }
 {
     match read_front(alloc, client_in, ahead, HEAD_LIMIT) {
-        Ok(Front::Block(block)) => serve_request(
+        Ok(StreamFront::Block(block)) => serve_request(
             alloc,
             way,
             client,
@@ -191,7 +191,7 @@ where
             clock,
             notes,
         ),
-        Ok(Front::Over) => serve_request(
+        Ok(StreamFront::Over) => serve_request(
             alloc,
             way,
             client,
@@ -206,7 +206,7 @@ where
             clock,
             notes,
         ),
-        Ok(Front::End) => Some(end_of_bytes(ahead.as_bytes())),
+        Ok(StreamFront::End) => Some(end_of_bytes(ahead.as_bytes())),
         Err(ReadFault::Failed) => Some(SessionEnd::ReadFailed),
         Err(ReadFault::Mem) => Some(SessionEnd::NoMemory),
     }
@@ -217,7 +217,7 @@ fn serve<R, K, S, O, D, T>(
     alloc: Global,
     way: &Way<'_, R>,
     client: &Client<'_>,
-    kept: &mut Kept<'_>,
+    kept: &mut KeptEntry<'_>,
     configs: &mut K,
     client_in: &mut S,
     client_out: &mut O,
@@ -234,7 +234,7 @@ where
     T: Clock,
     requires none { notes.old.items ≡ [] }
     requires room { REQUEST_LIMIT ≤ vec_capacity notes.old }
-    requires kept { IsKept (K.view configs.old) kept.old }
+    requires kept { IsKeptStore (K.view configs.old) kept.old }
     ensures serves { Serves (record { tags = client.now.tags.now; peer = client.now.peer.now.address })
         (record { tells = K.tells; view = K.view configs.old; pair = K.pair configs.old; coming = K.coming configs.old })
         (record { tells = K.tells; view = K.view configs.new; pair = K.pair configs.new; coming = K.coming configs.new })
@@ -244,8 +244,8 @@ where
         notes.new.items result }
     ensures read_cause { ReadEndCause (S.state client_in.old) (S.state client_in.new) result }
     ensures write_cause { WriteEndCause (O.state client_out.old) (O.state client_out.new) result }
-    ensures kept { IsKept (K.view configs.new) kept.new }
-    ensures open { StaysOpen (O.state client_out.old) (O.state client_out.new) result }
+    ensures kept { IsKeptStore (K.view configs.new) kept.new }
+    ensures open { SessionStaysOpen (O.state client_out.old) (O.state client_out.new) result }
     ensures in_goes_on { SourceGoesOn (S.state client_in.old) (S.state client_in.new) }
     ensures lasts { Lasts
         (record { client_out = O.state client_out.old; dialer = D.state dialer.old; clock = T.state clock.old })
@@ -270,7 +270,7 @@ fn serve_noted<R, K, S, O, D, T>(
     alloc: Global,
     way: &Way<'_, R>,
     client: &Client<'_>,
-    kept: &mut Kept<'_>,
+    kept: &mut KeptEntry<'_>,
     configs: &mut K,
     client_in: &mut S,
     client_out: &mut O,
@@ -284,7 +284,7 @@ where
     O: Sink,
     D: Dialer,
     T: Clock,
-    requires kept { IsKept (K.view configs.old) kept.old }
+    requires kept { IsKeptStore (K.view configs.old) kept.old }
     ensures serves { Serves (record { tags = client.now.tags.now; peer = client.now.peer.now.address })
         (record { tells = K.tells; view = K.view configs.old; pair = K.pair configs.old; coming = K.coming configs.old })
         (record { tells = K.tells; view = K.view configs.new; pair = K.pair configs.new; coming = K.coming configs.new })
@@ -294,8 +294,8 @@ where
         result.exchanges result.end }
     ensures read_cause { ReadEndCause (S.state client_in.old) (S.state client_in.new) result.end }
     ensures write_cause { WriteEndCause (O.state client_out.old) (O.state client_out.new) result.end }
-    ensures kept { IsKept (K.view configs.new) kept.new }
-    ensures open { StaysOpen (O.state client_out.old) (O.state client_out.new) result.end }
+    ensures kept { IsKeptStore (K.view configs.new) kept.new }
+    ensures open { SessionStaysOpen (O.state client_out.old) (O.state client_out.new) result.end }
     ensures in_goes_on { SourceGoesOn (S.state client_in.old) (S.state client_in.new) }
     ensures lasts { Lasts
         (record { client_out = O.state client_out.old; dialer = D.state dialer.old; clock = T.state clock.old })

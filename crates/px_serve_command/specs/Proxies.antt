@@ -89,7 +89,7 @@ ServesPublished made new counts s = ServesDesk made new counts s ⊎ WantsDesk m
 
 -- the doors listened at the host and port of the configuration, and their connections were served. `reading` are the files behind
 -- the loading, and `listening` the doors as they began to listen: the desk's facts speak of these, and of the error output as it was
-pub record Serves (config : List ℕ) (most : ℕ) (loaded : FileSet) (first : Config) (old new : ProxyOutside) (counts : ReloadCounts) (s : Status) : Type 0 where
+pub record ServesProxy (config : List ℕ) (most : ℕ) (loaded : FileSet) (first : Config) (old new : ProxyOutside) (counts : ReloadCounts) (s : Status) : Type 0 where
   pub reading : FilesState
   pub reads : OnlyReads old.files reading
   pub unfailed : reading.read_faults ≡ old.files.read_faults
@@ -104,7 +104,7 @@ pub record Serves (config : List ℕ) (most : ℕ) (loaded : FileSet) (first : C
 -- with a configuration that was loaded
 abbrev pub ServesLoaded : List ℕ → ℕ → FileSet → Config → ProxyOutside → ProxyOutside → ReloadCounts → Status → Type 0
 ServesLoaded config most loaded first old new counts s =
-    FailsToListen old new counts s ⊎ (Serves config most loaded first old new counts s ⊎ WantsServing old new counts s)
+    FailsToListen old new counts s ⊎ (ServesProxy config most loaded first old new counts s ⊎ WantsServing old new counts s)
 
 -- the same objects with other doors
 abbrev pub with_doors : DoorsState → ProxyOutside → ProxyOutside

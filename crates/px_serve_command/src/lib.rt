@@ -5,4 +5,4 @@ mod endings;
 mod proxies;
 
 pub use proxies::{Proxied, run_proxy};
-pub use px_desk::{Parts, ReloadCounts};
+pub use px_desk::{DeskParts, ReloadCounts};

@@ -5,8 +5,8 @@ ghost use Rattle.px_config.specs.Gathering.{OnlyReads, ReadsOneOf, gathered, nam
 ghost use Rattle.px_config.specs.Loading.{IsLoadFault, LoadCauses};
 ghost use Rattle.px_config.specs.Spelling.{spelled};
 ghost use Rattle.px_publish.specs.Published.{pair_of, published, reader_pair};
-ghost use Rattle.px_desk.specs.Desks.{BeginsWith, StandsAfter};
-ghost use Rattle.px_desk.specs.Facts.{Begun, Closes};
+ghost use Rattle.px_desk.specs.Desks.{BeginsWithSpelling, StandsAfter};
+ghost use Rattle.px_desk.specs.Facts.{DoorsBegun, Closes};
 ghost use Rattle.px_desk.specs.Sets.{Spells};
 ghost use Rattle.px_desk.specs.Turns.{none};
 ghost use Rattle.px_serve_command.specs.Proxies.{ProxyGoesOn, RunsProxy, RunsServe, ServesBy, ServesFirst, ServesLoaded, ServesPublished, ServesSharing};
@@ -15,7 +15,7 @@ use crate::endings::status_of_serving;
 use px_base::{Failed, Files, Mem, Sink};
 use px_commands::{ServeWords, Status, USAGE, parse_serve, read_serve, report, report_load};
 use px_config::{Config, FileSet, LoadFault, gather, spell};
-use px_desk::{Desk, Parts, ReloadCounts};
+use px_desk::{Desk, DeskParts, ReloadCounts};
 use px_doors::{Doors, ListenAddress};
 use px_proxy::serve_all;
 use px_publish::{ConfigReader, Publisher, publish_pair};
@@ -30,19 +30,19 @@ use std::thread::Threads;
 #[derive(Drop)]
 pub struct Proxied<F, A, E> {
     pub status: u8,
-    pub parts: Parts<F, A, E>,
+    pub parts: DeskParts<F, A, E>,
     pub counts: ReloadCounts,
 }
 
 /// The same before the status is a number.
 struct Ended<F, A, E> {
     status: Status,
-    parts: Parts<F, A, E>,
+    parts: DeskParts<F, A, E>,
     counts: ReloadCounts,
 }
 
 /// No connection was handed out.
-fn unserved<F, A, E>(status: Status, parts: Parts<F, A, E>) -> Ended<F, A, E>
+fn unserved<F, A, E>(status: Status, parts: DeskParts<F, A, E>) -> Ended<F, A, E>
     ensures { result ≡ record { status = status; parts = parts; counts = none } }
 {
     Ended {
@@ -60,9 +60,9 @@ pub fn run_proxy<R: Threads + Wait + Sync, F: Files, A: Doors, E: Sink>(
     alloc: Global,
     rt: &R,
     words: &[String],
-    parts: Parts<F, A, E>,
+    parts: DeskParts<F, A, E>,
 ) -> Proxied<F, A, E>
-    requires begun { Begun (A.state parts.doors) }
+    requires begun { DoorsBegun (A.state parts.doors) }
     ensures runs { RunsProxy (record { ins = A.Dial.In.state; outs = A.Dial.Out.state }) (map string_bytes words.now)
         (record { files = F.state parts.files; doors = A.state parts.doors; errors = E.state parts.err })
         (record { files = F.state result.parts.files; doors = A.state result.parts.doors; errors = E.state result.parts.err }) result.counts result.status }
@@ -83,9 +83,9 @@ fn serve_by<R: Threads + Wait + Sync, F: Files, A: Doors, E: Sink>(
     alloc: Global,
     rt: &R,
     words: &[String],
-    parts: Parts<F, A, E>,
+    parts: DeskParts<F, A, E>,
 ) -> Ended<F, A, E>
-    requires begun { Begun (A.state parts.doors) }
+    requires begun { DoorsBegun (A.state parts.doors) }
     ensures serves { ServesBy (record { ins = A.Dial.In.state; outs = A.Dial.Out.state }) (map string_bytes words.now)
         (record { files = F.state parts.files; doors = A.state parts.doors; errors = E.state parts.err })
         (record { files = F.state result.parts.files; doors = A.state result.parts.doors; errors = E.state result.parts.err }) result.counts result.status }
@@ -99,13 +99,13 @@ fn serve_by<R: Threads + Wait + Sync, F: Files, A: Doors, E: Sink>(
             Err(Mem) => unserved(Status::NoMemory, parts),
         },
         None => {
-            let Parts {
+            let DeskParts {
                 files,
                 doors,
                 mut err,
             } = parts;
             let status = report(&mut err, USAGE, Status::Usage);
-            unserved(status, Parts { files, doors, err })
+            unserved(status, DeskParts { files, doors, err })
         }
     }
 }
@@ -134,9 +134,9 @@ fn run_serve<R: Threads + Wait + Sync, F: Files, A: Doors, E: Sink>(
     alloc: Global,
     rt: &R,
     serve: ServeWords<'_>,
-    parts: Parts<F, A, E>,
+    parts: DeskParts<F, A, E>,
 ) -> Ended<F, A, E>
-    requires begun { Begun (A.state parts.doors) }
+    requires begun { DoorsBegun (A.state parts.doors) }
     requires some { 0 < serve.workers }
     requires at_most { serve.workers ≤ 64 }
     ensures runs { RunsServe (record { ins = A.Dial.In.state; outs = A.Dial.Out.state }) serve.entry.config.now serve.entry.most
@@ -146,19 +146,19 @@ fn run_serve<R: Threads + Wait + Sync, F: Files, A: Doors, E: Sink>(
         (record { files = F.state parts.files; doors = A.state parts.doors; errors = E.state parts.err })
         (record { files = F.state result.parts.files; doors = A.state result.parts.doors; errors = E.state result.parts.err }) }
 {
-    let Parts {
+    let DeskParts {
         mut files,
         doors,
         mut err,
     } = parts;
     match load_set(alloc, &mut files, serve.config) {
         Ok((loaded, first)) => {
-            let parts = Parts { files, doors, err };
+            let parts = DeskParts { files, doors, err };
             serve_first(alloc, rt, serve, loaded, first, parts)
         }
         Err(fault) => {
             let status = report_load(alloc, &mut err, &fault);
-            unserved(status, Parts { files, doors, err })
+            unserved(status, DeskParts { files, doors, err })
         }
     }
 }
@@ -170,9 +170,9 @@ fn serve_first<R: Threads + Wait + Sync, F: Files, A: Doors, E: Sink>(
     serve: ServeWords<'_>,
     loaded: FileSet,
     first: Config,
-    parts: Parts<F, A, E>,
+    parts: DeskParts<F, A, E>,
 ) -> Ended<F, A, E>
-    requires begun { Begun (A.state parts.doors) }
+    requires begun { DoorsBegun (A.state parts.doors) }
     requires spells { Spells loaded first }
     requires some { 0 < serve.workers }
     requires at_most { serve.workers ≤ 64 }
@@ -197,9 +197,9 @@ fn serve_sharing<N: Opening + Send, R: Threads + Wait + Sync, F: Files, A: Doors
     serve: ServeWords<'_>,
     loaded: FileSet,
     first: Config,
-    parts: Parts<F, A, E>,
+    parts: DeskParts<F, A, E>,
 ) -> Ended<F, A, E>
-    requires begun { Begun (A.state parts.doors) }
+    requires begun { DoorsBegun (A.state parts.doors) }
     requires opening { A.state parts.doors ≡ N.doors }
     requires spells { Spells loaded first }
     requires some { 0 < serve.workers }
@@ -211,19 +211,19 @@ fn serve_sharing<N: Opening + Send, R: Threads + Wait + Sync, F: Files, A: Doors
         (record { files = F.state parts.files; doors = A.state parts.doors; errors = E.state parts.err })
         (record { files = F.state result.parts.files; doors = A.state result.parts.doors; errors = E.state result.parts.err }) }
 {
-    let Parts { files, doors, err } = parts;
+    let DeskParts { files, doors, err } = parts;
     let doors = SharedDoors::<A, N>::new(alloc, doors);
-    let parts = Parts { files, doors, err };
+    let parts = DeskParts { files, doors, err };
     let Ended {
         status,
         parts,
         counts,
     } = serve_loaded(alloc, rt, serve, loaded, first, parts);
-    let Parts { files, doors, err } = parts;
+    let DeskParts { files, doors, err } = parts;
     let doors = doors.into_inner();
     Ended {
         status,
-        parts: Parts { files, doors, err },
+        parts: DeskParts { files, doors, err },
         counts,
     }
 }
@@ -235,9 +235,9 @@ fn serve_loaded<R: Threads + Wait + Sync, F: Files, A: Doors, E: Sink>(
     serve: ServeWords<'_>,
     loaded: FileSet,
     first: Config,
-    parts: Parts<F, A, E>,
+    parts: DeskParts<F, A, E>,
 ) -> Ended<F, A, E>
-    requires begun { Begun (A.state parts.doors) }
+    requires begun { DoorsBegun (A.state parts.doors) }
     requires spells { Spells loaded first }
     requires some { 0 < serve.workers }
     requires at_most { serve.workers ≤ 64 }
@@ -259,19 +259,19 @@ fn serve_loaded<R: Threads + Wait + Sync, F: Files, A: Doors, E: Sink>(
     let Ok((publisher, readers)) = publish_pair(rt, alloc, first, serve.workers) else {
         return unserved(Status::NoMemory, parts);
     };
-    let Parts {
+    let DeskParts {
         files,
         mut doors,
         err,
     } = parts;
     match doors.listen(address) {
         Ok(()) => {
-            let parts = Parts { files, doors, err };
+            let parts = DeskParts { files, doors, err };
             serve_published(alloc, rt, serve, loaded, publisher, readers, parts)
         }
         Err(Failed) => {
             drop(publisher.end(rt));
-            unserved(Status::DoorsFailed, Parts { files, doors, err })
+            unserved(Status::DoorsFailed, DeskParts { files, doors, err })
         }
     }
 }
@@ -284,10 +284,10 @@ fn serve_published<R: Threads + Wait + Sync, F: Files, A: Doors, E: Sink>(
     loaded: FileSet,
     publisher: Publisher<Config>,
     readers: Vec<ConfigReader<Config>>,
-    parts: Parts<F, A, E>,
+    parts: DeskParts<F, A, E>,
 ) -> Ended<F, A, E>
-    requires begun { Begun (A.state parts.doors) }
-    requires first { BeginsWith loaded (published publisher) }
+    requires begun { DoorsBegun (A.state parts.doors) }
+    requires first { BeginsWithSpelling loaded (published publisher) }
     requires some { 0 < vec_len readers }
     requires pair { All (λ r. reader_pair r ≡ pair_of publisher) readers.items }
     ensures serves { ServesPublished

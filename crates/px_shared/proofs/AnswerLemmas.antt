@@ -22,11 +22,11 @@ use Rattle.px_framing.specs.declared.rules.BodyRule.TheVariants as rule
 use Rattle.px_framing.specs.declared.places.State.{State}
 use Rattle.px_framing.specs.declared.places.State.TheVariants as state
 use Rattle.px_framing.proofs.BodyLemmas.{body-one, whole}
-use Rattle.px_answers.specs.Forms.{body_of, stands}
+use Rattle.px_answers.specs.Forms.{body_of, state_at_end}
 use Rattle.px_answers.specs.Finished.{finished, by_end}
 use Rattle.px_pool_ends.specs.Answers as pool
 use Rattle.px_pool_ends.specs.Answers.{IsInterim, IsWholeBody, IsAnswer}
-use Rattle.px_pumps.specs.Answering.{Ask, Answered, Seen, Good, Shows, ShowsBlock, ShowsRead, Reads, seen_final, due_of, due_by}
+use Rattle.px_pumps.specs.Answering.{Ask, Answered, Seen, Good, Shows, ShowsBlock, ShowsRead, ReadsAsHead, seen_final, due_of, due_by}
 use Rattle.px_pumps.specs.declared.dues.Due.{Due}
 use Rattle.px_shared.specs.Answers.{IsFinalTo, IsAnswerTo, interim, final}
 
@@ -115,7 +115,7 @@ block_shows : (n : ℕ) (method block rest : List ℕ) (head : ResponseHead) (se
     → ShowsRead (Shows n method) method (Some head) rest seen ↔ ShowsBlock (Shows n method) method block rest seen
 block_shows n method block rest head seen x = (λ s. record { reading = Some head; reads = x; shows = s }, λ b. by b.reading b.reads b.shows)
   where
-    by : (o : Option ResponseHead) → Reads block o → ShowsRead (Shows n method) method o rest seen → ShowsRead (Shows n method) method (Some head) rest seen
+    by : (o : Option ResponseHead) → ReadsAsHead block o → ShowsRead (Shows n method) method o rest seen → ShowsRead (Shows n method) method (Some head) rest seen
     by (Some other) r s = subst (λ (k : ResponseHead). ShowsRead (Shows n method) method (Some k) rest seen) (one_head block head other x r) s
     by None r s = absurd (r head x)
 
@@ -136,7 +136,7 @@ stands_to method _ _ (interim count block rest i a) = behind count block rest i 
 stands_to method _ _ (final count block rest r f w) = at_ count block rest r f (over r rest w)
 
 -- the final head of what a pool takes for an answer, by the method of the request
-final_any : (method : List ℕ) (count : ℕ) (block rest : List ℕ) (r : BodyRule) → pool.IsFinal block r → IsWholeBody r rest → IsSettled method count (block ++ rest)
+final_any : (method : List ℕ) (count : ℕ) (block rest : List ℕ) (r : BodyRule) → pool.IsFinalHead block r → IsWholeBody r rest → IsSettled method count (block ++ rest)
 final_any method count block rest r f w = by (rule_any f.head method r f.rule_is)
   where
     by : (response_rule f.head method ≡ Ok rule.Absent) ⊎ (response_rule f.head method ≡ Ok r) → IsSettled method count (block ++ rest)
@@ -187,7 +187,7 @@ shows_one method _ _ (at_ count block rest r f o) = shows_final count method blo
 
 -- ---- what is due
 
-whole_stands : (r : BodyRule) (failed : Bool) → stands r failed state.Whole ≡ state.Whole
+whole_stands : (r : BodyRule) (failed : Bool) → state_at_end r failed state.Whole ≡ state.Whole
 whole_stands r true = refl
 whole_stands rule.Absent false = refl
 whole_stands (rule.Length n) false = refl
@@ -198,7 +198,7 @@ same_due : (ask : Ask) (head : ResponseHead) (r : BodyRule) (rest more : List �
 same_due ask head r rest more failed o =
     let f = ask.framed head r in
     let p = body_of r rest in
-    let ends : stands f.rule failed p.state ≡ stands f.rule false p.state = rw o.whole (whole_stands f.rule failed ∙ sym (whole_stands f.rule false)) in
+    let ends : state_at_end f.rule failed p.state ≡ state_at_end f.rule false p.state = rw o.whole (whole_stands f.rule failed ∙ sym (whole_stands f.rule false)) in
     ap (λ (q : Part). due_by (finished ask.work f q failed)) (o.same more) ∙ ap (λ s. due_by (by_end ask.work f p.raw p.plain s)) ends
 
 -- what is due for a whole answer and what follows it

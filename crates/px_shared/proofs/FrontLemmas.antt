@@ -15,15 +15,15 @@ use Rattle.px_base.specs.declared.dials.DialOutcome.TheVariants as outcome
 use Rattle.px_base.specs.declared.dials.LinkSeen.{LinkSeen}
 use Rattle.px_base.specs.declared.faults.DialFault.{DialFault}
 use Rattle.px_base.specs.declared.faults.DialFault.TheVariants as fault
-use Rattle.px_pool_ends.specs.Names.{Passed, lent_mark, so_far}
-use Rattle.px_pool_ends.specs.Incomings.{Hearing, IsLater, heard, outer_source, since}
+use Rattle.px_pool_ends.specs.Names.{Passed, lent_mark, passed_so_far}
+use Rattle.px_pool_ends.specs.Incomings.{Hearing, IsLaterSource, heard, outer_source, since}
 use Rattle.px_pool_ends.specs.Outgoings.{Sending, outer_sink}
-use Rattle.px_link_pool.specs.Histories.{Views, AreJudged, from_there, kept_of}
+use Rattle.px_link_pool.specs.Histories.{Views, AreJudged, from_there, kept_links}
 use Rattle.px_link_pool.specs.Joins.{again_over, dials_over, fresh_over, over}
 use Rattle.px_link_pool.specs.Standing.{KeptState}
 use Rattle.px_link_pool.specs.declared.histories.History.{History, Start, Dialled', Again', HungUp'}
 use Rattle.px_link_pool.proofs.MarkLemmas.{one_name}
-use Rattle.px_shared.specs.Links.{IsFront, HeardFront, EachHeardFront}
+use Rattle.px_shared.specs.Links.{IsSeenFront, HeardFront, EachHeardFront}
 
 -- ---- what is known of the dials
 
@@ -38,7 +38,7 @@ abbrev Known : DialOutcome → Type 0
 Known outcome.NoName = Unit {0}
 Known outcome.NotReached = Unit {0}
 Known (outcome.Open mark offered) = OffersBehind mark offered
-Known (outcome.Link seen) = IsFront seen
+Known (outcome.Link seen) = IsSeenFront seen
 
 abbrev AllKnown : List Dial → Type 0
 AllKnown ds = AllByRecursion (λ d. Known d.outcome) ds
@@ -53,9 +53,9 @@ front_by : (offered front behind : List ℕ) → offered ≡ front ++ behind →
 front_by offered front behind e = e ∙ ap (λ (xs : List ℕ). front ++ xs) (sym (ap (drop (length front)) e ∙ drop-append_seam front behind))
 
 -- what a source that is later gave since then is the front of what it offered behind what it had given
-front_of : (h : Hearing) (offered : List ℕ) → IsLater h.begun h.source → OffersBehind (outer_source h).mark offered → offered ≡ heard h ++ drop (length (heard h)) offered
+front_of : (h : Hearing) (offered : List ℕ) → IsLaterSource h.begun h.source → OffersBehind (outer_source h).mark offered → offered ≡ heard h ++ drop (length (heard h)) offered
 front_of h offered later k =
-    let passed : so_far h.begun h.begun_out ≡ k.passed = (one_name h.source.tells h.source.mark (so_far h.begun h.begun_out) k.inner k.passed k.named).passed in
+    let passed : passed_so_far h.begun h.begun_out ≡ k.passed = (one_name h.source.tells h.source.mark (passed_so_far h.begun h.begun_out) k.inner k.passed k.named).passed in
     let whole : h.begun.offered ≡ given h.begun ++ h.begun.left =
     sym later.offered_same ∙ later.whole ∙ ap (λ (xs : List ℕ). xs ++ h.source.left) later.given_joined
     ∙ append_assoc (given h.begun) (since h.begun h.source) h.source.left ∙ ap (λ (xs : List ℕ). given h.begun ++ xs) (sym later.left) in
@@ -64,18 +64,18 @@ front_of h offered later k =
     ∙ ap (drop (length (given h.begun))) whole ∙ drop-append_seam (given h.begun) h.begun.left in
     front_by offered (heard h) h.source.left (left ∙ later.left)
 
-known_closed : (h : Hearing) (t : Traffic) (o : DialOutcome) → IsLater h.begun h.source → t.heard ≡ heard h → is_open_at (outer_source h).mark o ≡ true → Known o → Known (closed t o)
+known_closed : (h : Hearing) (t : Traffic) (o : DialOutcome) → IsLaterSource h.begun h.source → t.heard ≡ heard h → is_open_at (outer_source h).mark o ≡ true → Known o → Known (closed t o)
 known_closed h t outcome.NoName later is here k = k
 known_closed h t outcome.NotReached later is here k = k
 known_closed h t (outcome.Open m offered) later is here k = rw is (front_of h offered later (rw (eqb-true m (outer_source h).mark here) at k))
 known_closed h t (outcome.Link seen) later is here k = k
 
-known_if : (h : Hearing) (t : Traffic) (b : Bool) (d : Dial) (ds rest : List Dial) → IsLater h.begun h.source → t.heard ≡ heard h → is_open_at (outer_source h).mark d.outcome ≡ b
+known_if : (h : Hearing) (t : Traffic) (b : Bool) (d : Dial) (ds rest : List Dial) → IsLaterSource h.begun h.source → t.heard ≡ heard h → is_open_at (outer_source h).mark d.outcome ≡ b
     → Known d.outcome → AllKnown ds → AllKnown rest → AllKnown (if b then closed_dial t d ∷ ds else d ∷ rest)
 known_if h t true d ds rest later is here k ks ls = (known_closed h t d.outcome later is here k, ks)
 known_if h t false d ds rest later is here k ks ls = (k, ls)
 
-known-finish : (h : Hearing) (t : Traffic) (ds : List Dial) → IsLater h.begun h.source → t.heard ≡ heard h → AllKnown ds → AllKnown (finish (outer_source h).mark t ds)
+known-finish : (h : Hearing) (t : Traffic) (ds : List Dial) → IsLaterSource h.begun h.source → t.heard ≡ heard h → AllKnown ds → AllKnown (finish (outer_source h).mark t ds)
 known-finish h t [] later is k = tt
 known-finish h t (d ∷ ds) later is k = known_if h t (is_open_at (outer_source h).mark d.outcome) d ds (finish (outer_source h).mark t ds) later is refl k.0 k.1 (known-finish h t ds later is k.1)
 
@@ -95,7 +95,7 @@ known_of : {S T : Type 0} (v : Views S T) (history : History Hearing Sending S T
 known_of v Start j = tt
 known_of v (Dialled' shape before host port asked given) j = known-append (dials_over v before) (fresh_over host.value port.value (linked v.ins v.outs asked.value)) (known_of v before j) (known_fresh host.value port.value (linked v.ins v.outs asked.value))
 known_of v (Again' shape before host port given) j =
-    known-append (dials_over v before) (again_over host.value port.value (over v before) (from_there host.value port.value (kept_of v before))) (known_of v before j) (known_again host.value port.value (over v before) (from_there host.value port.value (kept_of v before)))
+    known-append (dials_over v before) (again_over host.value port.value (over v before) (from_there host.value port.value (kept_links v before))) (known_of v before j) (known_again host.value port.value (over v before) (from_there host.value port.value (kept_links v before)))
 known_of v (HungUp' shape before host port link_in link_out closing) j = known-finish link_in.value (traffic (outer_source link_in.value) (outer_sink link_out.value)) (dials_over v before) j.0.later refl (known_of v before j.1)
 
 -- ---- it is a test, so that it is known of what was judged

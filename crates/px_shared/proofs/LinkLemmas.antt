@@ -25,13 +25,13 @@ use Rattle.px_pumps.specs.declared.notes.Conclusion.{Conclusion}
 use Rattle.px_pumps.specs.declared.notes.Ending.TheVariants as ending
 use Rattle.px_exchange.specs.Dialling.{DialsOnce, OutcomeCause}
 use Rattle.px_exchange.specs.Exchange.{Answers, Does, asking, tunnel_page_due}
-use Rattle.px_exchange.specs.Forwarding.{Client, Says, Follows, Forwards, concluded}
+use Rattle.px_exchange.specs.Forwarding.{Client, Says, FollowsSending, Forwards, concluded}
 use Rattle.px_exchange.specs.Tunnels.{Tunnels, TunnelsOver}
 use Rattle.px_serve.specs.declared.ends.SessionEnd.{SessionEnd}
 use Rattle.px_serve.specs.declared.ends.SessionEnd.TheVariants as end
 use Rattle.px_serve.specs.Ends.{end_after}
 use Rattle.px_serve.specs.Histories.{Begun}
-use Rattle.px_serve.specs.Sessions.{Caller, State, Step, Reaches, EndsSession, IsSession, is_last, given_of, begin}
+use Rattle.px_serve.specs.Sessions.{Caller, SessionState, SessionStep, Reaches, EndsSession, IsSession, is_last_request, given_of, begin}
 use Rattle.px_shared.specs.Links.{EachAnswered, EachHeardFront, HeardFront, HeardOne, NoTunnel, offers_heard, offering_heard, with_heard}
 use Rattle.px_shared.proofs.AnswerLemmas.{answered_any}
 
@@ -88,7 +88,7 @@ heard_due ask offered heard behind due e (inr all) false a = rw all at a
 abbrev as_heard : LinkSeen → LinkSeen
 as_heard seen = record { offered = seen.heard; heard = seen.heard; sent = seen.sent; read_failed = seen.read_failed; write_failed = seen.write_failed }
 
-follows_heard : (ask : Ask) (says : Says) (seen : LinkSeen) (mid : List ℕ) (how : Sent) → AnswersOne seen → Follows ask says seen mid how → Follows ask says (as_heard seen) mid how
+follows_heard : (ask : Ask) (says : Says) (seen : LinkSeen) (mid : List ℕ) (how : Sent) → AnswersOne seen → FollowsSending ask says seen mid how → FollowsSending ask says (as_heard seen) mid how
 follows_heard ask says seen mid sent.Whole w h = record { due = h.due; is_due = heard_due ask seen.offered seen.heard w.behind h.due w.offered w.whole seen.read_failed h.is_due; is_so = h.is_so }
 follows_heard ask says seen mid sent.LinkFailed w h = h
 follows_heard ask says seen mid sent.Misframed w h = h
@@ -186,11 +186,11 @@ answers_alone g c old new taken taken' x all n m (inr h) = absurd (m h.concluded
 
 -- ---- sessions
 
-abbrev heard_state : State → State
+abbrev heard_state : SessionState → SessionState
 heard_state s = record { stream = s.stream; dialer = with_heard s.dialer; taken = s.taken; begun = s.begun }
 
-step_alone : (caller : Caller) (n : ℕ) (s t : State) (b : Begun) → EachGives t.dialer.dials → b.concluded.ending ≢ ending.Tunnel → b.concluded ≢ broken after.NoMemory → Step caller n s t b
-    → Alone s.dialer (Step caller n (heard_state s) (heard_state t) b)
+step_alone : (caller : Caller) (n : ℕ) (s t : SessionState) (b : Begun) → EachGives t.dialer.dials → b.concluded.ending ≢ ending.Tunnel → b.concluded ≢ broken after.NoMemory → SessionStep caller n s t b
+    → Alone s.dialer (SessionStep caller n (heard_state s) (heard_state t) b)
 step_alone caller n s t b all k m h =
     let a = answers_alone (given_of caller n h.seen b) (record { stream = h.rest; behind = t.stream }) s.dialer t.dialer s.taken t.taken b.concluded all k m h.answers in
     record { before = a.before; same = record { seen = h.seen; rest = h.rest; head = h.head; noted = h.noted; answers = a.same } }
@@ -202,23 +202,23 @@ goes_on_with last x e m = let o = ap (end_after last) (sym m) ∙ e in absurd (c
 ends_with : (last : Bool) (x : Conclusion) (e : SessionEnd) → end_after last x ≡ Some e → e ≢ end.NoMemory → x ≢ broken after.NoMemory
 ends_with last x e h n m = let o = ap (end_after last) (sym m) ∙ h in n (cc)
 
-no_tunnel_in : (s t : State) (b : Begun) → t.begun ≡ s.begun ++ b ∷ [] → NoTunnel t.begun → NoTunnel s.begun × (b.concluded.ending ≢ ending.Tunnel)
+no_tunnel_in : (s t : SessionState) (b : Begun) → t.begun ≡ s.begun ++ b ∷ [] → NoTunnel t.begun → NoTunnel s.begun × (b.concluded.ending ≢ ending.Tunnel)
 no_tunnel_in s t b e n = all_but_last (λ (x : Begun). x.concluded.ending ≢ ending.Tunnel) s.begun t.begun b e n
 
-reaches_alone : (caller : Caller) (s : State) (n : ℕ) (t : State) → EachGives t.dialer.dials → NoTunnel t.begun → Reaches caller s n t → Reaches caller (heard_state s) n (heard_state t)
+reaches_alone : (caller : Caller) (s : SessionState) (n : ℕ) (t : SessionState) → EachGives t.dialer.dials → NoTunnel t.begun → Reaches caller s n t → Reaches caller (heard_state s) n (heard_state t)
 reaches_alone caller s zero t all none h = ap heard_state h
 reaches_alone caller s (suc n) t all none (m, h, k) =
     let u = no_tunnel_in m t k.begun k.step.noted none in
-    let a = step_alone caller n m t k.begun all u.1 (goes_on_with (is_last n) k.begun.concluded k.goes_on) k.step in
+    let a = step_alone caller n m t k.begun all u.1 (goes_on_with (is_last_request n) k.begun.concluded k.goes_on) k.step in
     (heard_state m, reaches_alone caller s n m a.before u.0 h, record { begun = k.begun; step = a.same; goes_on = k.goes_on })
 
 -- what ends it, and that the states before were so
-record EndsAlone (caller : Caller) (n : ℕ) (s t : State) (left : List ℕ) (e : SessionEnd) : Type 0 where
+record EndsAlone (caller : Caller) (n : ℕ) (s t : SessionState) (left : List ℕ) (e : SessionEnd) : Type 0 where
   pub before : EachGives s.dialer.dials
   pub none : NoTunnel s.begun
   pub same : EndsSession caller n (heard_state s) (heard_state t) left e
 
-ends_alone : (caller : Caller) (n : ℕ) (s t : State) (left : List ℕ) (e : SessionEnd) → EachGives t.dialer.dials → NoTunnel t.begun → e ≢ end.NoMemory → EndsSession caller n s t left e
+ends_alone : (caller : Caller) (n : ℕ) (s t : SessionState) (left : List ℕ) (e : SessionEnd) → EachGives t.dialer.dials → NoTunnel t.begun → e ≢ end.NoMemory → EndsSession caller n s t left e
     → EndsAlone caller n s t left e
 ends_alone caller n s t left e all none m (inl h) = record {
   before = undialled s.dialer t.dialer h.undialled all;
@@ -227,13 +227,13 @@ ends_alone caller n s t left e all none m (inl h) = record {
 }
 ends_alone caller n s t left e all none m (inr h) =
     let u = no_tunnel_in s t h.begun h.step.noted none in
-    let a = step_alone caller n s t h.begun all u.1 (ends_with (is_last n) h.begun.concluded e h.ends m) h.step in
+    let a = step_alone caller n s t h.begun all u.1 (ends_with (is_last_request n) h.begun.concluded e h.ends m) h.step in
     record { before = a.before; none = u.0; same = inr (record { begun = h.begun; step = a.same; ends = h.ends }) }
 
 pub session_alone : (caller : Caller) (stream left : List ℕ) (old new : DialerState) (taken taken' : List ℕ) (begun : List Begun) (e : SessionEnd) → IsSession caller stream left old new taken taken' begun e
     → EachHeardFront new.dials → EachAnswered new.dials → NoTunnel begun → e ≢ end.NoMemory → IsSession caller stream left (with_heard old) (with_heard new) taken taken' begun e
 session_alone caller stream left old new taken taken' begun e h fronts each none m =
     let all : EachGives new.dials = each_gives new.dials fronts each in
-    let last : State = record { stream = h.rest; dialer = new; taken = taken'; begun = begun } in
+    let last : SessionState = record { stream = h.rest; dialer = new; taken = taken'; begun = begun } in
     let a = ends_alone caller h.kept h.middle last left e all none m h.ended in
     record { kept = h.kept; middle = heard_state h.middle; rest = h.rest; reached = reaches_alone caller (begin stream old taken) h.kept h.middle a.before a.none h.reached; ended = a.same }

@@ -3,7 +3,7 @@ use Rattle.std.proofs.Common.{◌≡◌, ℕ, zero, suc, ◌+◌, ◌<◌, IsTru
 use mathlib.Core.Logic.{∥∥₁_map}
 use Rattle.px_link_pool.specs.Histories.{Views}
 use Rattle.px_doors.specs.Conns.{ConnState, PartedState, IsFreshConn, HasMark}
-use Rattle.px_doors.specs.Doors.{DoorsState, DoorsGoesOn, Stays, Comes, Ends}
+use Rattle.px_doors.specs.Doors.{DoorsState, DoorsGoesOn, Stays, ConnComes, DoorsEnd}
 use Rattle.px_shared.specs.SharedDoors.{ComesOf, EachComesOf, IsBelow, pooled_conn, with_pools}
 
 -- ---- lists
@@ -29,7 +29,7 @@ each_more v (x ∷ xs) [] p q c h = absurd h
 pub stays_over : (old new : DoorsState) (ps : List PartedState) → Stays old new → Stays (with_pools old ps) (with_pools new ps)
 stays_over old new ps s = record { accepted_same = s.accepted_same; parted_same = λ t. refl }
 
-pub comes_over : (old new : DoorsState) (ps : List PartedState) (c : ConnState) → DoorsGoesOn old new → Comes old new c → Comes (with_pools old ps) (with_pools new ps) (pooled_conn c)
+pub comes_over : (old new : DoorsState) (ps : List PartedState) (c : ConnState) → DoorsGoesOn old new → ConnComes old new c → ConnComes (with_pools old ps) (with_pools new ps) (pooled_conn c)
 comes_over old new ps c on h = record {
   one_more = h.one_more;
   first = λ t. drop_map old.accepted old.conns ∙ ap (map pooled_conn) (h.first t) ∙ ap (λ cs. pooled_conn c ∷ cs) (sym (drop_map new.accepted new.conns));
@@ -47,7 +47,7 @@ comes_over old new ps c on h = record {
   mark = record { source = h.mark.source; sink = h.mark.sink; dialer = h.mark.dialer };
 }
 
-pub ends_over : (old new : DoorsState) (ps : List PartedState) → Ends old new → Ends (with_pools old ps) (with_pools new ps)
+pub ends_over : (old new : DoorsState) (ps : List PartedState) → DoorsEnd old new → DoorsEnd (with_pools old ps) (with_pools new ps)
 ends_over old new ps h = record { stays = stays_over old new ps h.stays; told = h.told; none_left = drop_map old.accepted old.conns ∙ ap (map pooled_conn) h.none_left }
 
 pub goes_on_over : (old new : DoorsState) (ps qs : List PartedState) → DoorsGoesOn old new → DoorsGoesOn (with_pools old ps) (with_pools new qs)

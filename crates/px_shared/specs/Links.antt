@@ -11,15 +11,15 @@ use Rattle.px_pumps.specs.declared.notes.Ending.TheVariants as ending
 use Rattle.px_serve.specs.Histories.{Begun}
 
 -- what was heard over a link is the front of what its source offered
-abbrev pub IsFront : LinkSeen → Type 0
-IsFront seen = seen.offered ≡ seen.heard ++ drop (length seen.heard) seen.offered
+abbrev pub IsSeenFront : LinkSeen → Type 0
+IsSeenFront seen = seen.offered ≡ seen.heard ++ drop (length seen.heard) seen.offered
 
 -- so it is of a dial whose link was hung up
 abbrev pub HeardFront : DialOutcome → Type 0
 HeardFront outcome.NoName = Unit {0}
 HeardFront outcome.NotReached = Unit {0}
 HeardFront (outcome.Open mark offered) = Unit {0}
-HeardFront (outcome.Link seen) = IsFront seen
+HeardFront (outcome.Link seen) = IsSeenFront seen
 
 -- so it is of each link of these dials
 abbrev pub EachHeardFront : List Dial → Type 0

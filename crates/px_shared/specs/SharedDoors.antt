@@ -6,7 +6,7 @@ use Rattle.px_link_pool.specs.Histories.{Views}
 use Rattle.px_link_pool.specs.declared.histories.History.{History}
 use Rattle.px_doors.specs.Conns.{ConnState, PartedState}
 use Rattle.px_doors.specs.Doors.{DoorsState}
-use Rattle.px_shared.specs.Sharing.{IsLeftBy, Tells, pooled}
+use Rattle.px_shared.specs.Sharing.{IsLeftBy, PoolTells, pooled}
 
 -- a connection whose dialer has a pool over it
 abbrev pub pooled_conn : ConnState → ConnState
@@ -28,7 +28,7 @@ pub record ComesOf {S T : Type 0} (v : Views S T) (parted below : PartedState) :
   pub peer : below.conn.peer ≡ parted.conn.peer
   pub dialer : IsLeftBy parted.conn.dialer below.conn.dialer
   pub history : History Hearing Sending S T
-  pub told : IsTrue parted.conn.dialer.tells → Tells v [] parted.conn.dialer.dials below.conn.dialer.dials history
+  pub told : IsTrue parted.conn.dialer.tells → PoolTells v [] parted.conn.dialer.dials below.conn.dialer.dials history
 
 -- so it is of each, in order
 abbrev pub EachComesOf : {S T : Type 0} → Views S T → List PartedState → List PartedState → Type 0

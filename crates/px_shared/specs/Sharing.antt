@@ -7,7 +7,7 @@ use Rattle.px_base.specs.Moments.{ClockState}
 use Rattle.px_base.specs.declared.dials.Dial.{Dial}
 use Rattle.px_pool_ends.specs.Incomings.{Hearing}
 use Rattle.px_pool_ends.specs.Outgoings.{Sending}
-use Rattle.px_link_pool.specs.Histories.{Views, are_due, wanted, AreJudged}
+use Rattle.px_link_pool.specs.Histories.{Views, are_due, wanting_count, AreJudged}
 use Rattle.px_link_pool.specs.Joins.{dials_over, inner_at_end}
 use Rattle.px_link_pool.specs.declared.histories.History.{History}
 use Rattle.px_exchange.specs.declared.notes.ExchangeNote.{ExchangeNote}
@@ -50,7 +50,7 @@ pub record ServesOver (caller : Caller) (old new : Lent) (pool : DialerState) (n
 -- What was done with a pool, by which its dials tell the inner ones behind those of before: what was heard and sent over each
 -- inner link is that of the pool's dials over it, joined. The inner dialer was asked exactly where no link was kept, and each
 -- link that was handed back was judged by its answer.
-pub record Tells {S T : Type 0} (v : Views S T) (before pool_dials inner_dials : List Dial) (history : History Hearing Sending S T) : Type 0 where
+pub record PoolTells {S T : Type 0} (v : Views S T) (before pool_dials inner_dials : List Dial) (history : History Hearing Sending S T) : Type 0 where
   pub dials : pool_dials ≡ dials_over v history
   pub joined : inner_dials ≡ inner_at_end before v history
   pub due : are_due v history ≡ true
@@ -63,5 +63,5 @@ pub record Shares {S T : Type 0} (v : Views S T) (caller : Caller) (old new : Le
   pub goes_on : DialerGoesOn (pooled old.inner) pool
   pub is_left : IsLeftBy pool new.inner
   pub history : History Hearing Sending S T
-  pub told : IsTrue old.inner.tells → Tells v old.inner.dials pool.dials new.inner.dials history
-  pub counted : wanting ≡ wanted history
+  pub told : IsTrue old.inner.tells → PoolTells v old.inner.dials pool.dials new.inner.dials history
+  pub counted : wanting ≡ wanting_count history

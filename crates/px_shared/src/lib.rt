@@ -11,5 +11,5 @@ mod shared_doors;
 pub use laws::{answers_end, heard_is_enough};
 pub use openings::Opening;
 pub use partings::Partings;
-pub use sessions::{Shared, serve_shared};
+pub use sessions::{SharedSession, serve_shared};
 pub use shared_doors::{SharedConn, SharedDoors, SharedParted};

@@ -18,7 +18,7 @@ use std::thread::Threads;
 
 /// What came of a session over a pool of links: the session itself, the inner dialer with every link hung up, and for how many
 /// links memory was wanting while their answer was followed.
-pub struct Shared<D> {
+pub struct SharedSession<D> {
     pub session: Session,
     pub dialer: D,
     pub wanting: u64,
@@ -36,7 +36,7 @@ pub fn serve_shared<R, K, S, O, D, T>(
     clock: &mut T,
     peer: &Peer,
     tags: &[Text],
-) -> Shared<D>
+) -> SharedSession<D>
 where
     R: Threads + Sync,
     K: Configs<Held = Config>,
@@ -71,7 +71,7 @@ fn serve_over<N, R, K, S, O, D, T>(
     clock: &mut T,
     peer: &Peer,
     tags: &[Text],
-) -> Shared<D>
+) -> SharedSession<D>
 where
     N: Base + Send,
     R: Threads + Sync,
@@ -97,7 +97,7 @@ where
         alloc, way, configs, client_in, client_out, &mut pool, clock, peer, tags,
     );
     let wanting = pool.wanting();
-    Shared {
+    SharedSession {
         session,
         dialer: pool.into_inner(),
         wanting,

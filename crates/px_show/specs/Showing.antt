@@ -11,12 +11,12 @@ use Rattle.px_config.specs.declared.configs.Config.{Config}
 use Rattle.px_config.specs.declared.settings.Note.{Note}
 
 -- FILE:LINE
-abbrev pub place : List ℕ → ℕ → List ℕ
-place file line = file ++ 58 ∷ decimal line
+abbrev pub shown_place : List ℕ → ℕ → List ℕ
+shown_place file line = file ++ 58 ∷ decimal line
 
 -- where a section stands, as a line
 abbrev pub ref_line : List (List ℕ) → SectionRef → List ℕ
-ref_line names r = place (slice_index_or names r.file []) r.line ++ 10 ∷ []
+ref_line names r = shown_place (slice_index_or names r.file []) r.line ++ 10 ∷ []
 
 -- the lines of the sections that match
 unfoldable pub ref_lines : List (List ℕ) → List SectionRef → List ℕ
@@ -36,26 +36,26 @@ shown c url tags =
 
 -- FILE:LINE: note: TEXT
 abbrev pub note_line : Note → List ℕ
-note_line n = place n.file n.line ++ codes ": note: " ++ n.text ++ 10 ∷ []
+note_line n = shown_place n.file n.line ++ codes ": note: " ++ n.text ++ 10 ∷ []
 
 unfoldable pub note_lines : List Note → List ℕ
 note_lines notes = flat_map note_line notes
 
 -- a number and what it counts
-unfoldable pub counted : ℕ → List ℕ → List ℕ
-counted count what = decimal count ++ what
+unfoldable pub shown_count : ℕ → List ℕ → List ℕ
+shown_count count what = decimal count ++ what
 
 -- so many action files
 unfoldable pub file_counts : ℕ → List ℕ
-file_counts files = codes "ok: " ++ counted files (codes " action files, ")
+file_counts files = codes "ok: " ++ shown_count files (codes " action files, ")
 
 -- so many sections and patterns
 unfoldable pub pattern_counts : ℕ → ℕ → List ℕ
-pattern_counts sections patterns = counted sections (codes " sections, ") ++ counted patterns (codes " patterns, ")
+pattern_counts sections patterns = shown_count sections (codes " sections, ") ++ shown_count patterns (codes " patterns, ")
 
 -- so many filter files and filters
 unfoldable pub filter_counts : ℕ → ℕ → List ℕ
-filter_counts files filters = counted files (codes " filter files, ") ++ counted filters (codes " filters\n")
+filter_counts files filters = shown_count files (codes " filter files, ") ++ shown_count filters (codes " filters\n")
 
 -- how many files, sections, patterns and filters there are
 abbrev pub count_line : Config → List ℕ

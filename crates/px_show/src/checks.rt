@@ -1,6 +1,6 @@
 // What a check of a configuration prints.
 ghost use Rattle.std.specs.Prelude.{◌≡◌, ◌++◌, IfOk, OnOk};
-ghost use Rattle.px_show.specs.Showing.{checked, count_line, counted, file_counts, filter_counts, note_line, note_lines, pattern_counts};
+ghost use Rattle.px_show.specs.Showing.{checked, count_line, shown_count, file_counts, filter_counts, note_line, note_lines, pattern_counts};
 
 use crate::places::push_place;
 use itoa::Buffer;
@@ -43,9 +43,9 @@ fn push_note(note: &Note, out: &mut Text) -> Result<(), Mem>
 }
 
 /// Adds a number and what it counts.
-#[tactic(auto, unfolding(crate::specs::Showing::counted))]
+#[tactic(auto, unfolding(crate::specs::Showing::shown_count))]
 fn push_count(count: u32, what: &[u8], out: &mut Text) -> Result<(), Mem>
-    ensures { OnOk result (out.new ≡ out.old ++ counted count what.now) }
+    ensures { OnOk result (out.new ≡ out.old ++ shown_count count what.now) }
 {
     out.push_all(Buffer::new().format(count).as_bytes())?;
     out.push_all(what)

@@ -1,13 +1,13 @@
 // Places in files, as they are printed.
 ghost use Rattle.std.specs.Prelude.{◌≡◌, ◌++◌, OnOk};
-ghost use Rattle.px_show.specs.Showing.{place};
+ghost use Rattle.px_show.specs.Showing.{shown_place};
 
 use itoa::Buffer;
 use px_base::{Mem, Text};
 
 /// Adds FILE:LINE.
 pub(crate) fn push_place(file: &[u8], line: u32, out: &mut Text) -> Result<(), Mem>
-    ensures { OnOk result (out.new ≡ out.old ++ place file.now line) }
+    ensures { OnOk result (out.new ≡ out.old ++ shown_place file.now line) }
 {
     out.push_all(file)?;
     out.push(b':')?;

@@ -6,7 +6,7 @@ ghost use Rattle.px_base.specs.Sinks.{untold_sink};
 ghost use Rattle.px_sockets.specs.Untold.{AreNew};
 
 use crate::Times;
-use crate::shared_sockets::{SharedSocket, Side, Work};
+use crate::shared_sockets::{SharedSocket, SocketSide, Work};
 use crate::times::{LOOK_MILLIS, now_millis};
 use px_base::{Failed, Sink, SinkFault, Source};
 use std::alloc::Global;
@@ -56,7 +56,7 @@ pub fn both_ends<'r>(
     alloc: Global,
     rt: &'r HostRuntime,
     times: Times,
-    side: Side,
+    side: SocketSide,
     stream: TcpStream,
     mark: u64,
 ) -> Result<(SocketSource<'r>, SocketSink<'r>), EndsFault>
@@ -73,7 +73,7 @@ pub(crate) fn ends_with<'r>(
     alloc: Global,
     rt: &'r HostRuntime,
     times: Times,
-    side: Side,
+    side: SocketSide,
     work: Arc<Work>,
     stream: TcpStream,
     mark: u64,

@@ -11,6 +11,6 @@ mod times;
 
 pub use ends::{EndsFault, SocketSink, SocketSource, both_ends};
 pub use listeners::{Caller, CallerFault, ListenFault, SocketListener};
-pub use shared_sockets::Side;
+pub use shared_sockets::SocketSide;
 pub use socket_dialers::{SocketDialer, connect_in_turn};
 pub use times::Times;

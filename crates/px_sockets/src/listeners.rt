@@ -7,7 +7,7 @@ ghost use Rattle.px_sockets.specs.Untold.{AreNew};
 use crate::ends::EndsFault;
 use crate::guests::Guests;
 use crate::times::{PAUSE_MILLIS, SWEEP_MILLIS, WATCH_MILLIS, between, now_millis};
-use crate::{Side, SocketSink, SocketSource, Times, both_ends};
+use crate::{SocketSide, SocketSink, SocketSource, Times, both_ends};
 use px_base::{Mem, Peer, Sink, Source, Text, as_text};
 use std::alloc::Global;
 use std::fmt::{Display, Formatter, Write};
@@ -234,7 +234,14 @@ impl<'r> SocketListener<'r> {
         let Ok(address) = address_text(self.alloc, address) else {
             return Err(CallerFault::Mem);
         };
-        match both_ends(self.alloc, self.rt, self.times, Side::Client, stream, mark) {
+        match both_ends(
+            self.alloc,
+            self.rt,
+            self.times,
+            SocketSide::Client,
+            stream,
+            mark,
+        ) {
             Ok((client_in, client_out)) => {
                 if let Some(socket) = client_in.shared() {
                     self.guests.add(socket);

@@ -42,7 +42,7 @@ impl Work {
 
 /// Whose socket it is: a client's, which is asked for heads, or a link's.
 #[derive(Clone, Copy, Debug, PartialEq, Eq)]
-pub enum Side {
+pub enum SocketSide {
     Client,
     Link,
 }
@@ -52,7 +52,7 @@ pub enum Side {
 pub(crate) struct SharedSocket {
     pub(crate) stream: TcpStream,
     times: Times,
-    side: Side,
+    side: SocketSide,
     /// What its connection is at. A link that belongs to no client has its own.
     work: Arc<Work>,
     /// When bytes last moved, either way.
@@ -72,7 +72,7 @@ impl SharedSocket {
     pub(crate) fn new(
         stream: TcpStream,
         times: Times,
-        side: Side,
+        side: SocketSide,
         work: Arc<Work>,
         now: u64,
     ) -> io::Result<SharedSocket> {
@@ -101,7 +101,7 @@ impl SharedSocket {
 
     /// Whether it is a client's that is asked for a head.
     fn awaits_head(&self) -> bool {
-        self.side == Side::Client && self.work.rests()
+        self.side == SocketSide::Client && self.work.rests()
     }
 
     /// How long a read that began then may still wait: of a client that is asked for a head as long as a piece of it and the whole
@@ -118,14 +118,14 @@ impl SharedSocket {
 
     /// A link is in use.
     pub(crate) fn is_used(&self) {
-        if self.side == Side::Link && !self.in_use.swap(true, Ordering::SeqCst) {
+        if self.side == SocketSide::Link && !self.in_use.swap(true, Ordering::SeqCst) {
             self.work.begin();
         }
     }
 
     /// A link isn't in use any more.
     pub(crate) fn rests(&self, now: u64) {
-        if self.side == Side::Link && self.in_use.swap(false, Ordering::SeqCst) {
+        if self.side == SocketSide::Link && self.in_use.swap(false, Ordering::SeqCst) {
             self.work.end(now);
         }
     }
@@ -148,8 +148,8 @@ impl SharedSocket {
     /// A write begins.
     pub(crate) fn is_written(&self) {
         match self.side {
-            Side::Client => self.work.begin(),
-            Side::Link => self.is_used(),
+            SocketSide::Client => self.work.begin(),
+            SocketSide::Link => self.is_used(),
         }
     }
 
@@ -158,7 +158,7 @@ impl SharedSocket {
         if has_moved {
             self.moved.store(now, Ordering::SeqCst);
         }
-        if self.side == Side::Client {
+        if self.side == SocketSide::Client {
             self.work.end(now);
         }
     }

@@ -8,7 +8,7 @@ ghost use Rattle.px_sockets.specs.Untold.{untold_dialer, AreNew};
 
 use crate::counts::raised;
 use crate::ends::{EndsFault, ends_with};
-use crate::shared_sockets::{Side, Work};
+use crate::shared_sockets::{SocketSide, Work};
 use crate::times::{between, now_millis};
 use crate::{SocketSink, SocketSource, Times, both_ends};
 use px_base::{DialFault, Dialer, Sink, Source, as_text};
@@ -154,8 +154,8 @@ impl<'r> SocketDialer<'r> {
             None => None,
         };
         let ends = match work {
-            Some(work) => ends_with(alloc, rt, times, Side::Link, work, stream, mark),
-            None => both_ends(alloc, rt, times, Side::Link, stream, mark),
+            Some(work) => ends_with(alloc, rt, times, SocketSide::Link, work, stream, mark),
+            None => both_ends(alloc, rt, times, SocketSide::Link, stream, mark),
         };
         match ends {
             Ok(ends) => Ok(ends),

@@ -9,12 +9,12 @@ use Rattle.std.proofs.lemmas.Bool.{eqb-true, and_parts}
 use Rattle.px_base.specs.Sources.{SourceState}
 use Rattle.px_base.specs.Sinks.{SinkState}
 use Rattle.px_base.specs.Ports.{port}
-use Rattle.px_base.specs.DialNames.{Server, server, begins_with, bracketed, unbracketed, server_in, is_slash, server_of, target_of, is_dial_name, has_long_target}
-use Rattle.px_base.specs.Dials.{DialerState, IsFresh, Met, offers, nameless, unreached, untold, Coming, agrees, first_plain, first_named, is_named, met, met_by, coming_behind, left_by, LeavesWanting}
+use Rattle.px_base.specs.DialNames.{Server, server, begins_with_byte, bracketed_server, unbracketed, server_in, is_slash, server_of, target_of, is_dial_name, has_long_target}
+use Rattle.px_base.specs.Dials.{DialerState, IsFresh, Met, offers, nameless, unreached, untold, Coming, agrees, first_plain, first_named, names_its_server, met, met_by, coming_behind, left_by, LeavesWanting}
 use Rattle.px_base.specs.declared.faults.DialFault.{DialFault}
 use Rattle.px_base.specs.declared.faults.DialFault.TheVariants as fault
-use Rattle.px_socks.specs.declared.servers.Stop.{Stop}
-use Rattle.px_socks.specs.declared.servers.Stop.TheVariants as stop
+use Rattle.px_socks.specs.declared.servers.ServerStop.{ServerStop}
+use Rattle.px_socks.specs.declared.servers.ServerStop.TheVariants as stop
 use Rattle.px_socks.specs.Messages.{IsReply, IsAccepted, is_bound_address, Took, NoneAhead}
 use Rattle.px_socks.specs.Replies.{rest_length}
 use Rattle.px_socks.specs.Printed.{HasNone}
@@ -95,7 +95,7 @@ never : (n : ℕ) → n ≡ 0 → ¬ (has_failed n ≡ true)
 never n e h = let P = λ (k : ℕ). has_failed k ≡ true in let bad = subst P e h in (cc)
 
 -- what came of the handshake over a link
-pub came_behind : (m : Met) (mid new : DialerState) (i : SourceState) (o : SinkState) (messages : List ℕ) (r : Result (InnerSource × InnerSink) Stop)
+pub came_behind : (m : Met) (mid new : DialerState) (i : SourceState) (o : SinkState) (messages : List ℕ) (r : Result (InnerSource × InnerSink) ServerStop)
     → agrees m (Ok (record { link_in = i; link_out = o })) → IsFresh (record { link_in = i; link_out = o }) → IsTrue i.tells
     → IfOk r (IsBehindHandshake i o messages) → IfErr r (Hung mid new i o messages) → CameOf m r
 came_behind m mid new i o messages (Err stop.Lost) a fresh t behind hung = tt
@@ -195,18 +195,18 @@ unbracketed_host : (bytes : List ℕ) (at : Option ℕ) (s : Server) → HasNone
 unbracketed_host bytes None s h e = absurd (cc)
 unbracketed_host bytes (Some at) s h e = rw (host_in (take at bytes) (drop (at + 1) bytes) (port (drop (at + 1) bytes)) s e) (none_taken is_slash at bytes h)
 
-bracketed_host : (bytes : List ℕ) (at : Option ℕ) (s : Server) → HasNone is_slash bytes → bracketed bytes at ≡ Some s → HasNone is_slash s.host
+bracketed_host : (bytes : List ℕ) (at : Option ℕ) (s : Server) → HasNone is_slash bytes → bracketed_server bytes at ≡ Some s → HasNone is_slash s.host
 bracketed_host bytes None s h e = absurd (cc)
-bracketed_host bytes (Some at) s h e = by (begins_with (byte ":") (drop (at + 1) bytes)) e
+bracketed_host bytes (Some at) s h e = by (begins_with_byte (byte ":") (drop (at + 1) bytes)) e
   where
     by : (b : Bool) → cond b (server (take at bytes) (drop 1 (drop (at + 1) bytes))) None ≡ Some s → HasNone is_slash s.host
     by true f = rw (host_in (take at bytes) (drop 1 (drop (at + 1) bytes)) (port (drop 1 (drop (at + 1) bytes))) s f) (none_taken is_slash at bytes h)
     by false f = absurd (cc)
 
 server_host : (bytes : List ℕ) (s : Server) → HasNone is_slash bytes → server_in bytes ≡ Some s → HasNone is_slash s.host
-server_host bytes s h e = by (begins_with (byte "[") bytes) e
+server_host bytes s h e = by (begins_with_byte (byte "[") bytes) e
   where
-    by : (b : Bool) → cond b (bracketed (drop 1 bytes) (position (λ b. b == byte "]") (drop 1 bytes))) (unbracketed bytes (position (λ b. b == byte ":") bytes)) ≡ Some s → HasNone is_slash s.host
+    by : (b : Bool) → cond b (bracketed_server (drop 1 bytes) (position (λ b. b == byte "]") (drop 1 bytes))) (unbracketed bytes (position (λ b. b == byte ":") bytes)) ≡ Some s → HasNone is_slash s.host
     by true f = bracketed_host (drop 1 bytes) (position (λ b. b == byte "]") (drop 1 bytes)) s (none_dropped is_slash 1 bytes h) f
     by false f = unbracketed_host bytes (position (λ b. b == byte ":") bytes) s h f
 
@@ -217,11 +217,11 @@ no_name host h = rw (no_place is_slash (drop 9 host) (none_dropped is_slash 9 ho
     never_both true = refl
     never_both false = refl
 
-plain_named : (through : Bool) (host : List ℕ) → is_dial_name host ≡ false → is_named through host ≡ false
+plain_named : (through : Bool) (host : List ℕ) → is_dial_name host ≡ false → names_its_server through host ≡ false
 plain_named true host h = h
 plain_named false host h = refl
 
-server_plain : (through : Bool) (name : List ℕ) (s : Server) → server_of name ≡ Some s → is_named through s.host ≡ false
+server_plain : (through : Bool) (name : List ℕ) (s : Server) → server_of name ≡ Some s → names_its_server through s.host ≡ false
 server_plain through name s e = plain_named through s.host (no_name s.host (server_host (take (position_or_len is_slash (drop 9 name)) (drop 9 name)) s (none_before is_slash (drop 9 name)) e))
 
 -- ---- what is to come through servers
@@ -250,10 +250,10 @@ left_plain true c host cs e f = absurd (cc)
 
 -- a host that is no dial name is met as below
 pub plain_met : (d : DialerState) (host : List ℕ) → is_dial_name host ≡ false → met_by (is_dial_name host) host (map through_server d.coming) ≡ met d host
-plain_met d host h = met_plain (is_dial_name host) (is_named d.through_servers host) host d.coming h (plain_named d.through_servers host h)
+plain_met d host h = met_plain (is_dial_name host) (names_its_server d.through_servers host) host d.coming h (plain_named d.through_servers host h)
 
 pub plain_left : (d : DialerState) (host : List ℕ) (new : List Coming) → is_dial_name host ≡ false → new ≡ coming_behind d host → map through_server new ≡ left_by (is_dial_name host) host (map through_server d.coming)
-plain_left d host new h e = ap (map through_server) e ∙ sym (left_plain (is_dial_name host) (is_named d.through_servers host) host d.coming h (plain_named d.through_servers host h))
+plain_left d host new h e = ap (map through_server) e ∙ sym (left_plain (is_dial_name host) (names_its_server d.through_servers host) host d.coming h (plain_named d.through_servers host h))
 
 wanting_through : (b c : Bool) (old new behind behind' : List Coming) → c ≡ false → LeavesWanting c old new behind → LeavesWanting b (map through_server old) (map through_server new) behind'
 wanting_through false false old new behind behind' e h = ap (map through_server) h
@@ -261,9 +261,9 @@ wanting_through true false old new behind behind' e h = inl (ap (map through_ser
 wanting_through b true old new behind behind' e h = absurd (cc)
 
 -- want of memory in the dial below leaves all
-pub plain_wanting : (d : DialerState) (host : List ℕ) (new behind : List Coming) → is_dial_name host ≡ false → LeavesWanting (is_named d.through_servers host) d.coming new (coming_behind d host)
+pub plain_wanting : (d : DialerState) (host : List ℕ) (new behind : List Coming) → is_dial_name host ≡ false → LeavesWanting (names_its_server d.through_servers host) d.coming new (coming_behind d host)
     → LeavesWanting (is_dial_name host) (map through_server d.coming) (map through_server new) behind
-plain_wanting d host new behind h w = wanting_through (is_dial_name host) (is_named d.through_servers host) d.coming new (coming_behind d host) behind (plain_named d.through_servers host h) w
+plain_wanting d host new behind h w = wanting_through (is_dial_name host) (names_its_server d.through_servers host) d.coming new (coming_behind d host) behind (plain_named d.through_servers host h) w
 
 pub same_wanting : (b : Bool) (cs behind : List Coming) → LeavesWanting b cs cs behind
 same_wanting false cs behind = refl
@@ -315,9 +315,9 @@ pub named_left : (d : DialerState) (name : List ℕ) (s : Server) (new : List Co
 named_left d name s new h e = rw (e, h.named, short name h.fits, server_plain d.through_servers name s h.server) (sym (off_through d.coming))
 
 -- want of memory in the dial of the server leaves all
-pub named_wanting : (d : DialerState) (name : List ℕ) (s : Server) (b : Bool) (new behind : List Coming) → server_of name ≡ Some s → LeavesWanting (is_named d.through_servers s.host) d.coming new (coming_behind d s.host)
+pub named_wanting : (d : DialerState) (name : List ℕ) (s : Server) (b : Bool) (new behind : List Coming) → server_of name ≡ Some s → LeavesWanting (names_its_server d.through_servers s.host) d.coming new (coming_behind d s.host)
     → LeavesWanting b (map through_server d.coming) (map through_server new) behind
-named_wanting d name s b new behind e w = wanting_through b (is_named d.through_servers s.host) d.coming new (coming_behind d s.host) behind (server_plain d.through_servers name s e) w
+named_wanting d name s b new behind e w = wanting_through b (names_its_server d.through_servers s.host) d.coming new (coming_behind d s.host) behind (server_plain d.through_servers name s e) w
 
 -- and in the handshake it leaves what a dial leaves
 pub lost_wanting : (d : DialerState) (name : List ℕ) (s : Server) (new : List Coming) → IsShort name s → new ≡ coming_behind d s.host

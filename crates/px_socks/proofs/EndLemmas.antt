@@ -2,8 +2,9 @@
 use Rattle.std.proofs.Common.{◌≡◌, ℕ, ◌-◌, Bool, true, false, IsTrue, List, ◌++◌, length, take, drop, sym, ap, ◌∙◌, arith, length-append, append_assoc, refl}
 use Rattle.std.proofs.Math.Seq.{take-append_seam}
 use Rattle.px_base.specs.Sources.{SourceState, SourceGoesOn}
-use Rattle.px_socks.specs.declared.ends.Passage.{Passage}
-use Rattle.px_socks.specs.Ends.{told, source_behind}
+use Rattle.px_socks.specs.declared.ends.HandshakePassage.{HandshakePassage}
+use Rattle.px_socks.specs.Ends.{source_behind}
+use Rattle.px_base.specs.Lists.{told}
 
 -- what stands before what is left was given
 whole_part : (offered before left : List ℕ) → offered ≡ before ++ left → offered ≡ take (length offered - length left) offered ++ left
@@ -20,7 +21,7 @@ told_whole true offered left left' got moved whole k =
     whole_part offered (g ++ got) left' (whole k ∙ ap (λ (l : List ℕ). g ++ l) (moved k) ∙ sym (append_assoc g got left'))
 told_whole false offered left left' got moved whole k = (cc)
 
-pub source_behind_goes_on : (p : Passage) (s s' : SourceState) (got : List ℕ) → SourceGoesOn s s' → (IsTrue s.tells → s.left ≡ got ++ s'.left)
+pub source_behind_goes_on : (p : HandshakePassage) (s s' : SourceState) (got : List ℕ) → SourceGoesOn s s' → (IsTrue s.tells → s.left ≡ got ++ s'.left)
     → SourceGoesOn (source_behind p s) (source_behind p s')
 source_behind_goes_on p s s' got h moved = record {
   tells_same = h.tells_same;

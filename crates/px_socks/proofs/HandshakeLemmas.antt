@@ -1,12 +1,12 @@
 -- The notes join both lists.
 use Rattle.std.proofs.Common.{List, [], ◌∷◌}
 use Rattle.px_base.specs.declared.dials.Dial.{Dial}
-use Rattle.px_socks.specs.declared.notes.Note.{Note}
-use Rattle.px_socks.specs.declared.notes.Note.TheVariants as note
+use Rattle.px_socks.specs.declared.notes.DialNote.{DialNote}
+use Rattle.px_socks.specs.declared.notes.DialNote.TheVariants as note
 use Rattle.px_socks.specs.Notes.{outer_dials, AreTied}
 use Rattle.px_socks.specs.Handshakes.{Handshakes, none, plain, accepted, refused_one, too_long, lost}
 
-pub handshakes_of : (ns : List Note) (ds : List Dial) → AreTied ns ds → Handshakes (outer_dials ns ds) ds
+pub handshakes_of : (ns : List DialNote) (ds : List Dial) → AreTied ns ds → Handshakes (outer_dials ns ds) ds
 handshakes_of [] [] h = none
 handshakes_of [] (d ∷ ds) h = absurd h
 handshakes_of (note.Plain ∷ ns) [] h = absurd h

@@ -6,14 +6,14 @@ use Rattle.px_base.specs.Dials.{DialerState, traffic, is_open, finish}
 use Rattle.std.specs.Prelude.{MatchBool, not, ◌==◌}
 use Rattle.px_base.specs.Causes.{Rose, RisesWith}
 use Rattle.px_socks.specs.Marks.{mark_behind}
-use Rattle.px_socks.specs.Ends.{InnerSource, InnerSink, BeginsWith, has_failed, source_behind, sink_behind}
-use Rattle.px_socks.specs.Notes.{traffic_behind, outer_dials, Keeps}
-use Rattle.px_socks.specs.Dialers.{Kept, outer_state}
+use Rattle.px_socks.specs.Ends.{InnerSource, InnerSink, BeginsWithMessages, has_failed, source_behind, sink_behind}
+use Rattle.px_socks.specs.Notes.{traffic_behind, outer_dials, KeepsNotes}
+use Rattle.px_socks.specs.Dialers.{KeptDialer, outer_state}
 use Rattle.px_socks.proofs.MarkLemmas.{mark_injective}
 use Rattle.px_socks.proofs.NoteLemmas.{open_below, outer_finish, tied_finish, distinct_finish}
 
 -- both ends are those of one link, which is open in the inner list
-pub record IsHeld (k : Kept) (i : InnerSource) (o : InnerSink) : Type 0 where
+pub record IsHeld (k : KeptDialer) (i : InnerSource) (o : InnerSink) : Type 0 where
   pub in_tells : i.source.tells ≡ true
   pub out_tells : o.sink.tells ≡ true
   pub one_passage : o.passage ≡ i.passage
@@ -21,7 +21,7 @@ pub record IsHeld (k : Kept) (i : InnerSource) (o : InnerSink) : Type 0 where
   pub there : is_open i.source.mark k.inner.dials ≡ true
   pub outer_there : is_open (mark_behind true i.passage i.source.mark) (outer_dials k.notes k.inner.dials) ≡ true
 
-pub held : (k : Kept) (i : InnerSource) (o : InnerSink)
+pub held : (k : KeptDialer) (i : InnerSource) (o : InnerSink)
     → is_open (source_behind i.passage i.source).mark (outer_state k).dials ≡ true → (sink_behind o.passage o.sink).mark ≡ (source_behind i.passage i.source).mark
     → IsHeld k i o
 held k i o open_there one =
@@ -53,14 +53,14 @@ traffic_is : (i : InnerSource) (o : InnerSink) → i.source.tells ≡ true → o
 traffic_is i o t u e = rw (t, u, e, given_behind i.passage.heard i.source.offered i.source.left) refl
 
 -- the outer list behind the hanging up
-pub hung_outer : (k : Kept) (d : DialerState) (i : InnerSource) (o : InnerSink) → IsHeld k i o → Keeps k.notes k.inner.dials → d.dials ≡ finish i.source.mark (traffic i.source o.sink) k.inner.dials
+pub hung_outer : (k : KeptDialer) (d : DialerState) (i : InnerSource) (o : InnerSink) → IsHeld k i o → KeepsNotes k.notes k.inner.dials → d.dials ≡ finish i.source.mark (traffic i.source o.sink) k.inner.dials
     → outer_dials k.notes d.dials ≡ finish (source_behind i.passage i.source).mark (traffic (source_behind i.passage i.source) (sink_behind o.passage o.sink)) (outer_dials k.notes k.inner.dials)
 hung_outer k d i o h kept e =
     rw (traffic_is i o h.in_tells h.out_tells h.one_passage, h.in_tells, e)
     (outer_finish i.source.mark i.passage (traffic i.source o.sink) k.notes k.inner.dials kept.tied kept.distinct h.outer_there)
 
-pub hung_keeps : (k : Kept) (d : DialerState) (i : InnerSource) (o : InnerSink) → IsHeld k i o → Keeps k.notes k.inner.dials → BeginsWith o.passage.messages o.sink
-    → d.dials ≡ finish i.source.mark (traffic i.source o.sink) k.inner.dials → Keeps k.notes d.dials
+pub hung_keeps : (k : KeptDialer) (d : DialerState) (i : InnerSource) (o : InnerSink) → IsHeld k i o → KeepsNotes k.notes k.inner.dials → BeginsWithMessages o.passage.messages o.sink
+    → d.dials ≡ finish i.source.mark (traffic i.source o.sink) k.inner.dials → KeepsNotes k.notes d.dials
 hung_keeps k d i o h kept begins e = record {
   tied = rw e (tied_finish i.source.mark i.passage (traffic i.source o.sink) k.notes k.inner.dials kept.tied kept.distinct h.outer_there (rw h.one_passage at (begins h.out_tells)));
   distinct = rw e (distinct_finish i.source.mark (traffic i.source o.sink) k.inner.dials kept.distinct);

@@ -6,17 +6,17 @@ use Rattle.px_base.specs.Dials.{Traffic, is_open_at, is_open, finish, closed, cl
 use Rattle.px_base.specs.declared.dials.Dial.{Dial}
 use Rattle.px_base.specs.declared.dials.DialOutcome.{DialOutcome}
 use Rattle.px_base.specs.declared.dials.DialOutcome.TheVariants as outcome
-use Rattle.px_socks.specs.declared.ends.Passage.{Passage}
-use Rattle.px_socks.specs.declared.notes.Note.{Note}
-use Rattle.px_socks.specs.declared.notes.Note.TheVariants as note
+use Rattle.px_socks.specs.declared.ends.HandshakePassage.{HandshakePassage}
+use Rattle.px_socks.specs.declared.notes.DialNote.{DialNote}
+use Rattle.px_socks.specs.declared.notes.DialNote.TheVariants as note
 use Rattle.px_socks.specs.Marks.{mark_behind}
 use Rattle.px_socks.specs.Messages.{messages}
 use Rattle.px_base.specs.DialNames.{is_dial_name, target_of}
-use Rattle.px_socks.specs.Notes.{no_handshake, passage_of, outcome_behind, traffic_behind, dial_behind, refused, outer_dials, IsAcceptedBy, IsRefusedBy, IsLostBy, IsServed, AreTied, AreDistinct}
+use Rattle.px_socks.specs.Notes.{no_handshake, passage_of, outcome_behind, traffic_behind, dial_behind, refused_dial, outer_dials, IsAcceptedBy, IsRefusedBy, IsLostBy, IsServedDial, AreTied, AreDistinct}
 use Rattle.px_socks.proofs.MarkLemmas.{mark_injective}
 
 -- the outer dials of both parts, one behind the other
-pub outer-append : (ns ms : List Note) (ds es : List Dial) → AreTied ns ds → outer_dials (ns ++ ms) (ds ++ es) ≡ outer_dials ns ds ++ outer_dials ms es
+pub outer-append : (ns ms : List DialNote) (ds es : List Dial) → AreTied ns ds → outer_dials (ns ++ ms) (ds ++ es) ≡ outer_dials ns ds ++ outer_dials ms es
 outer-append [] ms [] es h = refl
 outer-append [] ms (d ∷ ds) es h = absurd h
 outer-append (note.Plain ∷ ns) ms [] es h = absurd h
@@ -24,12 +24,12 @@ outer-append (note.Plain ∷ ns) ms (d ∷ ds) es h = ap (λ (os : List Dial). d
 outer-append (note.Accepted name port heard ∷ ns) ms [] es h = absurd h
 outer-append (note.Accepted name port heard ∷ ns) ms (d ∷ ds) es h = ap (λ (os : List Dial). dial_behind name port (passage_of name port heard) d ∷ os) (outer-append ns ms ds es h.1)
 outer-append (note.Refused name port ∷ ns) ms [] es h = absurd h
-outer-append (note.Refused name port ∷ ns) ms (d ∷ ds) es h = ap (λ (os : List Dial). refused name port ∷ os) (outer-append ns ms ds es h.1)
-outer-append (note.TooLong name port ∷ ns) ms ds es h = ap (λ (os : List Dial). refused name port ∷ os) (outer-append ns ms ds es h.1)
+outer-append (note.Refused name port ∷ ns) ms (d ∷ ds) es h = ap (λ (os : List Dial). refused_dial name port ∷ os) (outer-append ns ms ds es h.1)
+outer-append (note.TooLong name port ∷ ns) ms ds es h = ap (λ (os : List Dial). refused_dial name port ∷ os) (outer-append ns ms ds es h.1)
 outer-append (note.Lost name port ∷ ns) ms [] es h = absurd h
 outer-append (note.Lost name port ∷ ns) ms (d ∷ ds) es h = outer-append ns ms ds es h.1
 
-pub tied-append : (ns ms : List Note) (ds es : List Dial) → AreTied ns ds → AreTied ms es → AreTied (ns ++ ms) (ds ++ es)
+pub tied-append : (ns ms : List DialNote) (ds es : List Dial) → AreTied ns ds → AreTied ms es → AreTied (ns ++ ms) (ds ++ es)
 tied-append [] ms [] es h k = k
 tied-append [] ms (d ∷ ds) es h k = absurd h
 tied-append (note.Plain ∷ ns) ms [] es h k = absurd h
@@ -44,7 +44,7 @@ tied-append (note.Lost name port ∷ ns) ms (d ∷ ds) es h k = (h.0, tied-appen
 
 -- an open outer link is an open inner one that tells
 pub record OpenBelow (mark : ℕ) (ds : List Dial) : Type 0 where
-  pub passage : Passage
+  pub passage : HandshakePassage
   pub inner : ℕ
   pub same : mark ≡ mark_behind true passage inner
   pub open_there : is_open inner ds ≡ true
@@ -57,19 +57,19 @@ or_true_left : (a b : Bool) → a ≡ true → (a || b) ≡ true
 or_true_left true b e = refl
 or_true_left false b e = absurd (cc)
 
-open_one : (mark : ℕ) (p : Passage) (o : DialOutcome) → is_open_at mark (outcome_behind p o) ≡ true → (inner : ℕ) × (mark ≡ mark_behind true p inner) × (is_open_at inner o ≡ true)
+open_one : (mark : ℕ) (p : HandshakePassage) (o : DialOutcome) → is_open_at mark (outcome_behind p o) ≡ true → (inner : ℕ) × (mark ≡ mark_behind true p inner) × (is_open_at inner o ≡ true)
 open_one mark p outcome.NoName h = absurd (cc)
 open_one mark p outcome.NotReached h = absurd (cc)
 open_one mark p (outcome.Open m offered) h = (m, sym (eqb-true (mark_behind true p m) mark h), eq-eqb m m refl)
 open_one mark p (outcome.Link l) h = absurd (cc)
 
-open_first : (mark : ℕ) (p : Passage) (d : Dial) (ds : List Dial) → is_open_at mark (outcome_behind p d.outcome) ≡ true → OpenBelow mark (d ∷ ds)
+open_first : (mark : ℕ) (p : HandshakePassage) (d : Dial) (ds : List Dial) → is_open_at mark (outcome_behind p d.outcome) ≡ true → OpenBelow mark (d ∷ ds)
 open_first mark p d ds h = let o = open_one mark p d.outcome h in record { passage = p; inner = o.0; same = o.1; open_there = or_true_left (is_open_at o.0 d.outcome) (is_open o.0 ds) o.2 }
 
 open_later : (mark : ℕ) (d : Dial) (ds : List Dial) → OpenBelow mark ds → OpenBelow mark (d ∷ ds)
 open_later mark d ds o = record { passage = o.passage; inner = o.inner; same = o.same; open_there = or_true_right (is_open_at o.inner d.outcome) (is_open o.inner ds) o.open_there }
 
-pub open_below : (mark : ℕ) (ns : List Note) (ds : List Dial) → is_open mark (outer_dials ns ds) ≡ true → OpenBelow mark ds
+pub open_below : (mark : ℕ) (ns : List DialNote) (ds : List Dial) → is_open mark (outer_dials ns ds) ≡ true → OpenBelow mark ds
 open_below mark [] ds h = absurd (cc)
 open_below mark (note.Plain ∷ ns) [] h = absurd (cc)
 open_below mark (note.Plain ∷ ns) (d ∷ ds) h = elim (or_cases (is_open_at mark (outcome_behind no_handshake d.outcome)) (is_open mark (outer_dials ns ds)) h) [
@@ -88,20 +88,20 @@ open_below mark (note.Lost name port ∷ ns) [] h = absurd (cc)
 open_below mark (note.Lost name port ∷ ns) (d ∷ ds) h = open_later mark d ds (open_below mark ns ds h)
 
 -- the first dial is that link, or is another and the link is among those behind
-abbrev IsHere : ℕ → ℕ → Passage → Passage → DialOutcome → Type 0
+abbrev IsHere : ℕ → ℕ → HandshakePassage → HandshakePassage → DialOutcome → Type 0
 IsHere mark inner p q o = (is_open_at inner o ≡ true) × (is_open_at mark (outcome_behind q o) ≡ true) × (p ≡ q)
 
-abbrev IsBehind : ℕ → ℕ → Passage → DialOutcome → List Dial → Type 0
+abbrev IsBehind : ℕ → ℕ → HandshakePassage → DialOutcome → List Dial → Type 0
 IsBehind mark inner q o os = (is_open_at inner o ≡ false) × (is_open_at mark (outcome_behind q o) ≡ false) × (is_open mark os ≡ true)
 
-inner_open : (inner : ℕ) (p q : Passage) (o : DialOutcome) → is_open_at (mark_behind true p inner) (outcome_behind q o) ≡ true → (is_open_at inner o ≡ true) × (p ≡ q)
+inner_open : (inner : ℕ) (p q : HandshakePassage) (o : DialOutcome) → is_open_at (mark_behind true p inner) (outcome_behind q o) ≡ true → (is_open_at inner o ≡ true) × (p ≡ q)
 inner_open inner p q o h =
     let e = open_one (mark_behind true p inner) q o h in
     let same = mark_injective true p q inner e.0 e.1 in
     let P = λ (n : ℕ). is_open_at n o ≡ true in
     (subst P (sym same.mark) e.2, same.passage)
 
-below_is : (inner : ℕ) (p : Passage) (ds : List Dial) → OpenBelow (mark_behind true p inner) ds → is_open inner ds ≡ true
+below_is : (inner : ℕ) (p : HandshakePassage) (ds : List Dial) → OpenBelow (mark_behind true p inner) ds → is_open inner ds ≡ true
 below_is inner p ds o =
     let same = mark_injective true p o.passage inner o.inner o.same in
     let P = λ (n : ℕ). is_open n ds ≡ true in
@@ -111,7 +111,7 @@ two : (b : Bool) → (b ≡ true) ⊎ (b ≡ false)
 two true = inl refl
 two false = inr refl
 
-here_or_behind : (inner : ℕ) (p q : Passage) (o : DialOutcome) (ds os : List Dial)
+here_or_behind : (inner : ℕ) (p q : HandshakePassage) (o : DialOutcome) (ds os : List Dial)
     → (is_open_at (mark_behind true p inner) (outcome_behind q o) || is_open (mark_behind true p inner) os) ≡ true
     → ((mark : ℕ) → is_open_at mark o ≡ true → is_open mark ds ≡ false)
     → (is_open (mark_behind true p inner) os ≡ true → is_open inner ds ≡ true)
@@ -124,14 +124,14 @@ here_or_behind inner p q o ds os h distinct below =
           inr (false_from_ne_true (is_open_at inner o) (λ k. let no = distinct inner k in let yes = below later in absurd (cc)), other, later)
     ]
 
-closed_same : (p q : Passage) (t : Traffic) (o : DialOutcome) → p ≡ q → outcome_behind q (closed t o) ≡ closed (traffic_behind p t) (outcome_behind q o)
+closed_same : (p q : HandshakePassage) (t : Traffic) (o : DialOutcome) → p ≡ q → outcome_behind q (closed t o) ≡ closed (traffic_behind p t) (outcome_behind q o)
 closed_same p q t outcome.NoName e = refl
 closed_same p q t outcome.NotReached e = refl
 closed_same p q t (outcome.Open m offered) e = rw e refl
 closed_same p q t (outcome.Link l) e = refl
 
 -- a link that is hung up, or another, at the front
-link_finish : (inner : ℕ) (p q : Passage) (t : Traffic) (host : List ℕ) (port : ℕ) (o : DialOutcome) (os os' : List Dial)
+link_finish : (inner : ℕ) (p q : HandshakePassage) (t : Traffic) (host : List ℕ) (port : ℕ) (o : DialOutcome) (os os' : List Dial)
     → IsHere (mark_behind true p inner) inner p q o ⊎ IsBehind (mark_behind true p inner) inner q o os
     → (is_open (mark_behind true p inner) os ≡ true → os' ≡ finish (mark_behind true p inner) (traffic_behind p t) os)
     → cond (is_open_at inner o) (record { host = host; port = port; outcome = outcome_behind q (closed t o) } ∷ os) (record { host = host; port = port; outcome = outcome_behind q o } ∷ os')
@@ -141,13 +141,13 @@ link_finish inner p q t host port o os os' (inl here) rest =
 link_finish inner p q t host port o os os' (inr behind) rest =
     rw (behind.0, behind.1) (ap (λ (xs : List Dial). record { host = host; port = port; outcome = outcome_behind q o } ∷ xs) (rest behind.2))
 
-plain_of : (ns : List Note) (t : Traffic) (d : Dial) (ds ds' : List Dial) (b : Bool)
+plain_of : (ns : List DialNote) (t : Traffic) (d : Dial) (ds ds' : List Dial) (b : Bool)
     → outer_dials (note.Plain ∷ ns) (cond b (closed_dial t d ∷ ds) (d ∷ ds'))
     ≡ cond b (record { host = d.host; port = d.port; outcome = outcome_behind no_handshake (closed t d.outcome) } ∷ outer_dials ns ds) (record { host = d.host; port = d.port; outcome = outcome_behind no_handshake d.outcome } ∷ outer_dials ns ds')
 plain_of ns t d ds ds' true = refl
 plain_of ns t d ds ds' false = refl
 
-accepted_of : (name : List ℕ) (port heard : ℕ) (ns : List Note) (t : Traffic) (d : Dial) (ds ds' : List Dial) (b : Bool)
+accepted_of : (name : List ℕ) (port heard : ℕ) (ns : List DialNote) (t : Traffic) (d : Dial) (ds ds' : List Dial) (b : Bool)
     → outer_dials (note.Accepted name port heard ∷ ns) (cond b (closed_dial t d ∷ ds) (d ∷ ds'))
     ≡ cond b (record { host = name; port = port; outcome = outcome_behind (passage_of name port heard) (closed t d.outcome) } ∷ outer_dials ns ds)
     (record { host = name; port = port; outcome = outcome_behind (passage_of name port heard) d.outcome } ∷ outer_dials ns ds')
@@ -168,7 +168,7 @@ lost_not_open inner bytes (outcome.Open m offered) h = absurd h
 lost_not_open inner bytes (outcome.Link l) h = refl
 
 -- the outer link is hung up where the inner one is
-pub outer_finish : (inner : ℕ) (p : Passage) (t : Traffic) (ns : List Note) (ds : List Dial) → AreTied ns ds → AreDistinct ds → is_open (mark_behind true p inner) (outer_dials ns ds) ≡ true
+pub outer_finish : (inner : ℕ) (p : HandshakePassage) (t : Traffic) (ns : List DialNote) (ds : List Dial) → AreTied ns ds → AreDistinct ds → is_open (mark_behind true p inner) (outer_dials ns ds) ≡ true
     → outer_dials ns (finish inner t ds) ≡ finish (mark_behind true p inner) (traffic_behind p t) (outer_dials ns ds)
 outer_finish inner p t [] ds h k open_there = absurd (cc)
 outer_finish inner p t (note.Plain ∷ ns) [] h k open_there = absurd h
@@ -185,36 +185,36 @@ outer_finish inner p t (note.Accepted name port heard ∷ ns) (d ∷ ds) h k ope
     (λ o. outer_finish inner p t ns ds h.1 k.1 o)
 outer_finish inner p t (note.Refused name port ∷ ns) [] h k open_there = absurd h
 outer_finish inner p t (note.Refused name port ∷ ns) (d ∷ ds) h k open_there =
-    rw (refused_not_open inner (messages (target_of name) port) d.outcome h.0.outcome) (ap (λ (os : List Dial). refused name port ∷ os) (outer_finish inner p t ns ds h.1 k.1 open_there))
-outer_finish inner p t (note.TooLong name port ∷ ns) ds h k open_there = ap (λ (os : List Dial). refused name port ∷ os) (outer_finish inner p t ns ds h.1 k open_there)
+    rw (refused_not_open inner (messages (target_of name) port) d.outcome h.0.outcome) (ap (λ (os : List Dial). refused_dial name port ∷ os) (outer_finish inner p t ns ds h.1 k.1 open_there))
+outer_finish inner p t (note.TooLong name port ∷ ns) ds h k open_there = ap (λ (os : List Dial). refused_dial name port ∷ os) (outer_finish inner p t ns ds h.1 k open_there)
 outer_finish inner p t (note.Lost name port ∷ ns) [] h k open_there = absurd h
 outer_finish inner p t (note.Lost name port ∷ ns) (d ∷ ds) h k open_there = rw (lost_not_open inner (messages (target_of name) port) d.outcome h.0.outcome) (outer_finish inner p t ns ds h.1 k.1 open_there)
 
 -- what went over the link that is hung up begins as its passage says
-accepted_finish : (name : List ℕ) (inner : ℕ) (p q : Passage) (t : Traffic) (d : Dial) (os : List Dial) (ns : List Note) (ds ds' : List Dial)
+accepted_finish : (name : List ℕ) (inner : ℕ) (p q : HandshakePassage) (t : Traffic) (d : Dial) (os : List Dial) (ns : List DialNote) (ds ds' : List Dial)
     → IsHere (mark_behind true p inner) inner p q d.outcome ⊎ IsBehind (mark_behind true p inner) inner q d.outcome os
     → t.sent ≡ p.messages ++ drop (length p.messages) t.sent
-    → IsServed name (IsAcceptedBy q) d → AreTied ns ds → (is_open (mark_behind true p inner) os ≡ true → AreTied ns ds')
-    → (x : Dial) × (xs : List Dial) × (cond (is_open_at inner d.outcome) (closed_dial t d ∷ ds) (d ∷ ds') ≡ x ∷ xs) × IsServed name (IsAcceptedBy q) x × AreTied ns xs
+    → IsServedDial name (IsAcceptedBy q) d → AreTied ns ds → (is_open (mark_behind true p inner) os ≡ true → AreTied ns ds')
+    → (x : Dial) × (xs : List Dial) × (cond (is_open_at inner d.outcome) (closed_dial t d ∷ ds) (d ∷ ds') ≡ x ∷ xs) × IsServedDial name (IsAcceptedBy q) x × AreTied ns xs
 accepted_finish name inner p q t d os ns ds ds' (inl here) first by h rest = (closed_dial t d, ds, rw here.0 refl, record { named = by.named; short = by.short; server = by.server; outcome = closed_by d.outcome here.0 by.outcome }, h)
   where
     closed_by : (o : DialOutcome) → is_open_at inner o ≡ true → IsAcceptedBy q o → IsAcceptedBy q (closed t o)
     closed_by outcome.NoName e k = absurd (cc)
     closed_by outcome.NotReached e k = absurd (cc)
-    closed_by (outcome.Open m offered) e k = (k, let P = λ (r : Passage). t.sent ≡ r.messages ++ drop (length r.messages) t.sent in subst P here.2 first)
+    closed_by (outcome.Open m offered) e k = (k, let P = λ (r : HandshakePassage). t.sent ≡ r.messages ++ drop (length r.messages) t.sent in subst P here.2 first)
     closed_by (outcome.Link l) e k = absurd (cc)
 accepted_finish name inner p q t d os ns ds ds' (inr behind) first by h rest = (d, ds', rw behind.0 refl, by, rest behind.2)
 
-tied_of_accepted : (name : List ℕ) (port heard : ℕ) (ns : List Note) (all : List Dial)
-    → (x : Dial) × (xs : List Dial) × (all ≡ x ∷ xs) × IsServed name (IsAcceptedBy (passage_of name port heard)) x × AreTied ns xs
+tied_of_accepted : (name : List ℕ) (port heard : ℕ) (ns : List DialNote) (all : List Dial)
+    → (x : Dial) × (xs : List Dial) × (all ≡ x ∷ xs) × IsServedDial name (IsAcceptedBy (passage_of name port heard)) x × AreTied ns xs
     → AreTied (note.Accepted name port heard ∷ ns) all
 tied_of_accepted name port heard ns all r = let P = λ (l : List Dial). AreTied (note.Accepted name port heard ∷ ns) l in subst P (sym r.2) (r.3, r.4)
 
-tied_of_plain : (ns : List Note) (d e : Dial) (ds ds' : List Dial) (b : Bool) → is_dial_name d.host ≡ false → is_dial_name e.host ≡ false → AreTied ns ds → (b ≡ false → AreTied ns ds') → AreTied (note.Plain ∷ ns) (cond b (e ∷ ds) (d ∷ ds'))
+tied_of_plain : (ns : List DialNote) (d e : Dial) (ds ds' : List Dial) (b : Bool) → is_dial_name d.host ≡ false → is_dial_name e.host ≡ false → AreTied ns ds → (b ≡ false → AreTied ns ds') → AreTied (note.Plain ∷ ns) (cond b (e ∷ ds) (d ∷ ds'))
 tied_of_plain ns d e ds ds' true no_name no_name' h k = (no_name', h)
 tied_of_plain ns d e ds ds' false no_name no_name' h k = (no_name, k refl)
 
-pub tied_finish : (inner : ℕ) (p : Passage) (t : Traffic) (ns : List Note) (ds : List Dial) → AreTied ns ds → AreDistinct ds → is_open (mark_behind true p inner) (outer_dials ns ds) ≡ true
+pub tied_finish : (inner : ℕ) (p : HandshakePassage) (t : Traffic) (ns : List DialNote) (ds : List Dial) → AreTied ns ds → AreDistinct ds → is_open (mark_behind true p inner) (outer_dials ns ds) ≡ true
     → t.sent ≡ p.messages ++ drop (length p.messages) t.sent → AreTied ns (finish inner t ds)
 tied_finish inner p t [] ds h k open_there first = absurd (cc)
 tied_finish inner p t (note.Plain ∷ ns) [] h k open_there first = absurd h

@@ -11,24 +11,24 @@ use Rattle.px_base.specs.Dials.{Traffic, traffic, DialerState, IsTold, is_open_a
 use Rattle.px_base.specs.declared.dials.Dial.{Dial}
 use Rattle.px_socks.specs.declared.handshakes.Refusal.{Refusal}
 use Rattle.px_socks.specs.declared.handshakes.Refusal.TheVariants as refusal
-use Rattle.px_socks.specs.declared.servers.Stop.{Stop}
-use Rattle.px_socks.specs.declared.servers.Stop.TheVariants as stop
+use Rattle.px_socks.specs.declared.servers.ServerStop.{ServerStop}
+use Rattle.px_socks.specs.declared.servers.ServerStop.TheVariants as stop
 use Rattle.px_socks.specs.Ends.{InnerSource, InnerSink, has_failed}
-use Rattle.px_socks.specs.Messages.{due, IsAccepted, Took, NoneAhead}
+use Rattle.px_socks.specs.Messages.{due_messages, IsAccepted, Took, NoneAhead}
 use Rattle.px_socks.specs.Notes.{IsFrontSent}
-use Rattle.px_socks.specs.Shaking.{AddsSome, SendsDue, IsRefused}
-use Rattle.px_socks.specs.Serving.{IsOpenLink, RefusedOver, Hung, IsBehindHandshake, open_dial, IsNewLink, Serves}
+use Rattle.px_socks.specs.Shaking.{AddsFrontOrAll, SendsDue, IsHandshakeRefused}
+use Rattle.px_socks.specs.Serving.{IsOpenLink, RefusedOver, Hung, IsBehindHandshake, open_dial, IsNewLink, ServesDial}
 
 failed_of : (n : ℕ) → Rose 0 n → has_failed n ≡ true
 failed_of zero h = absurd (omega (arith, h))
 failed_of (suc n) h = grind (arith, common_steps)
 
-pub refused_over : (i i' : SourceState) (o o' : SinkState) → i.faults ≡ 0 → o.faults ≡ 0 → i.left ≡ i.offered → IsRefused i i' o o' → RefusedOver i' o' i
+pub refused_over : (i i' : SourceState) (o o' : SinkState) → i.faults ≡ 0 → o.faults ≡ 0 → i.left ≡ i.offered → IsHandshakeRefused i i' o o' → RefusedOver i' o' i
 refused_over i i' o o' e f l (inl read) = inl (failed_of i'.faults (rw e at read))
 refused_over i i' o o' e f l (inr (inl write)) = inr (inl (failed_of o'.faults (rw f at write)))
 refused_over i i' o o' e f l (inr (inr none)) = inr (inr (λ t. let P = λ (bytes : List ℕ). NoneAhead IsAccepted bytes in subst P l (none t)))
 
-pub front_sent : (old new bytes : List ℕ) → old ≡ [] → AddsSome old new bytes → IsFrontSent new bytes
+pub front_sent : (old new bytes : List ℕ) → old ≡ [] → AddsFrontOrAll old new bytes → IsFrontSent new bytes
 front_sent old new bytes e (n, within, h) = (n, within, h ∙ ap (λ (l : List ℕ). l ++ take n bytes) e)
 
 -- what was heard was given, by a source of which nothing was read before
@@ -39,17 +39,17 @@ given_is i i' heard fresh same moved =
     rw (count, e) (take-append_seam heard i'.left)
 
 pub sent_front : (i i' : SourceState) (o o' : SinkState) (both : List ℕ) (r : Refusal) → i.left ≡ i.offered → i'.offered ≡ i.offered → o.taken ≡ [] → SendsDue i i' o o' both r
-    → IsFrontSent o'.taken (due (given i') both)
+    → IsFrontSent o'.taken (due_messages (given i') both)
 sent_front i i' o o' both r fresh same empty h =
-    let P = λ (bytes : List ℕ). IsFrontSent o'.taken (due bytes both) in
-    subst P (sym (given_is i i' h.heard fresh same h.moved)) (front_sent o.taken o'.taken (due h.heard both) empty h.front)
+    let P = λ (bytes : List ℕ). IsFrontSent o'.taken (due_messages bytes both) in
+    subst P (sym (given_is i i' h.heard fresh same h.moved)) (front_sent o.taken o'.taken (due_messages h.heard both) empty h.front)
 
 pub sent_whole : (i i' : SourceState) (o o' : SinkState) (both : List ℕ) (r : Refusal) → i.left ≡ i.offered → i'.offered ≡ i.offered → o.taken ≡ [] → SendsDue i i' o o' both r
-    → r ≡ refusal.NotReached → o.faults ≡ 0 → has_failed o'.faults ≡ false → o'.taken ≡ due (given i') both
+    → r ≡ refusal.NotReached → o.faults ≡ 0 → has_failed o'.faults ≡ false → o'.taken ≡ due_messages (given i') both
 sent_whole i i' o o' both r fresh same empty h e calm never =
-    let P = λ (bytes : List ℕ). o'.taken ≡ due bytes both in
+    let P = λ (bytes : List ℕ). o'.taken ≡ due_messages bytes both in
     let no_rise : ¬ (Rose o.faults o'.faults) = λ rose. let yes = failed_of o'.faults (rw calm at rose) in absurd (cc) in
-    subst P (sym (given_is i i' h.heard fresh same h.moved)) (h.whole e no_rise ∙ ap (λ (l : List ℕ). l ++ due h.heard both) empty)
+    subst P (sym (given_is i i' h.heard fresh same h.moved)) (h.whole e no_rise ∙ ap (λ (l : List ℕ). l ++ due_messages h.heard both) empty)
 
 -- the link of the last dial is open
 pub open_last : (mark : ℕ) (ds : List Dial) (d : Dial) → is_open_at mark d.outcome ≡ true → is_open mark (ds ++ d ∷ []) ≡ true
@@ -97,18 +97,18 @@ new_link old i o messages link told behind =
     }
 
 serves_ok : (old mid : DialerState) (host : List ℕ) (port : ℕ) (messages : List ℕ) (i : SourceState) (o : SinkState) (link : InnerSource × InnerSink)
-    → mid.dials ≡ old.dials ++ open_dial host port i ∷ [] → IsTold old (record { link_in = i; link_out = o }) → IsBehindHandshake i o messages link → Serves old mid host port messages (Ok link)
+    → mid.dials ≡ old.dials ++ open_dial host port i ∷ [] → IsTold old (record { link_in = i; link_out = o }) → IsBehindHandshake i o messages link → ServesDial old mid host port messages (Ok link)
 serves_ok old mid host port messages i o link added told behind =
     (new_link old i o messages link told behind, added ∙ rw (behind.in_goes_on.mark_same, behind.in_goes_on.offered_same) refl)
 
-hung_dials : (old mid new : DialerState) (host : List ℕ) (port : ℕ) (messages : List ℕ) (i : SourceState) (o : SinkState) (s : Stop) → IsTrue mid.tells
+hung_dials : (old mid new : DialerState) (host : List ℕ) (port : ℕ) (messages : List ℕ) (i : SourceState) (o : SinkState) (s : ServerStop) → IsTrue mid.tells
     → mid.dials ≡ old.dials ++ open_dial host port i ∷ [] → IsTold old (record { link_in = i; link_out = o }) → (h : Hung mid new i o messages s)
     → new.dials ≡ old.dials ++ closed_dial (traffic h.last_in h.last_out) (open_dial host port i) ∷ []
 hung_dials old mid new host port messages i o s t added told h =
     h.hung_up.dials t ∙ rw (h.in_goes_on.mark_same, added) (finish_last i.mark (traffic h.last_in h.last_out) old.dials (open_dial host port i) told.new_mark (eq-eqb i.mark i.mark refl))
 
-serves_hung : (old mid new : DialerState) (host : List ℕ) (port : ℕ) (messages : List ℕ) (i : SourceState) (o : SinkState) (s : Stop) → IsTrue mid.tells
-    → mid.dials ≡ old.dials ++ open_dial host port i ∷ [] → IsTold old (record { link_in = i; link_out = o }) → Hung mid new i o messages s → ¬ (s ≡ stop.Mem) → Serves old new host port messages (Err s)
+serves_hung : (old mid new : DialerState) (host : List ℕ) (port : ℕ) (messages : List ℕ) (i : SourceState) (o : SinkState) (s : ServerStop) → IsTrue mid.tells
+    → mid.dials ≡ old.dials ++ open_dial host port i ∷ [] → IsTold old (record { link_in = i; link_out = o }) → Hung mid new i o messages s → ¬ (s ≡ stop.Mem) → ServesDial old new host port messages (Err s)
 serves_hung old mid new host port messages i o stop.Refused t added told h never = record {
   dial = closed_dial (traffic h.last_in h.last_out) (open_dial host port i);
   added = hung_dials old mid new host port messages i o stop.Refused t added told h;
@@ -131,8 +131,8 @@ serves_hung old mid new host port messages i o stop.Lost t added told h never = 
 serves_hung old mid new host port messages i o stop.Mem t added told h never = absurd (never refl)
 
 -- what comes of the handshake over a link that was dialled
-pub serves_behind : (old mid new : DialerState) (host : List ℕ) (port : ℕ) (messages : List ℕ) (i : SourceState) (o : SinkState) (r : Result (InnerSource × InnerSink) Stop) → IsTrue mid.tells
+pub serves_behind : (old mid new : DialerState) (host : List ℕ) (port : ℕ) (messages : List ℕ) (i : SourceState) (o : SinkState) (r : Result (InnerSource × InnerSink) ServerStop) → IsTrue mid.tells
     → mid.dials ≡ old.dials ++ open_dial host port i ∷ [] → IsTold old (record { link_in = i; link_out = o })
-    → IfOk r (IsBehindHandshake i o messages) → IfOk r (λ _. new ≡ mid) → IfErr r (Hung mid new i o messages) → ¬ (r ≡ Err stop.Mem) → Serves old new host port messages r
+    → IfOk r (IsBehindHandshake i o messages) → IfOk r (λ _. new ≡ mid) → IfErr r (Hung mid new i o messages) → ¬ (r ≡ Err stop.Mem) → ServesDial old new host port messages r
 serves_behind old mid new host port messages i o (Ok link) t added told behind same hung never = rw same (serves_ok old mid host port messages i o link added told behind)
-serves_behind old mid new host port messages i o (Err s) t added told behind same hung never = serves_hung old mid new host port messages i o s t added told hung (λ e. never (ap (λ (x : Stop). Err x) e))
+serves_behind old mid new host port messages i o (Err s) t added told behind same hung never = serves_hung old mid new host port messages i o s t added told hung (λ e. never (ap (λ (x : ServerStop). Err x) e))

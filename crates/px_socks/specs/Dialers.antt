@@ -1,21 +1,21 @@
 -- What contracts see of a dialer through SOCKS servers.
 use Rattle.std.specs.Prelude.{ℕ, true, ◌&&◌, List, map}
 use Rattle.px_base.specs.Dials.{DialerState}
-use Rattle.px_socks.specs.declared.notes.Note.{Note}
+use Rattle.px_socks.specs.declared.notes.DialNote.{DialNote}
 use Rattle.px_socks.specs.Notes.{outer_dials}
 use Rattle.px_socks.specs.Comings.{through_server}
 
 -- the dialer below, the notes, and the counts of this one
-pub record Kept : Type 0 where
+pub record KeptDialer : Type 0 where
   pub inner : DialerState
-  pub notes : List Note
+  pub notes : List DialNote
   pub names : ℕ
   pub reach : ℕ
   pub link_reads : ℕ
   pub link_writes : ℕ
 
 -- it tells its dials where the dialer below does, and what its next dials give where that one tells both; it has that one's mark
-abbrev pub outer_state : Kept → DialerState
+abbrev pub outer_state : KeptDialer → DialerState
 outer_state k = record {
   tells = k.inner.tells;
   dials = outer_dials k.notes k.inner.dials;

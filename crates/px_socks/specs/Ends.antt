@@ -1,17 +1,13 @@
 -- Both ends of a link behind a handshake, made of those below it: what went over the link in the handshake isn't seen.
-use Rattle.std.specs.Prelude.{◌≡◌, ℕ, Bool, true, false, not, IsTrue, ◌==◌, List, [], ◌++◌, length, drop}
+use Rattle.std.specs.Prelude.{◌≡◌, ℕ, Bool, not, IsTrue, ◌==◌, List, [], ◌++◌, length, drop}
 use Rattle.px_base.specs.Sources.{SourceState}
 use Rattle.px_base.specs.Sinks.{SinkState}
-use Rattle.px_socks.specs.declared.ends.Passage.{Passage}
+use Rattle.px_socks.specs.declared.ends.HandshakePassage.{HandshakePassage}
 use Rattle.px_socks.specs.Marks.{mark_behind}
-
--- the bytes, where they are told, else none: what an end that doesn't tell says of its bytes means nothing
-abbrev pub told : Bool → List ℕ → List ℕ
-told true bytes = bytes
-told false bytes = []
+use Rattle.px_base.specs.Lists.{told}
 
 -- a source behind a handshake: the bytes that were heard in it aren't among those offered
-abbrev pub source_behind : Passage → SourceState → SourceState
+abbrev pub source_behind : HandshakePassage → SourceState → SourceState
 source_behind p s = record {
   tells = s.tells;
   offered = told s.tells (drop p.heard s.offered);
@@ -22,7 +18,7 @@ source_behind p s = record {
 }
 
 -- a sink behind a handshake: the messages aren't among the bytes taken
-abbrev pub sink_behind : Passage → SinkState → SinkState
+abbrev pub sink_behind : HandshakePassage → SinkState → SinkState
 sink_behind p s = record {
   tells = s.tells;
   taken = told s.tells (drop (length p.messages) s.taken);
@@ -36,23 +32,23 @@ sink_behind p s = record {
 -- an inner source and what the handshake took of its link
 pub record InnerSource : Type 0 where
   pub source : SourceState
-  pub passage : Passage
+  pub passage : HandshakePassage
 
 -- an inner sink and what the handshake took of its link
 pub record InnerSink : Type 0 where
   pub sink : SinkState
-  pub passage : Passage
+  pub passage : HandshakePassage
 
 -- what contracts see of both ends
-abbrev pub outer_source : InnerSource → SourceState
-outer_source s = source_behind s.passage s.source
+abbrev pub socks_source : InnerSource → SourceState
+socks_source s = source_behind s.passage s.source
 
-abbrev pub outer_sink : InnerSink → SinkState
-outer_sink s = sink_behind s.passage s.sink
+abbrev pub socks_sink : InnerSink → SinkState
+socks_sink s = sink_behind s.passage s.sink
 
 -- the messages are the first bytes taken
-abbrev pub BeginsWith : List ℕ → SinkState → Type 0
-BeginsWith messages s = IsTrue s.tells → s.taken ≡ messages ++ drop (length messages) s.taken
+abbrev pub BeginsWithMessages : List ℕ → SinkState → Type 0
+BeginsWithMessages messages s = IsTrue s.tells → s.taken ≡ messages ++ drop (length messages) s.taken
 
 -- whether the count of faults isn't 0
 abbrev pub has_failed : ℕ → Bool

@@ -2,17 +2,17 @@
 use Rattle.std.specs.Prelude.{◌≡◌, ℕ, ◌/◌, ◌%◌, Bool, false, if◌then◌else◌, IsTrue, ◌==◌, ◌&&◌, ◌||◌, List, [], ◌∷◌, ◌++◌, length, take}
 
 -- the greeting (section 3): version 5, and one method, 0, "no authentication required"
-abbrev pub greeting : List ℕ
-greeting = 5 ∷ 1 ∷ 0 ∷ []
+abbrev pub greeting_message : List ℕ
+greeting_message = 5 ∷ 1 ∷ 0 ∷ []
 
 -- the request (section 4): version 5, CONNECT, a reserved byte, an address of type 3, a domain name behind its length, and
 -- the port, highest byte first
-abbrev pub request : List ℕ → ℕ → List ℕ
-request target port = 5 ∷ 1 ∷ 0 ∷ 3 ∷ length target ∷ (target ++ port / 256 ∷ port % 256 ∷ [])
+abbrev pub request_message : List ℕ → ℕ → List ℕ
+request_message target port = 5 ∷ 1 ∷ 0 ∷ 3 ∷ length target ∷ (target ++ port / 256 ∷ port % 256 ∷ [])
 
 -- both, one behind the other
 abbrev pub messages : List ℕ → ℕ → List ℕ
-messages target port = greeting ++ request target port
+messages target port = greeting_message ++ request_message target port
 
 -- the bytes heard of a server begin with version 5 and the method that was offered (section 3)
 abbrev pub selects : List ℕ → Bool
@@ -22,8 +22,8 @@ selects (version ∷ method ∷ more) = version == 5 && method == 0
 
 -- what is due to a server of which these bytes were heard: of both messages the greeting, their first three bytes, and both
 -- once it has selected the method
-abbrev pub due : List ℕ → List ℕ → List ℕ
-due heard both = if selects heard then both else take 3 both
+abbrev pub due_messages : List ℕ → List ℕ → List ℕ
+due_messages heard both = if selects heard then both else take 3 both
 
 -- an address of that type (section 5): 1, an IPv4 address of 4 bytes; 3, a domain name behind its length; 4, an IPv6
 -- address of 16 bytes

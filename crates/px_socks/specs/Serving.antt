@@ -2,19 +2,19 @@
 use Rattle.std.specs.Prelude.{◌≡◌, ℕ, ◌⊎◌, true, false, IsTrue, List, [], ◌∷◌, ◌++◌, drop, Some, None, Result, Ok, Err}
 use Rattle.px_base.specs.Sources.{SourceState, SourceGoesOn, given}
 use Rattle.px_base.specs.Sinks.{SinkState, SinkGoesOn}
-use Rattle.px_base.specs.Dials.{DialerState, HangsUp, is_open, Met, offers, nameless, unreached, untold, is_named, coming_behind, LeavesWanting}
+use Rattle.px_base.specs.Dials.{DialerState, HangsUp, is_open, Met, offers, nameless, unreached, untold, names_its_server, coming_behind, LeavesWanting}
 use Rattle.px_base.specs.declared.dials.Dial.{Dial}
 use Rattle.px_base.specs.declared.dials.DialOutcome.TheVariants as outcome
-use Rattle.px_socks.specs.declared.ends.Passage.{Passage}
-use Rattle.px_socks.specs.declared.servers.Stop.{Stop}
-use Rattle.px_socks.specs.declared.servers.Stop.TheVariants as stop
+use Rattle.px_socks.specs.declared.ends.HandshakePassage.{HandshakePassage}
+use Rattle.px_socks.specs.declared.servers.ServerStop.{ServerStop}
+use Rattle.px_socks.specs.declared.servers.ServerStop.TheVariants as stop
 use Rattle.px_socks.specs.Ends.{InnerSource, InnerSink, has_failed}
 use Rattle.px_socks.specs.Comings.{accepted_length}
-use Rattle.px_socks.specs.Messages.{due, IsAccepted, Took, NoneAhead}
+use Rattle.px_socks.specs.Messages.{due_messages, IsAccepted, Took, NoneAhead}
 use Rattle.px_socks.specs.Notes.{IsFrontSent, IsRefusedBy, IsLostBy}
 
 -- a link behind a handshake: nothing else went over it, and nothing failed
-pub record IsBegun (passage : Passage) (i : SourceState) (o : SinkState) : Type 0 where
+pub record IsBegun (passage : HandshakePassage) (i : SourceState) (o : SinkState) : Type 0 where
   pub no_read_failed : i.faults ≡ 0
   pub no_write_failed : o.faults ≡ 0
   pub not_finished : o.finished ≡ false
@@ -34,15 +34,15 @@ RefusedOver i' o' i = (has_failed i'.faults ≡ true) ⊎ ((has_failed o'.faults
 
 -- the link was hung up, and had been sent a front of what was due by the bytes heard; all of it where it was refused without a
 -- failed write
-pub record Hung (old new : DialerState) (i : SourceState) (o : SinkState) (messages : List ℕ) (s : Stop) : Type 0 where
+pub record Hung (old new : DialerState) (i : SourceState) (o : SinkState) (messages : List ℕ) (s : ServerStop) : Type 0 where
   pub last_in : SourceState
   pub last_out : SinkState
   pub hung_up : HangsUp old new last_in last_out
   pub in_goes_on : SourceGoesOn i last_in
   pub out_goes_on : SinkGoesOn o last_out
   pub still_open : last_out.finished ≡ o.finished
-  pub sent : IsTrue i.tells → IsTrue o.tells → IsFrontSent last_out.taken (due (given last_in) messages)
-  pub whole : IsTrue i.tells → IsTrue o.tells → s ≡ stop.Refused → has_failed last_out.faults ≡ false → last_out.taken ≡ due (given last_in) messages
+  pub sent : IsTrue i.tells → IsTrue o.tells → IsFrontSent last_out.taken (due_messages (given last_in) messages)
+  pub whole : IsTrue i.tells → IsTrue o.tells → s ≡ stop.Refused → has_failed last_out.faults ≡ false → last_out.taken ≡ due_messages (given last_in) messages
   pub why : s ≡ stop.Refused → RefusedOver last_in last_out i
 
 -- the handshake over a link: it is as it was dialled, or was hung up
@@ -75,15 +75,15 @@ pub record IsNewLink (old : DialerState) (link : InnerSource × InnerSink) : Typ
   pub accepted : Took IsAccepted link.0.passage.heard link.0.source.offered (drop link.0.passage.heard link.0.source.offered)
 
 -- what came of it in the inner dials: a new open link, one refused or lost dial, or none where memory was wanting in the dial
-abbrev pub Serves : DialerState → DialerState → List ℕ → ℕ → List ℕ → Result (InnerSource × InnerSink) Stop → Type 0
-Serves old new host port messages (Ok link) = IsNewLink old link × (new.dials ≡ old.dials ++ open_dial host port link.0.source ∷ [])
-Serves old new host port messages (Err stop.Refused) = AddsDial old new host port (λ d. IsRefusedBy messages d.outcome)
-Serves old new host port messages (Err stop.Lost) = AddsDial old new host port (λ d. IsLostBy messages d.outcome)
-Serves old new host port messages (Err stop.Mem) = new.dials ≡ old.dials
+abbrev pub ServesDial : DialerState → DialerState → List ℕ → ℕ → List ℕ → Result (InnerSource × InnerSink) ServerStop → Type 0
+ServesDial old new host port messages (Ok link) = IsNewLink old link × (new.dials ≡ old.dials ++ open_dial host port link.0.source ∷ [])
+ServesDial old new host port messages (Err stop.Refused) = AddsDial old new host port (λ d. IsRefusedBy messages d.outcome)
+ServesDial old new host port messages (Err stop.Lost) = AddsDial old new host port (λ d. IsLostBy messages d.outcome)
+ServesDial old new host port messages (Err stop.Mem) = new.dials ≡ old.dials
 
 -- what came of a dial of a server, by what was to come of it: a link whose ends fail no more is accepted exactly where accepted
 -- bytes stand at the front of what it offers, and so many are heard
-abbrev pub CameOf : Met → Result (InnerSource × InnerSink) Stop → Type 0
+abbrev pub CameOf : Met → Result (InnerSource × InnerSink) ServerStop → Type 0
 CameOf m (Err stop.Lost) = Unit {0}
 CameOf m (Err stop.Mem) = Unit {0}
 CameOf (offers bytes true true) (Ok link) =
@@ -101,8 +101,8 @@ CameOf untold (Ok link) = Unit {0}
 CameOf untold (Err stop.Refused) = Unit {0}
 
 -- what a dial of that server leaves to come
-abbrev pub LeavesBehind : DialerState → DialerState → List ℕ → Result (InnerSource × InnerSink) Stop → Type 0
+abbrev pub LeavesBehind : DialerState → DialerState → List ℕ → Result (InnerSource × InnerSink) ServerStop → Type 0
 LeavesBehind old new host (Ok link) = new.coming ≡ coming_behind old host
 LeavesBehind old new host (Err stop.Refused) = new.coming ≡ coming_behind old host
 LeavesBehind old new host (Err stop.Lost) = new.coming ≡ coming_behind old host
-LeavesBehind old new host (Err stop.Mem) = LeavesWanting (is_named old.through_servers host) old.coming new.coming (coming_behind old host)
+LeavesBehind old new host (Err stop.Mem) = LeavesWanting (names_its_server old.through_servers host) old.coming new.coming (coming_behind old host)

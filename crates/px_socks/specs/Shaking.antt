@@ -3,26 +3,26 @@ use Rattle.std.specs.Prelude.{◌≡◌, ℕ, ◌≤◌, ◌⊎◌, IsTrue, List
 use Rattle.px_base.specs.Sources.{SourceState}
 use Rattle.px_base.specs.Sinks.{SinkState}
 use Rattle.px_base.specs.Causes.{Rose}
-use Rattle.px_socks.specs.Messages.{due, IsAccepted, NoneAhead}
+use Rattle.px_socks.specs.Messages.{due_messages, IsAccepted, NoneAhead}
 use Rattle.px_socks.specs.declared.handshakes.Refusal.{Refusal}
 use Rattle.px_socks.specs.declared.handshakes.Refusal.TheVariants as refusal
 
 -- a front of the bytes was added
-abbrev pub AddsSome : List ℕ → List ℕ → List ℕ → Type 0
-AddsSome old new bytes = (n : ℕ) × (n ≤ length bytes) × (new ≡ old ++ take n bytes)
+abbrev pub AddsFrontOrAll : List ℕ → List ℕ → List ℕ → Type 0
+AddsFrontOrAll old new bytes = (n : ℕ) × (n ≤ length bytes) × (new ≡ old ++ take n bytes)
 
 -- all bytes were sent, or after a refusal a front of them
-abbrev pub Sends : {T E : Type 0} → SinkState → SinkState → Result T E → List ℕ → Type 0
-Sends old new result bytes = IsTrue old.tells → MatchResult result (λ _. new.taken ≡ old.taken ++ bytes) (λ _. AddsSome old.taken new.taken bytes)
+abbrev pub SendsToServer : {T E : Type 0} → SinkState → SinkState → Result T E → List ℕ → Type 0
+SendsToServer old new result bytes = IsTrue old.tells → MatchResult result (λ _. new.taken ≡ old.taken ++ bytes) (λ _. AddsFrontOrAll old.taken new.taken bytes)
 
 -- what a handshake sends that gives no link, by the bytes that it heard: a front of what is due; all of it, unless a write was
 -- refused
 pub record SendsDue (i i' : SourceState) (o o' : SinkState) (messages : List ℕ) (r : Refusal) : Type 0 where
   pub heard : List ℕ
   pub moved : i.left ≡ heard ++ i'.left
-  pub front : AddsSome o.taken o'.taken (due heard messages)
-  pub whole : r ≡ refusal.NotReached → ¬ (Rose o.faults o'.faults) → o'.taken ≡ o.taken ++ due heard messages
+  pub front : AddsFrontOrAll o.taken o'.taken (due_messages heard messages)
+  pub whole : r ≡ refusal.NotReached → ¬ (Rose o.faults o'.faults) → o'.taken ≡ o.taken ++ due_messages heard messages
 
 -- why a handshake is refused: a count of the link rose, or the server's bytes end before or leave the accepted form
-abbrev pub IsRefused : SourceState → SourceState → SinkState → SinkState → Type 0
-IsRefused i i' o o' = Rose i.faults i'.faults ⊎ (Rose o.faults o'.faults ⊎ (IsTrue i.tells → NoneAhead IsAccepted i.left))
+abbrev pub IsHandshakeRefused : SourceState → SourceState → SinkState → SinkState → Type 0
+IsHandshakeRefused i i' o o' = Rose i.faults i'.faults ⊎ (Rose o.faults o'.faults ⊎ (IsTrue i.tells → NoneAhead IsAccepted i.left))

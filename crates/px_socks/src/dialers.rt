@@ -2,7 +2,7 @@
 ghost use Rattle.std.specs.Prelude.{◌≡◌, ◌<◌, ◌≤◌, ◌++◌, ◌∷◌, [], IsTrue, IfOk, MatchBool, Some, false, length, vec_len, vec_capacity};
 ghost use Rattle.px_base.specs.Causes.{Rose};
 ghost use Rattle.px_base.specs.Dials.{linked, dialed, IsFresh, IsTold, met, agrees, LeavesComing, DialCause, DialerGoesOn};
-ghost use Rattle.px_socks.specs.Ends.{outer_source, outer_sink};
+ghost use Rattle.px_socks.specs.Ends.{socks_source, socks_sink};
 ghost use Rattle.px_socks.specs.Dialers.{outer_state};
 ghost use Rattle.px_socks.specs.Handshakes.{Handshakes};
 ghost use Rattle.px_base.specs.DialNames.{is_dial_name, target_of, server_of};
@@ -10,8 +10,8 @@ ghost use Rattle.px_socks.specs.Notes.{no_handshake, IsTooLong};
 
 use crate::handshakes::greeting_and_request;
 use crate::names::{DialName, read_name};
-use crate::servers::{Stop, dial_server};
-use crate::{Note, Passage, SocksSink, SocksSource};
+use crate::servers::{ServerStop, dial_server};
+use crate::{DialNote, HandshakePassage, SocksSink, SocksSource};
 use px_base::{DialFault, Dialer, LocalDialer, Text};
 use std::alloc::Global;
 use std::marker::Model;
@@ -29,7 +29,7 @@ pub struct SocksDialer<D: LocalDialer> {
     inner: D,
     alloc: Global,
     // one for each dial that isn't left out for want of memory
-    notes: Vec<Note>,
+    notes: Vec<DialNote>,
     names: u64,
     reach: u64,
     link_reads: u64,
@@ -38,14 +38,14 @@ pub struct SocksDialer<D: LocalDialer> {
 
 impl<D: LocalDialer> Model for SocksDialer<D> {
     ghost use Rattle.std.specs.Prelude.{IsTrue};
-    ghost use Rattle.px_socks.specs.Dialers.{Kept};
-    ghost use Rattle.px_socks.specs.Notes.{Keeps};
+    ghost use Rattle.px_socks.specs.Dialers.{KeptDialer};
+    ghost use Rattle.px_socks.specs.Notes.{KeepsNotes};
 
-    ghost Value = { Kept };
+    ghost Value = { KeptDialer };
 
     ghost view = { λ d. record { inner = D.state d.inner; notes = d.notes.items; names = d.names; reach = d.reach; link_reads = d.link_reads; link_writes = d.link_writes } };
 
-    ghost invariant = { λ d. IsTrue (D.state d.inner).tells → Keeps d.notes.items (D.state d.inner).dials };
+    ghost invariant = { λ d. IsTrue (D.state d.inner).tells → KeepsNotes d.notes.items (D.state d.inner).dials };
 }
 
 /// One more where it is so; at the end of its type it stays.
@@ -57,7 +57,7 @@ fn raised(count: u64, by: bool) -> u64
 }
 
 /// Adds a note, for which there is room.
-fn note_down(notes: &mut Vec<Note>, note: Note)
+fn note_down(notes: &mut Vec<DialNote>, note: DialNote)
     requires room { vec_len notes.old < vec_capacity notes.old }
     ensures noted { notes.new.items ≡ notes.old.items ++ note ∷ [] }
 {
@@ -65,10 +65,10 @@ fn note_down(notes: &mut Vec<Note>, note: Note)
 }
 
 /// The passage of a link to a plain host. Takes no memory.
-fn no_handshake(alloc: Global) -> Passage
+fn no_handshake(alloc: Global) -> HandshakePassage
     ensures passage { result ≡ no_handshake }
 {
-    Passage {
+    HandshakePassage {
         heard: 0,
         messages: Text::new(alloc),
     }
@@ -116,11 +116,11 @@ impl<D: LocalDialer> SocksDialer<D> {
         port: u16,
     ) -> Result<(SocksSource<D::In>, SocksSink<D::Out>), DialFault>
         requires plain { is_dial_name host.now ≡ false }
-        ensures dials { IsTrue (outer_state self.old).tells → (outer_state self.new).dials ≡ (outer_state self.old).dials ++ dialed host.now port (linked outer_source outer_sink result) }
-        ensures told { IsTrue (outer_state self.old).tells → IfOk (linked outer_source outer_sink result) (IsTold (outer_state self.old)) }
-        ensures fresh { IfOk (linked outer_source outer_sink result) IsFresh }
-        ensures coming { IsTrue (outer_state self.old).tells_coming → agrees (met (outer_state self.old) host.now) (linked outer_source outer_sink result) }
-        ensures coming_left { IsTrue (outer_state self.old).tells_coming → LeavesComing (outer_state self.old) (outer_state self.new) host.now (linked outer_source outer_sink result) }
+        ensures dials { IsTrue (outer_state self.old).tells → (outer_state self.new).dials ≡ (outer_state self.old).dials ++ dialed host.now port (linked socks_source socks_sink result) }
+        ensures told { IsTrue (outer_state self.old).tells → IfOk (linked socks_source socks_sink result) (IsTold (outer_state self.old)) }
+        ensures fresh { IfOk (linked socks_source socks_sink result) IsFresh }
+        ensures coming { IsTrue (outer_state self.old).tells_coming → agrees (met (outer_state self.old) host.now) (linked socks_source socks_sink result) }
+        ensures coming_left { IsTrue (outer_state self.old).tells_coming → LeavesComing (outer_state self.old) (outer_state self.new) host.now (linked socks_source socks_sink result) }
         ensures cause { DialCause (outer_state self.old) (outer_state self.new) result }
         ensures goes_on { DialerGoesOn (outer_state self.old) (outer_state self.new) }
     {
@@ -129,19 +129,19 @@ impl<D: LocalDialer> SocksDialer<D> {
         }
         match self.inner.dial(host, port) {
             Ok((link_in, link_out)) => {
-                note_down(&mut self.notes, Note::Plain);
+                note_down(&mut self.notes, DialNote::Plain);
                 Ok((
                     SocksSource::new(link_in, no_handshake(self.alloc)),
                     SocksSink::new(link_out, no_handshake(self.alloc)),
                 ))
             }
             Err(DialFault::NoName) => {
-                note_down(&mut self.notes, Note::Plain);
+                note_down(&mut self.notes, DialNote::Plain);
                 self.names = raised(self.names, true);
                 Err(DialFault::NoName)
             }
             Err(DialFault::NotReached) => {
-                note_down(&mut self.notes, Note::Plain);
+                note_down(&mut self.notes, DialNote::Plain);
                 self.reach = raised(self.reach, true);
                 Err(DialFault::NotReached)
             }
@@ -157,11 +157,11 @@ impl<D: LocalDialer> SocksDialer<D> {
         port: u16,
     ) -> Result<(SocksSource<D::In>, SocksSink<D::Out>), DialFault>
         requires long { IsTooLong host.now }
-        ensures dials { IsTrue (outer_state self.old).tells → (outer_state self.new).dials ≡ (outer_state self.old).dials ++ dialed host.now port (linked outer_source outer_sink result) }
-        ensures told { IsTrue (outer_state self.old).tells → IfOk (linked outer_source outer_sink result) (IsTold (outer_state self.old)) }
-        ensures fresh { IfOk (linked outer_source outer_sink result) IsFresh }
-        ensures coming { IsTrue (outer_state self.old).tells_coming → agrees (met (outer_state self.old) host.now) (linked outer_source outer_sink result) }
-        ensures coming_left { IsTrue (outer_state self.old).tells_coming → LeavesComing (outer_state self.old) (outer_state self.new) host.now (linked outer_source outer_sink result) }
+        ensures dials { IsTrue (outer_state self.old).tells → (outer_state self.new).dials ≡ (outer_state self.old).dials ++ dialed host.now port (linked socks_source socks_sink result) }
+        ensures told { IsTrue (outer_state self.old).tells → IfOk (linked socks_source socks_sink result) (IsTold (outer_state self.old)) }
+        ensures fresh { IfOk (linked socks_source socks_sink result) IsFresh }
+        ensures coming { IsTrue (outer_state self.old).tells_coming → agrees (met (outer_state self.old) host.now) (linked socks_source socks_sink result) }
+        ensures coming_left { IsTrue (outer_state self.old).tells_coming → LeavesComing (outer_state self.old) (outer_state self.new) host.now (linked socks_source socks_sink result) }
         ensures cause { DialCause (outer_state self.old) (outer_state self.new) result }
         ensures goes_on { DialerGoesOn (outer_state self.old) (outer_state self.new) }
     {
@@ -169,7 +169,7 @@ impl<D: LocalDialer> SocksDialer<D> {
         if self.notes.reserve(1).is_err() {
             return Err(DialFault::Mem);
         }
-        note_down(&mut self.notes, Note::TooLong { name, port });
+        note_down(&mut self.notes, DialNote::TooLong { name, port });
         self.reach = raised(self.reach, true);
         Err(DialFault::NotReached)
     }
@@ -185,11 +185,11 @@ impl<D: LocalDialer> SocksDialer<D> {
         requires target { parts.target.now ≡ target_of host.now }
         requires short { length (target_of host.now) ≤ 255 }
         requires server { server_of host.now ≡ Some (record { host = parts.server.now; port = parts.port }) }
-        ensures dials { IsTrue (outer_state self.old).tells → (outer_state self.new).dials ≡ (outer_state self.old).dials ++ dialed host.now port (linked outer_source outer_sink result) }
-        ensures told { IsTrue (outer_state self.old).tells → IfOk (linked outer_source outer_sink result) (IsTold (outer_state self.old)) }
-        ensures fresh { IfOk (linked outer_source outer_sink result) IsFresh }
-        ensures coming { IsTrue (outer_state self.old).tells_coming → agrees (met (outer_state self.old) host.now) (linked outer_source outer_sink result) }
-        ensures coming_left { IsTrue (outer_state self.old).tells_coming → LeavesComing (outer_state self.old) (outer_state self.new) host.now (linked outer_source outer_sink result) }
+        ensures dials { IsTrue (outer_state self.old).tells → (outer_state self.new).dials ≡ (outer_state self.old).dials ++ dialed host.now port (linked socks_source socks_sink result) }
+        ensures told { IsTrue (outer_state self.old).tells → IfOk (linked socks_source socks_sink result) (IsTold (outer_state self.old)) }
+        ensures fresh { IfOk (linked socks_source socks_sink result) IsFresh }
+        ensures coming { IsTrue (outer_state self.old).tells_coming → agrees (met (outer_state self.old) host.now) (linked socks_source socks_sink result) }
+        ensures coming_left { IsTrue (outer_state self.old).tells_coming → LeavesComing (outer_state self.old) (outer_state self.new) host.now (linked socks_source socks_sink result) }
         ensures cause { DialCause (outer_state self.old) (outer_state self.new) result }
         ensures goes_on { DialerGoesOn (outer_state self.old) (outer_state self.new) }
     {
@@ -202,19 +202,19 @@ impl<D: LocalDialer> SocksDialer<D> {
         match dial_server(&mut self.inner, parts.server, parts.port, messages, again) {
             Ok((link_in, link_out)) => {
                 let heard = link_in.heard();
-                note_down(&mut self.notes, Note::Accepted { name, port, heard });
+                note_down(&mut self.notes, DialNote::Accepted { name, port, heard });
                 Ok((link_in, link_out))
             }
-            Err(Stop::Refused) => {
-                note_down(&mut self.notes, Note::Refused { name, port });
+            Err(ServerStop::Refused) => {
+                note_down(&mut self.notes, DialNote::Refused { name, port });
                 self.reach = raised(self.reach, true);
                 Err(DialFault::NotReached)
             }
-            Err(Stop::Lost) => {
-                note_down(&mut self.notes, Note::Lost { name, port });
+            Err(ServerStop::Lost) => {
+                note_down(&mut self.notes, DialNote::Lost { name, port });
                 Err(DialFault::Mem)
             }
-            Err(Stop::Mem) => Err(DialFault::Mem),
+            Err(ServerStop::Mem) => Err(DialFault::Mem),
         }
     }
 }

@@ -1,14 +1,14 @@
 // Both ends of a link behind a handshake. What went over the link in the handshake isn't among the bytes that they tell.
 ghost use Rattle.std.specs.Prelude.{◌≡◌, IsTrue};
 ghost use Rattle.px_base.specs.Sources.{SourceState};
-ghost use Rattle.px_socks.specs.Ends.{outer_source, outer_sink, has_failed, BeginsWith};
+ghost use Rattle.px_socks.specs.Ends.{socks_source, socks_sink, has_failed, BeginsWithMessages};
 
 use px_base::{Failed, LocalSink, LocalSource, Sink, SinkFault, Source, Text};
 use std::marker::Model;
 
 /// What a handshake took of a link. That of a plain host, with which there is none, has 0 and no message.
 #[derive(Drop)]
-pub struct Passage {
+pub struct HandshakePassage {
     /// How many bytes of the server's were heard: the method that it selected, and its reply.
     pub heard: usize,
     /// The greeting and the request, as they were sent.
@@ -19,7 +19,7 @@ pub struct Passage {
 #[derive(Drop)]
 pub struct SocksSource<S: LocalSource> {
     inner: S,
-    passage: Passage,
+    passage: HandshakePassage,
     failed: bool,
 }
 
@@ -38,24 +38,24 @@ impl<S: LocalSource> Model for SocksSource<S> {
 #[derive(Drop)]
 pub struct SocksSink<O: LocalSink> {
     inner: O,
-    passage: Passage,
+    passage: HandshakePassage,
     failed: bool,
 }
 
 impl<O: LocalSink> Model for SocksSink<O> {
     ghost use Rattle.std.specs.Prelude.{◌≡◌};
-    ghost use Rattle.px_socks.specs.Ends.{InnerSink, BeginsWith, has_failed};
+    ghost use Rattle.px_socks.specs.Ends.{InnerSink, BeginsWithMessages, has_failed};
 
     ghost Value = { InnerSink };
 
     ghost view = { λ s. record { sink = O.state s.inner; passage = s.passage } };
 
-    ghost invariant = { λ s. (s.failed ≡ has_failed (O.state s.inner).faults) × BeginsWith s.passage.messages (O.state s.inner) };
+    ghost invariant = { λ s. (s.failed ≡ has_failed (O.state s.inner).faults) × BeginsWithMessages s.passage.messages (O.state s.inner) };
 }
 
 impl<S: LocalSource> SocksSource<S> {
     /// A source behind a handshake, none of whose reads has failed.
-    pub(crate) fn new(inner: S, passage: Passage) -> SocksSource<S>
+    pub(crate) fn new(inner: S, passage: HandshakePassage) -> SocksSource<S>
         requires calm { (S.state inner).faults ≡ 0 }
         ensures made { result ≡ record { source = S.state inner; passage = passage } }
     {
@@ -95,9 +95,9 @@ impl<S: LocalSource> SocksSource<S> {
 
 impl<O: LocalSink> SocksSink<O> {
     /// A sink behind a handshake, none of whose writes has failed.
-    pub(crate) fn new(inner: O, passage: Passage) -> SocksSink<O>
+    pub(crate) fn new(inner: O, passage: HandshakePassage) -> SocksSink<O>
         requires calm { (O.state inner).faults ≡ 0 }
-        requires begins { BeginsWith passage.messages (O.state inner) }
+        requires begins { BeginsWithMessages passage.messages (O.state inner) }
         ensures made { result ≡ record { sink = O.state inner; passage = passage } }
     {
         SocksSink {
@@ -117,7 +117,7 @@ impl<O: LocalSink> SocksSink<O> {
     /// The sink below, and that the messages are the first bytes that it took.
     pub(crate) fn into_inner(self) -> O
         ensures inner { O.state result ≡ self.sink }
-        ensures begins { BeginsWith self.passage.messages self.sink }
+        ensures begins { BeginsWithMessages self.passage.messages self.sink }
     {
         let SocksSink {
             inner,
@@ -129,7 +129,7 @@ impl<O: LocalSink> SocksSink<O> {
 }
 
 impl<S: Source> Source for SocksSource<S> {
-    ghost state = { outer_source };
+    ghost state = { socks_source };
 
     fn read(&mut self, buf: &mut [u8]) -> Result<usize, Failed> {
         match self.inner.read(buf) {
@@ -143,7 +143,7 @@ impl<S: Source> Source for SocksSource<S> {
 }
 
 impl<O: Sink> Sink for SocksSink<O> {
-    ghost state = { outer_sink };
+    ghost state = { socks_sink };
 
     fn write(&mut self, bytes: &[u8]) -> Result<usize, SinkFault> {
         match self.inner.write(bytes) {

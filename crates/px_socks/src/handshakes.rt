@@ -4,7 +4,7 @@ ghost use Rattle.px_base.specs.Causes.{Rose};
 ghost use Rattle.px_base.specs.Sources.{SourceGoesOn};
 ghost use Rattle.px_base.specs.Sinks.{SinkGoesOn};
 ghost use Rattle.px_socks.specs.Messages.{messages, IsAccepted, Took};
-ghost use Rattle.px_socks.specs.Shaking.{Sends, SendsDue, IsRefused};
+ghost use Rattle.px_socks.specs.Shaking.{SendsToServer, SendsDue, IsHandshakeRefused};
 
 use crate::replies::{read_method, read_reply};
 use px_base::{Failed, LocalSink, LocalSource, Mem, SinkFault, Text, write_all};
@@ -39,7 +39,7 @@ pub fn greeting_and_request(alloc: Global, target: &[u8], port: u16) -> Result<T
 
 /// Sends one of the messages. After a refusal a front of it was sent.
 fn send<O: LocalSink>(link_out: &mut O, message: &[u8]) -> Result<(), Refusal>
-    ensures sent { Sends (O.state link_out.old) (O.state link_out.new) result message.now }
+    ensures sent { SendsToServer (O.state link_out.old) (O.state link_out.new) result message.now }
     ensures ok { OnOk result ((O.state link_out.new).faults ≡ (O.state link_out.old).faults) }
     ensures refused { result ≡ Err Refusal.NotReached → Rose (O.state link_out.old).faults (O.state link_out.new).faults }
     ensures open { (O.state link_out.new).finished ≡ (O.state link_out.old).finished }
@@ -66,7 +66,7 @@ pub fn handshake<S: LocalSource, O: LocalSink>(
     ensures accepted { IsTrue (S.state link_in.old).tells → IfOk result (λ count. Took IsAccepted count (S.state link_in.old).left (S.state link_in.new).left) }
     ensures ok_in { OnOk result ((S.state link_in.new).faults ≡ (S.state link_in.old).faults) }
     ensures ok_out { OnOk result ((O.state link_out.new).faults ≡ (O.state link_out.old).faults) }
-    ensures refused { result ≡ Err Refusal.NotReached → IsRefused (S.state link_in.old) (S.state link_in.new) (O.state link_out.old) (O.state link_out.new) }
+    ensures refused { result ≡ Err Refusal.NotReached → IsHandshakeRefused (S.state link_in.old) (S.state link_in.new) (O.state link_out.old) (O.state link_out.new) }
     ensures open { (O.state link_out.new).finished ≡ (O.state link_out.old).finished }
     ensures in_goes_on { SourceGoesOn (S.state link_in.old) (S.state link_in.new) }
     ensures out_goes_on { SinkGoesOn (O.state link_out.old) (O.state link_out.new) }

@@ -12,8 +12,8 @@ mod replies;
 mod servers;
 
 pub use dialers::SocksDialer;
-pub use ends::{Passage, SocksSink, SocksSource};
+pub use ends::{HandshakePassage, SocksSink, SocksSource};
 pub use laws::{
     accepted_bytes_are_counted, accepted_bytes_are_prefix_free, printed_names_are_read,
 };
-pub use notes::Note;
+pub use notes::DialNote;

@@ -2,7 +2,7 @@
 ghost use Rattle.std.specs.Prelude.{◌≡◌, ◌==◌, false, IsTrue, IfSome, IsSome, IsNone, Some, None};
 ghost use Rattle.std.specs.Str.{byte};
 ghost use Rattle.std.specs.List.{position};
-ghost use Rattle.px_base.specs.DialNames.{target_of, server_of, server_in, bracketed, unbracketed, is_dial_name};
+ghost use Rattle.px_base.specs.DialNames.{target_of, server_of, server_in, bracketed_server, unbracketed, is_dial_name};
 
 use px_base::{place, read_port};
 
@@ -46,8 +46,8 @@ fn read_unbracketed(bytes: &[u8]) -> Option<(&[u8], u16)>
 
 /// Behind an opening bracket: a host before the first closing one, and behind that a colon and the port.
 fn read_bracketed(bytes: &[u8]) -> Option<(&[u8], u16)>
-    ensures some { IfSome result (λ s. bracketed bytes.now (position (λ b. b == byte "]") bytes.now) ≡ Some (record { host = s.0.now; port = s.1 })) }
-    ensures none { IsNone result → bracketed bytes.now (position (λ b. b == byte "]") bytes.now) ≡ None }
+    ensures some { IfSome result (λ s. bracketed_server bytes.now (position (λ b. b == byte "]") bytes.now) ≡ Some (record { host = s.0.now; port = s.1 })) }
+    ensures none { IsNone result → bracketed_server bytes.now (position (λ b. b == byte "]") bytes.now) ≡ None }
 {
     let Some(end) = place(bytes, b']') else {
         return None;

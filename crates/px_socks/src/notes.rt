@@ -4,7 +4,7 @@ use px_base::Text;
 /// What came of a dial, beside what the dialer below keeps of it. A name is a dial name as it was dialled, and a port is the
 /// target's.
 #[derive(Drop)]
-pub enum Note {
+pub enum DialNote {
     /// Of a host that isn't a dial name: what the dialer below made of it.
     Plain,
     /// The server accepted the request; so many bytes of its own were heard in the handshake.

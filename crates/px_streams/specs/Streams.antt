@@ -6,8 +6,8 @@ use Rattle.px_head.specs.Blocks.{head_end}
 use Rattle.px_head.specs.declared.blocks.HeadEnd.TheVariants as end
 use Rattle.px_streams.specs.declared.ahead.ReadFault.{ReadFault}
 use Rattle.px_streams.specs.declared.ahead.ReadFault.TheVariants as fault
-use Rattle.px_streams.specs.declared.fronts.Front.{Front}
-use Rattle.px_streams.specs.declared.fronts.Front.TheVariants as front
+use Rattle.px_streams.specs.declared.fronts.StreamFront.{StreamFront}
+use Rattle.px_streams.specs.declared.fronts.StreamFront.TheVariants as front
 
 -- no byte was lost between what was read ahead and what is left
 abbrev pub KeepsBytes : SourceState → SourceState → List ℕ → List ℕ → Type 0
@@ -28,13 +28,13 @@ IsStream true bytes left left' = left ≡ bytes ++ left'
 IsStream false bytes left left' = bytes ≡ left
 
 -- what stands at the front of a stream, and what is left behind it
-abbrev pub Stands : ℕ → List ℕ → Front → List ℕ → Type 0
-Stands limit stream (front.Block block) rest = (head_end limit stream ≡ end.At (length block)) × (stream ≡ block ++ rest)
-Stands limit stream front.Over rest = (head_end limit stream ≡ end.Over) × (rest ≡ stream)
-Stands limit stream front.End rest = (head_end limit stream ≡ end.NotYet) × (rest ≡ stream)
+abbrev pub StandsAtFront : ℕ → List ℕ → StreamFront → List ℕ → Type 0
+StandsAtFront limit stream (front.Block block) rest = (head_end limit stream ≡ end.At (length block)) × (stream ≡ block ++ rest)
+StandsAtFront limit stream front.Over rest = (head_end limit stream ≡ end.Over) × (rest ≡ stream)
+StandsAtFront limit stream front.End rest = (head_end limit stream ≡ end.NotYet) × (rest ≡ stream)
 
 -- what a loop of reads keeps: no byte was lost, and nothing failed
-pub record Kept (old new : SourceState) (ahead ahead' : List ℕ) : Type 0 where
+pub record KeptStream (old new : SourceState) (ahead ahead' : List ℕ) : Type 0 where
   pub bytes : KeepsBytes old new ahead ahead'
   pub faults_same : new.faults ≡ old.faults
   pub goes_on : SourceGoesOn old new

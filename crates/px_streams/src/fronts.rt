@@ -2,7 +2,7 @@
 ghost use Rattle.std.specs.Prelude.{◌≡◌, ◌<◌, ◌≤◌, ◌++◌, [], length, IsTrue, IfOk, IfErr, Err};
 ghost use Rattle.px_base.specs.Sources.{SourceGoesOn};
 ghost use Rattle.px_head.specs.Blocks.{head_end};
-ghost use Rattle.px_streams.specs.Streams.{KeepsBytes, ReadCause, Stands};
+ghost use Rattle.px_streams.specs.Streams.{KeepsBytes, ReadCause, StandsAtFront};
 
 use crate::ahead::{Ahead, ReadFault, fill};
 use px_base::{Source, Text};
@@ -11,7 +11,7 @@ use std::alloc::Global;
 
 /// What stands at the front of a stream.
 #[derive(Drop)]
-pub enum Front {
+pub enum StreamFront {
     /// A head block.
     Block(Text),
     /// No block within the limit.
@@ -29,9 +29,9 @@ pub fn read_front<S: Source>(
     source: &mut S,
     ahead: &mut Ahead,
     limit: usize,
-) -> Result<Front, ReadFault>
-    ensures stands { IsTrue (S.state source.old).tells → IfOk result (λ front. Stands limit (ahead.old ++ (S.state source.old).left) front (ahead.new ++ (S.state source.new).left)) }
-    ensures end { IsTrue (S.state source.old).tells → IfOk result (λ front. front ≡ Front.End → (S.state source.new).left ≡ []) }
+) -> Result<StreamFront, ReadFault>
+    ensures stands { IsTrue (S.state source.old).tells → IfOk result (λ front. StandsAtFront limit (ahead.old ++ (S.state source.old).left) front (ahead.new ++ (S.state source.new).left)) }
+    ensures end { IsTrue (S.state source.old).tells → IfOk result (λ front. front ≡ StreamFront.End → (S.state source.new).left ≡ []) }
     ensures failed { result ≡ Err ReadFault.Failed → head_end limit ahead.new ≡ HeadEnd.NotYet }
     ensures bytes { IfErr result (λ _. KeepsBytes (S.state source.old) (S.state source.new) ahead.old ahead.new) }
     ensures cause { ReadCause (S.state source.old) (S.state source.new) result }
@@ -43,12 +43,12 @@ pub fn read_front<S: Source>(
             HeadEnd::At(count) => {
                 let block = Text::from_bytes(alloc, &ahead.as_bytes()[..count])?;
                 ahead.skip(count);
-                return Ok(Front::Block(block));
+                return Ok(StreamFront::Block(block));
             }
-            HeadEnd::Over => return Ok(Front::Over),
+            HeadEnd::Over => return Ok(StreamFront::Over),
             HeadEnd::NotYet => {
                 if !fill(source, ahead)? {
-                    return Ok(Front::End);
+                    return Ok(StreamFront::End);
                 }
             }
         }

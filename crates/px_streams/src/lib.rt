@@ -9,7 +9,7 @@ mod fronts;
 
 pub use ahead::{Ahead, PIECE, ReadFault, fill};
 pub use feeds::Feed;
-pub use fronts::{Front, read_front};
+pub use fronts::{StreamFront, read_front};
 
 /// What the constant of this crate is.
 pub fn constants()

@@ -17,8 +17,8 @@ use Rattle.regex_syntax.specs.declared.Config.{Config}
 use Rattle.regex.specs.Views.{builder_flags, with_flags}
 use Rattle.regex.specs.declared.builder.RegexBuilder.{RegexBuilder}
 use Rattle.px_subst.specs.declared.flags.Flags.{Flags}
-use Rattle.px_subst.specs.JobFlags.{options}
-use Rattle.px_subst.specs.Expressions.{deepest, expression, IsBuiltFrom}
+use Rattle.px_subst.specs.JobFlags.{job_options}
+use Rattle.px_subst.specs.Expressions.{deepest, job_expression, IsJobBuiltFrom}
 
 -- what the grammar reads, where it nests no deeper than the library takes
 abbrev taken : Option (Nested Re × Names) → Option Re
@@ -30,15 +30,15 @@ taken_is : (o : Option (Nested Re × Names)) (hir : Hir) (names : Names) →
 taken_is None hir names x = absurd x
 taken_is (Some re) hir names x = (re.0.value, cond-true _ _ _ (le-leb _ _ x.0), x.1)
 
-in_text : (flags : Flags) (source : List ℕ) → IsUtf8 source → expression flags source ≡ taken (read (options flags) (chars source))
-unfolding expression
+in_text : (flags : Flags) (source : List ℕ) → IsUtf8 source → job_expression flags source ≡ taken (read (job_options flags) (chars source))
+unfolding job_expression
 in_text flags source utf8 = cond-true _ _ _ (is_utf8-from_IsUtf8 source utf8)
 
 pub built_expression : (flags : Flags) (text : List ℕ) → IsUtf8 text → (config : Config) (source : List ℕ) (hir : Hir) (names : Names) →
-    config ≡ options flags → source ≡ text → Reads config source hir names → IsBuiltFrom flags text (meaning hir)
+    config ≡ job_options flags → source ≡ text → Reads config source hir names → IsJobBuiltFrom flags text (meaning hir)
 unfolding Reads
 built_expression flags text utf8 config source hir names is_config is_source reads =
-    let is = taken_is (read (options flags) (chars text)) hir names (rw (is_config, is_source) at reads) in
+    let is = taken_is (read (job_options flags) (chars text)) hir names (rw (is_config, is_source) at reads) in
     (is.0, in_text flags text utf8 ∙ is.1, is.2)
 
 not_taken : (o : Option (Nested Re × Names)) → IfSome o (λ (re, found). 250 < re.depth) → taken o ≡ None
@@ -46,18 +46,18 @@ not_taken None x = refl
 not_taken (Some re) x = cond-false _ _ _ (lt-leb re.0.depth 250 x)
 
 pub refused_expression : (flags : Flags) (text : List ℕ) → IsUtf8 text → (config : Config) (source : List ℕ) (kind : ErrorKind) →
-    config ≡ options flags → source ≡ text → kind ≢ OutOfMemory → Refuses config source kind → expression flags text ≡ None
+    config ≡ job_options flags → source ≡ text → kind ≢ OutOfMemory → Refuses config source kind → job_expression flags text ≡ None
 unfolding Refuses
 refused_expression flags text utf8 config source kind is_config is_source memory refuses =
     in_text flags text utf8
     ∙ (elim (rw (is_config, is_source) at refuses) [
       | inl is ↦ absurd (memory is)
-      | inr other ↦ elim other [ inl none ↦ ap taken none | inr deep ↦ not_taken (read (options flags) (chars text)) deep.1 ]
+      | inr other ↦ elim other [ inl none ↦ ap taken none | inr deep ↦ not_taken (read (job_options flags) (chars text)) deep.1 ]
     ])
 
 -- bytes that aren't UTF-8 are no expression
-pub no_expression : (flags : Flags) (pattern : List ℕ) → is_utf8 pattern ≡ false → expression flags pattern ≡ None
-unfolding expression
+pub no_expression : (flags : Flags) (pattern : List ℕ) → is_utf8 pattern ≡ false → job_expression flags pattern ≡ None
+unfolding job_expression
 no_expression flags pattern not_text = cond-false _ _ _ not_text
 
 -- what the builder's six steps make of the options and the text
@@ -67,7 +67,7 @@ module _ (flags : Flags) (a b c d e f : RegexBuilder) (first : a.config ≡ defa
     (fourth : d ≡ with_flags c (record (builder_flags c) { dot_matches_new_line = flags.dot_all }))
     (fifth : e ≡ with_flags d (record (builder_flags d) { swap_greed = flags.ungreedy }))
     (sixth : f ≡ with_flags e (record (builder_flags e) { ignore_whitespace = flags.spaced })) where
-  pub options_of : record f.config { utf8 = false } ≡ options flags
+  pub options_of : record f.config { utf8 = false } ≡ job_options flags
   options_of =
       ap (λ (x : RegexBuilder). record x.config { utf8 = false }) sixth
       ∙ ap (λ (x : RegexBuilder). record x.config { flags = record x.config.flags { ignore_whitespace = flags.spaced }; utf8 = false }) fifth

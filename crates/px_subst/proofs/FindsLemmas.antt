@@ -6,11 +6,11 @@ use Rattle.regex_hir.specs.Re.{Re}
 use Rattle.regex_hir.specs.Find.{Match, find, find_all}
 use Rattle.regex.specs.Replace.{replaced_by}
 use Rattle.regex.proofs.SearchLemmas.{matches_after_bytes}
-use Rattle.px_subst.specs.declared.items.Item.{Item}
-use Rattle.px_subst.specs.declared.outcomes.Outcome.{Outcome}
+use Rattle.px_subst.specs.declared.items.SubstituteItem.{SubstituteItem}
+use Rattle.px_subst.specs.declared.outcomes.JobOutcome.{JobOutcome}
 use Rattle.px_subst.specs.declared.words.Vars.{Vars}
-use Rattle.px_subst.specs.Substitutes.{written}
-use Rattle.px_subst.specs.Expressions.{IsBuiltFrom}
+use Rattle.px_subst.specs.Substitutes.{written_items}
+use Rattle.px_subst.specs.Expressions.{IsJobBuiltFrom}
 use Rattle.px_subst.specs.Jobs.{JobParts, replaced, run_filter, run_job, run_next, unchanged}
 use Rattle.px_subst.specs.Replacers.{Built, replaces}
 use Rattle.px_subst.proofs.MatchLemmas.{none_left, first_left}
@@ -18,9 +18,9 @@ use Rattle.px_subst.proofs.Alike.{built_replaces}
 
 -- ---- an expression in a text
 
-module _ (every : Bool) (items : List Item) (re : Re) (text : List ℕ) where
-  abbrev outcome_by : List Match → Outcome
-  outcome_by taken = record { text = replaced_by (written text items) text 0 taken; hits = length taken }
+module _ (every : Bool) (items : List SubstituteItem) (re : Re) (text : List ℕ) where
+  abbrev outcome_by : List Match → JobOutcome
+  outcome_by taken = record { text = replaced_by (written_items text items) text 0 taken; hits = length taken }
 
   without_match : (b : Bool) → find_all re text ≡ [] → replaced b items re text ≡ unchanged text
   unfolding replaced_by
@@ -39,18 +39,18 @@ module _ (every : Bool) (items : List Item) (re : Re) (text : List ℕ) where
   is_found None is there = absurd (true≢false (sym there))
   is_found (Some m) is there = with_match every m _ (sym (matches_after_bytes re text) ∙ first_left re text 0 m is (omega arith))
 
-module _ (b : Built) (re : Re) (text : List ℕ) (from : IsBuiltFrom b.flags b.pattern re) (bytes : (k : ℕ) → slice_index text k < 256) where
+module _ (b : Built) (re : Re) (text : List ℕ) (from : IsJobBuiltFrom b.flags b.pattern re) (bytes : (k : ℕ) → slice_index text k < 256) where
   pub replaces_nothing : is_some (find re text 0) ≡ false → replaces b text ≡ unchanged text
   replaces_nothing missing = sym (built_replaces b re text from bytes) ∙ not_found b.flags.every b.items re text _ refl missing
 
   pub replaces_some : is_some (find re text 0) ≡ true → 0 < (replaces b text).hits
-  replaces_some there = subst (λ (o : Outcome). 0 < o.hits) (built_replaces b re text from bytes) (is_found b.flags.every b.items re text _ refl there)
+  replaces_some there = subst (λ (o : JobOutcome). 0 < o.hits) (built_replaces b re text from bytes) (is_found b.flags.every b.items re text _ refl there)
 
 -- ---- a filter's jobs
 
 module _ (vars : Vars) where
   -- hits stay
-  more_hits : (jobs : List JobParts) (done : Outcome) → 0 < done.hits → 0 < (fold (run_next vars) done jobs).hits
+  more_hits : (jobs : List JobParts) (done : JobOutcome) → 0 < done.hits → 0 < (fold (run_next vars) done jobs).hits
   more_hits [] done some = some
   more_hits (job ∷ jobs) done some = more_hits jobs (run_next vars done job) (omega arith)
 
@@ -66,5 +66,5 @@ module _ (vars : Vars) where
       ∙ ap (run_next vars (unchanged text)) (sym here) in
       let some : 0 < (run_next vars (unchanged text) job).hits = omega (arith, hit) in
       subst (λ js. 0 < (fold (run_next vars) (unchanged text) js).hits) (take-append-drop (n + 1) jobs)
-      (subst (λ (o : Outcome). 0 < o.hits) (sym (fold-append (run_next vars) (unchanged text) (take (n + 1) jobs) (drop (n + 1) jobs)))
-      (more_hits (drop (n + 1) jobs) _ (subst (λ (o : Outcome). 0 < o.hits) (sym one) some)))
+      (subst (λ (o : JobOutcome). 0 < o.hits) (sym (fold-append (run_next vars) (unchanged text) (take (n + 1) jobs) (drop (n + 1) jobs)))
+      (more_hits (drop (n + 1) jobs) _ (subst (λ (o : JobOutcome). 0 < o.hits) (sym one) some)))

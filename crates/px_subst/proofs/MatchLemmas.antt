@@ -19,13 +19,13 @@ use Rattle.regex.specs.declared.bytes.matcher.Matcher.{Matcher}
 use Rattle.regex.proofs.SearchLemmas.{leftmost_within, matches_after_none, matches_after_some, next_later, next_same}
 use Rattle.regex.proofs.GroupLemmas.{group_span_of_match, no_span_past_cells}
 use Rattle.regex.proofs.RoomLemmas.{engine_has_room}
-use Rattle.px_subst.specs.declared.items.Item.{Item}
-use Rattle.px_subst.specs.declared.items.Item.TheVariants as item
+use Rattle.px_subst.specs.declared.items.SubstituteItem.{SubstituteItem}
+use Rattle.px_subst.specs.declared.items.SubstituteItem.TheVariants as item
 use Rattle.px_subst.specs.declared.items.Part.{Part}
 use Rattle.px_subst.specs.declared.items.Part.TheVariants as part
-use Rattle.px_subst.specs.declared.outcomes.Outcome.{Outcome}
-use Rattle.px_subst.specs.Substitutes.{item_bytes, written}
-use Rattle.px_subst.specs.Replacers.{AreWithin, items_in, items_in_all, part_bytes}
+use Rattle.px_subst.specs.declared.outcomes.JobOutcome.{JobOutcome}
+use Rattle.px_subst.specs.Substitutes.{item_bytes, written_items}
+use Rattle.px_subst.specs.Replacers.{AreWithin, part_items, items_in_all, part_bytes}
 
 -- ---- where the groups of a match lie
 
@@ -151,21 +151,21 @@ bytes_write : (text : List ℕ) (m : Match) (bytes : List ℕ) → flat_map (ite
 bytes_write text m [] = refl
 bytes_write text m (b ∷ bytes) = ap (λ s. b ∷ s) (bytes_write text m bytes)
 
-written-append : (text : List ℕ) (m : Match) (xs ys : List Item) → written text (xs ++ ys) m ≡ written text xs m ++ written text ys m
+written-append : (text : List ℕ) (m : Match) (xs ys : List SubstituteItem) → written_items text (xs ++ ys) m ≡ written_items text xs m ++ written_items text ys m
 written-append text m [] ys = refl
 written-append text m (x ∷ xs) ys =
-    ap (λ s. item_bytes text m x ++ s) (written-append text m xs ys) ∙ sym (append_assoc (item_bytes text m x) (written text xs m) (written text ys m))
+    ap (λ s. item_bytes text m x ++ s) (written-append text m xs ys) ∙ sym (append_assoc (item_bytes text m x) (written_items text xs m) (written_items text ys m))
 
 module _ (text : List ℕ) (m : Match) (places : CaptureLocations)
     (groups : (n : ℕ) → location places n ≡ cond (n == 0) (Some (span m)) (group_of m n)) where
-  part_writes : (p : Part) → part_bytes text places p ≡ written text (items_in p) m
+  part_writes : (p : Part) → part_bytes text places p ≡ written_items text (part_items p) m
   part_writes (part.Text bytes) = sym (bytes_write text m bytes.items)
   part_writes (part.Group n) = ap (bytes_of text) (groups n) ∙ sym (append-nil _)
 
-  pub parts_write : (parts : List Part) → flat_map (part_bytes text places) parts ≡ written text (items_in_all parts) m
+  pub parts_write : (parts : List Part) → flat_map (part_bytes text places) parts ≡ written_items text (items_in_all parts) m
   parts_write [] = refl
   parts_write (p ∷ parts) =
-      ap₂ ◌++◌ (part_writes p) (parts_write parts) ∙ sym (written-append text m (items_in p) (items_in_all parts))
+      ap₂ ◌++◌ (part_writes p) (parts_write parts) ∙ sym (written-append text m (part_items p) (items_in_all parts))
 
 -- ---- matches come in order
 
@@ -258,9 +258,9 @@ module _ (W : Match → List ℕ) (text : List ℕ) (limit : ℕ) (all : List Ma
 
   -- what the code gives, as an outcome
   pub as_outcome : (out : List ℕ) (hits : ℕ) → (out ≡ replaced_by W text 0 (take limit all)) × (hits ≡ length (take limit all)) →
-      let given : Outcome = record { text = out; hits = hits } in
+      let given : JobOutcome = record { text = out; hits = hits } in
       given ≡ record { text = replaced_by W text 0 (take limit all); hits = length (take limit all) }
-  as_outcome out hits is = ap₂ (λ (t : List ℕ) (n : ℕ). let o : Outcome = record { text = t; hits = n } in o) is.0 is.1
+  as_outcome out hits is = ap₂ (λ (t : List ℕ) (n : ℕ). let o : JobOutcome = record { text = t; hits = n } in o) is.0 is.1
 
   pub nothing_hit : 0 ≡ length (take limit all) → text ≡ replaced_by W text 0 (take limit all)
   unfolding replaced_by

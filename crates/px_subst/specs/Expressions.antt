@@ -8,23 +8,23 @@ use Rattle.regex_syntax.specs.Captures.{SameCaptures}
 use Rattle.regex.specs.Bytes.{regex_pattern, regex_source}
 use Rattle.regex.specs.declared.bytes.regex.Regex.{Regex}
 use Rattle.px_subst.specs.declared.flags.Flags.{Flags}
-use Rattle.px_subst.specs.JobFlags.{options}
+use Rattle.px_subst.specs.JobFlags.{job_options}
 
 -- how deep an expression may nest
 abbrev pub deepest : ℕ
 deepest = 250
 
 -- the expression that the library's grammar reads in UTF-8, where it nests no deeper than the library takes
-unfoldable pub expression : Flags → List ℕ → Option Re
-expression flags pattern =
+unfoldable pub job_expression : Flags → List ℕ → Option Re
+job_expression flags pattern =
     if is_utf8 pattern then option_and_then (λ (written, names). if nat_le written.depth deepest then Some written.value else None)
-    (read (options flags) (chars pattern))
+    (read (job_options flags) (chars pattern))
     else None
 
 -- re is what the pattern stands for, as far as a search can tell
-abbrev pub IsBuiltFrom : Flags → List ℕ → Re → Type 0
-IsBuiltFrom flags pattern re = (written : Re) × (expression flags pattern ≡ Some written) × SameCaptures re written
+abbrev pub IsJobBuiltFrom : Flags → List ℕ → Re → Type 0
+IsJobBuiltFrom flags pattern re = (written : Re) × (job_expression flags pattern ≡ Some written) × SameCaptures re written
 
 -- the library's expression was built from the pattern
-abbrev pub IsBuilt : Flags → List ℕ → Regex → Type 0
-IsBuilt flags pattern regex = (regex_source regex ≡ pattern) × IsBuiltFrom flags (regex_source regex) (regex_pattern regex)
+abbrev pub IsJobBuilt : Flags → List ℕ → Regex → Type 0
+IsJobBuilt flags pattern regex = (regex_source regex ≡ pattern) × IsJobBuiltFrom flags (regex_source regex) (regex_pattern regex)

@@ -17,8 +17,8 @@ field_end d taken (b ∷ bs) =
     if not taken && b == d then Some 0 else option_map (λ n. n + 1) (field_end d (not taken && b == backslash) bs)
 
 -- What a field stands for: the backslash before a delimiter is dropped, one before another byte stays with it.
-abbrev pub unescaped : ℕ → Bool → List ℕ → List ℕ
-unescaped d taken [] = []
-unescaped d taken (b ∷ bs) =
-    if not taken && b == backslash then unescaped d true bs
-    else (if taken && not (b == d) then backslash ∷ b ∷ [] else b ∷ []) ++ unescaped d false bs
+abbrev pub unescaped_field : ℕ → Bool → List ℕ → List ℕ
+unescaped_field d taken [] = []
+unescaped_field d taken (b ∷ bs) =
+    if not taken && b == backslash then unescaped_field d true bs
+    else (if taken && not (b == d) then backslash ∷ b ∷ [] else b ∷ []) ++ unescaped_field d false bs

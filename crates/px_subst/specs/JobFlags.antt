@@ -10,8 +10,8 @@ use Rattle.px_subst.specs.declared.flags.Flags.{Flags}
 abbrev pub has : List ℕ → ℕ → Bool
 has letters letter = list_any (λ b. b == letter) letters
 
-abbrev pub is_flag : ℕ → Bool
-is_flag letter = has (codes "gimsxUTDo") letter
+abbrev pub is_flag_letter : ℕ → Bool
+is_flag_letter letter = has (codes "gimsxUTDo") letter
 
 -- a flag is set where its letter stands, once or more often
 abbrev pub flags_in : List ℕ → Flags
@@ -28,11 +28,11 @@ flags_in letters = record {
 
 -- the flags, or None where another letter stands
 abbrev pub flags_of : List ℕ → Option Flags
-flags_of letters = if list_all is_flag letters then Some (flags_in letters) else None
+flags_of letters = if list_all is_flag_letter letters then Some (flags_in letters) else None
 
 -- the library's options for bytes with the job's flags
-abbrev pub options : Flags → Config
-options flags = record default_config {
+abbrev pub job_options : Flags → Config
+job_options flags = record default_config {
   flags = record default_flags {
     case_insensitive = flags.any_case;
     multi_line = flags.multi_line;

@@ -2,10 +2,10 @@
 use Rattle.std.specs.Prelude.{◌≡◌, Option, None, MatchOption}
 use Rattle.px_subst.specs.declared.worded.WordedJob.{WordedJob}
 use Rattle.px_subst.specs.declared.words.Vars.{Vars}
-use Rattle.px_subst.specs.Expressions.{expression}
+use Rattle.px_subst.specs.Expressions.{job_expression}
 use Rattle.px_subst.specs.Jobs.{JobParts, Fixed, Worded}
-use Rattle.px_subst.specs.Replacers.{Built, Spells}
-use Rattle.px_subst.specs.Substitutes.{items_by}
+use Rattle.px_subst.specs.Replacers.{Built, SpellsJob}
+use Rattle.px_subst.specs.Substitutes.{items_by_flag}
 use Rattle.px_subst.specs.Words.{filled}
 
 abbrev pub fixed_job : Built → JobParts
@@ -17,5 +17,5 @@ worded_job w = Worded w.pattern w.substitute w.flags
 -- what was built of a job for these values, or that its expression isn't read
 abbrev pub IsMadeOf : WordedJob → Vars → Option Built → Type 0
 IsMadeOf w vars made =
-    MatchOption made (expression w.flags (filled vars w.pattern) ≡ None)
-    (Spells (filled vars w.pattern) (items_by w.flags.plain (filled vars w.substitute)) w.flags)
+    MatchOption made (job_expression w.flags (filled vars w.pattern) ≡ None)
+    (SpellsJob (filled vars w.pattern) (items_by_flag w.flags.plain (filled vars w.substitute)) w.flags)

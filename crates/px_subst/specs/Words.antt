@@ -12,11 +12,11 @@ text_of Origin = codes "$origin"
 text_of Path = codes "$path"
 text_of Url = codes "$url"
 
-abbrev pub value_of : Vars → Word → List ℕ
-value_of vars Host = vars.host
-value_of vars Origin = vars.origin
-value_of vars Path = vars.path
-value_of vars Url = vars.url
+abbrev pub word_value : Vars → Word → List ℕ
+word_value vars Host = vars.host
+word_value vars Origin = vars.origin
+word_value vars Path = vars.path
+word_value vars Url = vars.url
 
 -- the word with which the text begins
 abbrev pub word_at : List ℕ → Option Word
@@ -27,7 +27,7 @@ abbrev pub filled_behind : Vars → ℕ → List ℕ → List ℕ
 filled_behind vars n [] = []
 filled_behind vars (suc n) (b ∷ bs) = filled_behind vars n bs
 filled_behind vars zero (b ∷ bs) =
-    option_map_or (λ word. value_of vars word ++ filled_behind vars (length (text_of word) - 1) bs) (word_at (b ∷ bs))
+    option_map_or (λ word. word_value vars word ++ filled_behind vars (length (text_of word) - 1) bs) (word_at (b ∷ bs))
     (b ∷ filled_behind vars 0 bs)
 
 abbrev pub filled : Vars → List ℕ → List ℕ

@@ -1,6 +1,6 @@
 // The expression of a pattern.
 ghost use Rattle.std.specs.Prelude.{◌≡◌, None, IfOk, MatchOption};
-ghost use Rattle.px_subst.specs.Expressions.{expression, IsBuilt};
+ghost use Rattle.px_subst.specs.Expressions.{job_expression, IsJobBuilt};
 
 use crate::flags::Flags;
 use px_base::{Mem, as_text};
@@ -11,8 +11,8 @@ use std::alloc::Global;
 /// The expression of a pattern, or None where the library reads none or it nests too deep. The library's other refusals
 /// count as want of memory.
 pub(crate) fn build(alloc: Global, flags: Flags, pattern: &[u8]) -> Result<Option<Regex>, Mem>
-    ensures { IfOk result (λ found. MatchOption found (expression flags pattern.now ≡ None)
-        (IsBuilt flags pattern.now)) }
+    ensures { IfOk result (λ found. MatchOption found (job_expression flags pattern.now ≡ None)
+        (IsJobBuilt flags pattern.now)) }
 {
     match as_text(pattern) {
         Some(source) => build_text(alloc, flags, source),
@@ -21,8 +21,8 @@ pub(crate) fn build(alloc: Global, flags: Flags, pattern: &[u8]) -> Result<Optio
 }
 
 fn build_text(alloc: Global, flags: Flags, source: &str) -> Result<Option<Regex>, Mem>
-    ensures { IfOk result (λ found. MatchOption found (expression flags source.now ≡ None)
-        (IsBuilt flags source.now)) }
+    ensures { IfOk result (λ found. MatchOption found (job_expression flags source.now ≡ None)
+        (IsJobBuilt flags source.now)) }
 {
     match RegexBuilder::new(source)
         .case_insensitive(flags.any_case)

@@ -21,12 +21,12 @@ pub enum JobFault {
 }
 
 impl JobFault {
-    ghost use Rattle.px_subst.specs.Refusals.{number_of, name_of};
+    ghost use Rattle.px_subst.specs.Refusals.{job_fault_number, job_fault_name};
 
     /// The number of the refusal. Want of memory has none.
     pub fn number(self) -> u8
         requires { self ≢ JobFault.Mem }
-        ensures { result ≡ number_of self }
+        ensures { result ≡ job_fault_number self }
     {
         match self {
             JobFault::NoDelimiter => 21,
@@ -39,7 +39,7 @@ impl JobFault {
 
     /// The name of the refusal.
     pub fn name(self) -> &'static str
-        ensures { result.now ≡ name_of self }
+        ensures { result.now ≡ job_fault_name self }
     {
         match self {
             JobFault::NoDelimiter => "NoDelimiter",
@@ -53,9 +53,9 @@ impl JobFault {
 
 impl fmt::Display for JobFault {
     ghost use Rattle.std.specs.Prelude.{Some};
-    ghost use Rattle.px_subst.specs.Refusals.{name_of};
+    ghost use Rattle.px_subst.specs.Refusals.{job_fault_name};
 
-    ghost output = { λ fault. Some (name_of fault) };
+    ghost output = { λ fault. Some (job_fault_name fault) };
 
     fn fmt<W: fmt::Write>(&self, f: &mut fmt::Formatter<W>) -> fmt::Result {
         let name = self.name();

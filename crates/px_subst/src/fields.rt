@@ -1,6 +1,6 @@
 // A job's text is cut at its delimiters.
 ghost use Rattle.std.specs.Prelude.{◌≡◌, ◌++◌, ◌∷◌, [], ◌<◌, false, length, IfOk, IfSome, OnOk, if◌then◌else◌, ◌==◌};
-ghost use Rattle.px_subst.specs.Fields.{is_delimiter, field_end, unescaped, backslash};
+ghost use Rattle.px_subst.specs.Fields.{is_delimiter, field_end, unescaped_field, backslash};
 
 use std::alloc::{AllocError, Global};
 
@@ -46,7 +46,7 @@ fn push_taken(field: &mut Vec<u8>, delimiter: u8, byte: u8) -> Result<(), AllocE
 
 /// What the bytes of a field stand for.
 pub(crate) fn unescaped(alloc: Global, delimiter: u8, raw: &[u8]) -> Result<Vec<u8>, AllocError>
-    ensures { IfOk result (λ field. field.items ≡ unescaped delimiter false raw.now) }
+    ensures { IfOk result (λ field. field.items ≡ unescaped_field delimiter false raw.now) }
 {
     let mut field = Vec::with_capacity(alloc, raw.len())?;
     let mut taken = false;

@@ -4,7 +4,7 @@ ghost use Rattle.px_subst.specs.Jobs.{run_next, run_filter, unchanged, with_hits
 
 use crate::jobs::Job;
 use crate::kept_jobs::KeptJob;
-use crate::outcomes::Outcome;
+use crate::outcomes::JobOutcome;
 use crate::words::Vars;
 use px_base::{List, Mem};
 use std::alloc::Global;
@@ -41,7 +41,7 @@ impl<'r> Model for KeptFilter<'r> {
 }
 
 /// The text after some of the jobs.
-fn text_of<'t>(done: &'t Option<Outcome>, given: &'t [u8]) -> &'t [u8]
+fn text_of<'t>(done: &'t Option<JobOutcome>, given: &'t [u8]) -> &'t [u8]
     ensures { result.now ≡ (unwrap_or done.now (unchanged given.now)).text }
 {
     match done {
@@ -50,7 +50,7 @@ fn text_of<'t>(done: &'t Option<Outcome>, given: &'t [u8]) -> &'t [u8]
     }
 }
 
-fn hits_of(done: &Option<Outcome>) -> u64
+fn hits_of(done: &Option<JobOutcome>) -> u64
     ensures { (given : _) → result ≡ (unwrap_or done.now (unchanged given)).hits }
 {
     match done {
@@ -60,7 +60,7 @@ fn hits_of(done: &Option<Outcome>) -> u64
 }
 
 /// What some of the jobs give, with what the next found in their text.
-fn added(done: Option<Outcome>, found: Option<Outcome>, given: &[u8]) -> Option<Outcome>
+fn added(done: Option<JobOutcome>, found: Option<JobOutcome>, given: &[u8]) -> Option<JobOutcome>
     requires done { IfSome done (λ outcome. 0 < outcome.hits) }
     requires found { IfSome found (λ outcome. 0 < outcome.hits) }
     ensures value { unwrap_or result (unchanged given.now)
@@ -68,7 +68,7 @@ fn added(done: Option<Outcome>, found: Option<Outcome>, given: &[u8]) -> Option<
     ensures hit { IfSome result (λ outcome. 0 < outcome.hits) }
 {
     match found {
-        Some(outcome) => Some(Outcome {
+        Some(outcome) => Some(JobOutcome {
             text: outcome.text,
             hits: hits_of(&done).saturating_add(outcome.hits),
         }),
@@ -79,11 +79,11 @@ fn added(done: Option<Outcome>, found: Option<Outcome>, given: &[u8]) -> Option<
 /// Runs one job more. `done` is what the jobs before gave, or None while nothing was hit, so that no copy is made.
 fn run_next(
     alloc: Global,
-    done: Option<Outcome>,
+    done: Option<JobOutcome>,
     job: &mut KeptJob<'_>,
     given: &[u8],
     vars: &Vars,
-) -> Result<Option<Outcome>, Mem>
+) -> Result<Option<JobOutcome>, Mem>
     requires { IfSome done (λ outcome. 0 < outcome.hits) }
     ensures value { IfOk result (λ next. unwrap_or next (unchanged given.now)
         ≡ run_next vars.now (unwrap_or done (unchanged given.now)) job.old) }
@@ -115,7 +115,7 @@ impl Filter {
     }
 
     /// What the jobs make of a text, each of the text of the one before. The hits are added, up to the greatest u64.
-    pub fn run(&self, alloc: Global, text: &[u8], vars: &Vars) -> Result<Outcome, Mem>
+    pub fn run(&self, alloc: Global, text: &[u8], vars: &Vars) -> Result<JobOutcome, Mem>
         ensures { IfOk result (λ outcome. outcome ≡ run_filter self.now vars.now text.now) }
     {
         let mut kept = self.keep(alloc)?;
@@ -123,7 +123,12 @@ impl Filter {
     }
 
     /// The same, or None where nothing is hit, so that no copy is made.
-    pub fn try_run(&self, alloc: Global, text: &[u8], vars: &Vars) -> Result<Option<Outcome>, Mem>
+    pub fn try_run(
+        &self,
+        alloc: Global,
+        text: &[u8],
+        vars: &Vars,
+    ) -> Result<Option<JobOutcome>, Mem>
         ensures value { IfOk result (λ found. unwrap_or found (unchanged text.now) ≡ run_filter self.now vars.now text.now) }
         ensures hit { IfOk result (λ found. IfSome found (λ outcome. 0 < outcome.hits)) }
     {
@@ -149,12 +154,12 @@ impl<'r> KeptFilter<'r> {
     }
 
     /// What the jobs make of a text, as `Filter::run`. After want of memory it may be run again.
-    pub fn run(&mut self, alloc: Global, text: &[u8], vars: &Vars) -> Result<Outcome, Mem>
+    pub fn run(&mut self, alloc: Global, text: &[u8], vars: &Vars) -> Result<JobOutcome, Mem>
         ensures value { IfOk result (λ outcome. outcome ≡ run_filter self.old vars.now text.now) }
         ensures same { self.new ≡ self.old }
     {
         let found = self.try_run(alloc, text, vars)?;
-        Outcome::or_unchanged(alloc, found, text)
+        JobOutcome::or_unchanged(alloc, found, text)
     }
 
     /// The same, or None where nothing is hit, so that no copy is made.
@@ -163,7 +168,7 @@ impl<'r> KeptFilter<'r> {
         alloc: Global,
         text: &[u8],
         vars: &Vars,
-    ) -> Result<Option<Outcome>, Mem>
+    ) -> Result<Option<JobOutcome>, Mem>
         ensures value { IfOk result (λ found. unwrap_or found (unchanged text.now) ≡ run_filter self.old vars.now text.now) }
         ensures hit { IfOk result (λ found. IfSome found (λ outcome. 0 < outcome.hits)) }
         ensures same { self.new ≡ self.old }

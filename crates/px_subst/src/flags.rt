@@ -1,7 +1,7 @@
 // The flags of a job.
 ghost use Rattle.std.specs.Prelude.{◌≡◌};
 ghost use Rattle.std.specs.List.{list_all};
-ghost use Rattle.px_subst.specs.JobFlags.{is_flag};
+ghost use Rattle.px_subst.specs.JobFlags.{is_flag_letter};
 
 /// How a job's expression is read, and how its matches are replaced.
 #[derive(Clone, Copy, Debug, PartialEq, Eq)]
@@ -25,13 +25,13 @@ pub struct Flags {
 }
 
 fn is_flag(letter: u8) -> bool
-    ensures { result ≡ is_flag letter }
+    ensures { result ≡ is_flag_letter letter }
 {
     b"gimsxUTDo".contains(&letter)
 }
 
 fn are_flags(letters: &[u8]) -> bool
-    ensures { result ≡ list_all is_flag letters.now }
+    ensures { result ≡ list_all is_flag_letter letters.now }
 {
     letters.iter().all(|letter| is_flag(*letter))
 }

@@ -1,6 +1,6 @@
 // The items of a substitute.
 ghost use Rattle.std.specs.Prelude.{◌≡◌, ◌++◌, ◌∷◌, [], ◌<◌, ◌≤◌, ◌-◌, map, drop, length, IfOk, OnOk};
-ghost use Rattle.px_subst.specs.Substitutes.{pair_item, items_of, items_by, is_group_digit, escaped_byte};
+ghost use Rattle.px_subst.specs.Substitutes.{pair_item, substitute_items, items_by_flag, is_group_digit, backslashed_byte};
 ghost use Rattle.px_subst.specs.Replacers.{items_in_all};
 
 use std::alloc::{AllocError, Global};
@@ -8,7 +8,7 @@ use std::mem;
 
 /// What stands in a substitute.
 #[derive(Clone, Copy, Debug, PartialEq, Eq)]
-pub enum Item {
+pub enum SubstituteItem {
     /// A byte by itself.
     Byte(u8),
     /// What the group matched. Group 0 is the match.
@@ -24,7 +24,7 @@ pub(crate) enum Part {
 
 /// The byte that a backslash before this one stands for.
 fn escaped_byte(byte: u8) -> u8
-    ensures { result ≡ escaped_byte byte }
+    ensures { result ≡ backslashed_byte byte }
 {
     match byte {
         b'n' => b'\n',
@@ -42,22 +42,22 @@ fn is_group_digit(byte: u8) -> bool
 }
 
 /// The item that two bytes stand for together, if they do.
-fn pair_item(first: u8, second: u8) -> Option<Item>
+fn pair_item(first: u8, second: u8) -> Option<SubstituteItem>
     ensures { result ≡ pair_item first second }
 {
     if first == b'$' {
         if is_group_digit(second) {
-            Some(Item::Group(second - b'0'))
+            Some(SubstituteItem::Group(second - b'0'))
         } else if second == b'&' {
-            Some(Item::Group(0))
+            Some(SubstituteItem::Group(0))
         } else {
             None
         }
     } else if first == b'\\' {
         if is_group_digit(second) {
-            Some(Item::Group(second - b'0'))
+            Some(SubstituteItem::Group(second - b'0'))
         } else {
-            Some(Item::Byte(escaped_byte(second)))
+            Some(SubstituteItem::Byte(escaped_byte(second)))
         }
     } else {
         None
@@ -65,9 +65,9 @@ fn pair_item(first: u8, second: u8) -> Option<Item>
 }
 
 /// The first item of a substitute, and how many bytes it takes.
-fn first_item(substitute: &[u8]) -> (Item, usize)
+fn first_item(substitute: &[u8]) -> (SubstituteItem, usize)
     requires { 0 < length substitute.now }
-    ensures first { items_of substitute.now ≡ result.0 ∷ items_of (drop result.1 substitute.now) }
+    ensures first { substitute_items substitute.now ≡ result.0 ∷ substitute_items (drop result.1 substitute.now) }
     ensures some { 0 < result.1 }
     ensures within { result.1 ≤ length substitute.now }
 {
@@ -76,13 +76,13 @@ fn first_item(substitute: &[u8]) -> (Item, usize)
             return (item, 2);
         }
     }
-    (Item::Byte(substitute[0]), 1)
+    (SubstituteItem::Byte(substitute[0]), 1)
 }
 
 /// Adds a run of bytes, if there are any.
 fn push_text(parts: &mut Vec<Part>, text: Vec<u8>) -> Result<(), AllocError>
     ensures { OnOk result (items_in_all parts.new.items
-        ≡ items_in_all parts.old.items ++ map Item.Byte text.items) }
+        ≡ items_in_all parts.old.items ++ map SubstituteItem.Byte text.items) }
 {
     if !text.is_empty() {
         parts.push(Part::Text(text))?;
@@ -95,14 +95,14 @@ fn push_item(
     alloc: Global,
     parts: &mut Vec<Part>,
     run: &mut Vec<u8>,
-    item: Item,
+    item: SubstituteItem,
 ) -> Result<(), AllocError>
-    ensures { OnOk result (items_in_all parts.new.items ++ map Item.Byte run.new.items
-        ≡ (items_in_all parts.old.items ++ map Item.Byte run.old.items) ++ item ∷ []) }
+    ensures { OnOk result (items_in_all parts.new.items ++ map SubstituteItem.Byte run.new.items
+        ≡ (items_in_all parts.old.items ++ map SubstituteItem.Byte run.old.items) ++ item ∷ []) }
 {
     match item {
-        Item::Byte(byte) => run.push(byte)?,
-        Item::Group(group) => {
+        SubstituteItem::Byte(byte) => run.push(byte)?,
+        SubstituteItem::Group(group) => {
             push_text(parts, mem::replace(run, Vec::new(alloc)))?;
             parts.push(Part::Group(group))?;
         }
@@ -111,7 +111,7 @@ fn push_item(
 }
 
 fn read_items(alloc: Global, substitute: &[u8]) -> Result<Vec<Part>, AllocError>
-    ensures { IfOk result (λ parts. items_in_all parts.items ≡ items_of substitute.now) }
+    ensures { IfOk result (λ parts. items_in_all parts.items ≡ substitute_items substitute.now) }
 {
     let mut parts = Vec::new(alloc);
     let mut run = Vec::new(alloc);
@@ -131,7 +131,7 @@ pub(crate) fn read_parts(
     plain: bool,
     substitute: &[u8],
 ) -> Result<Vec<Part>, AllocError>
-    ensures { IfOk result (λ parts. items_in_all parts.items ≡ items_by plain substitute.now) }
+    ensures { IfOk result (λ parts. items_in_all parts.items ≡ items_by_flag plain substitute.now) }
 {
     if plain {
         let mut parts = Vec::new(alloc);

@@ -6,7 +6,7 @@ use crate::faults::JobFault;
 use crate::fields::{field_end, is_delimiter, unescaped};
 use crate::flags::Flags;
 use crate::kept_jobs::KeptJob;
-use crate::outcomes::Outcome;
+use crate::outcomes::JobOutcome;
 use crate::replacers::Replacer;
 use crate::worded::WordedJob;
 use crate::words::Vars;
@@ -16,7 +16,7 @@ use std::marker::Model;
 
 /// The two kinds of jobs. Both are boxed, so that a job is small.
 #[derive(Drop)]
-pub(crate) enum Form {
+pub(crate) enum JobForm {
     /// The expression is built when the job is read.
     Fixed(Box<Replacer>),
     /// A job with the flag `D`: the expression is built at a run.
@@ -26,16 +26,16 @@ pub(crate) enum Form {
 /// A substitution job, seen as its pattern, what it writes and its flags.
 #[derive(Drop)]
 pub struct Job {
-    form: Form,
+    form: JobForm,
 }
 
 impl Model for Job {
     ghost use Rattle.px_subst.specs.Jobs.{JobParts};
-    ghost use Rattle.px_subst.specs.Kept.{job_in};
+    ghost use Rattle.px_subst.specs.Kept.{job_in_form};
 
     ghost Value = { JobParts };
 
-    ghost view = { λ j. job_in j.form };
+    ghost view = { λ j. job_in_form j.form };
 }
 
 impl Job {
@@ -86,12 +86,12 @@ impl Job {
                 flags,
             };
             return Ok(Job {
-                form: Form::Worded(Box::new(alloc, worded)?),
+                form: JobForm::Worded(Box::new(alloc, worded)?),
             });
         }
         match Replacer::new(alloc, flags, pattern.as_slice(), substitute.as_slice())? {
             Some(replacer) => Ok(Job {
-                form: Form::Fixed(Box::new(alloc, replacer)?),
+                form: JobForm::Fixed(Box::new(alloc, replacer)?),
             }),
             None => Err(JobFault::BadRegex),
         }
@@ -102,17 +102,17 @@ impl Job {
         ensures { result ≡ self.now }
     {
         match &self.form {
-            Form::Fixed(replacer) => KeptJob::fixed(replacer),
-            Form::Worded(worded) => KeptJob::worded(worded),
+            JobForm::Fixed(replacer) => KeptJob::fixed(replacer),
+            JobForm::Worded(worded) => KeptJob::worded(worded),
         }
     }
 
     /// What the job makes of a text.
-    pub fn run(&self, alloc: Global, text: &[u8], vars: &Vars) -> Result<Outcome, Mem>
+    pub fn run(&self, alloc: Global, text: &[u8], vars: &Vars) -> Result<JobOutcome, Mem>
         ensures { IfOk result (λ outcome. outcome ≡ run_job self.now vars.now text.now) }
     {
         let mut kept = self.keep();
         let found = kept.try_run(alloc, text, vars)?;
-        Outcome::or_unchanged(alloc, found, text)
+        JobOutcome::or_unchanged(alloc, found, text)
     }
 }

@@ -4,9 +4,9 @@ ghost use Rattle.px_subst.specs.Jobs.{run_job, unchanged};
 ghost use Rattle.px_subst.specs.Replacers.{replaces};
 ghost use Rattle.px_subst.specs.Parts.{fixed_job, worded_job};
 
-use crate::outcomes::Outcome;
+use crate::outcomes::JobOutcome;
 use crate::replacers::Replacer;
-use crate::searches::Search;
+use crate::searches::JobSearch;
 use crate::worded::{KeptWorded, WordedJob};
 use crate::words::Vars;
 use px_base::Mem;
@@ -17,7 +17,7 @@ use std::marker::Model;
 #[derive(Drop)]
 pub(crate) struct KeptReplacer<'r> {
     replacer: &'r Replacer,
-    search: Option<Search<'r>>,
+    search: Option<JobSearch<'r>>,
 }
 
 impl<'r> Model for KeptReplacer<'r> {
@@ -70,7 +70,7 @@ impl<'r> KeptReplacer<'r> {
     }
 
     /// What the replacer makes of a text, or None where nothing matches.
-    fn try_run(&mut self, alloc: Global, text: &[u8]) -> Result<Option<Outcome>, Mem>
+    fn try_run(&mut self, alloc: Global, text: &[u8]) -> Result<Option<JobOutcome>, Mem>
         ensures value { IfOk result (λ found. unwrap_or found (unchanged text.now) ≡ replaces self.old text.now) }
         ensures hit { IfOk result (λ found. IfSome found (λ outcome. 0 < outcome.hits)) }
         ensures same { self.new ≡ self.old }
@@ -127,7 +127,7 @@ impl<'r> KeptJob<'r> {
         alloc: Global,
         text: &[u8],
         vars: &Vars,
-    ) -> Result<Option<Outcome>, Mem>
+    ) -> Result<Option<JobOutcome>, Mem>
         ensures value { IfOk result (λ found. unwrap_or found (unchanged text.now) ≡ run_job self.old vars.now text.now) }
         ensures hit { IfOk result (λ found. IfSome found (λ outcome. 0 < outcome.hits)) }
         ensures same { self.new ≡ self.old }

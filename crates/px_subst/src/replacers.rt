@@ -1,15 +1,15 @@
 // An expression that is built, with the parts of its substitute.
 ghost use Rattle.std.specs.Prelude.{◌≡◌, ◌<◌, false, true, None, unwrap_or, IfOk, IfSome, MatchOption};
-ghost use Rattle.px_subst.specs.Expressions.{expression};
+ghost use Rattle.px_subst.specs.Expressions.{job_expression};
 ghost use Rattle.px_subst.specs.Jobs.{unchanged};
-ghost use Rattle.px_subst.specs.Substitutes.{items_by};
-ghost use Rattle.px_subst.specs.Replacers.{Spells, IsSearchOf, replaces};
+ghost use Rattle.px_subst.specs.Substitutes.{items_by_flag};
+ghost use Rattle.px_subst.specs.Replacers.{SpellsJob, IsSearchOf, replaces};
 
 use crate::expressions::build;
 use crate::flags::Flags;
 use crate::items::{Part, read_parts};
-use crate::outcomes::Outcome;
-use crate::searches::Search;
+use crate::outcomes::JobOutcome;
+use crate::searches::JobSearch;
 use px_base::Mem;
 use regex::bytes::Regex;
 use std::alloc::Global;
@@ -25,7 +25,7 @@ pub(crate) struct Replacer {
 
 impl Model for Replacer {
     ghost use Rattle.regex.specs.Bytes.{regex_pattern, regex_source};
-    ghost use Rattle.px_subst.specs.Expressions.{IsBuiltFrom};
+    ghost use Rattle.px_subst.specs.Expressions.{IsJobBuiltFrom};
     ghost use Rattle.px_subst.specs.Replacers.{Built, items_in_all};
 
     ghost Value = { Built };
@@ -36,7 +36,7 @@ impl Model for Replacer {
       flags = r.flags;
     } };
 
-    ghost invariant = { λ r. IsBuiltFrom r.flags (regex_source r.expression) (regex_pattern r.expression) };
+    ghost invariant = { λ r. IsJobBuiltFrom r.flags (regex_source r.expression) (regex_pattern r.expression) };
 }
 
 impl Replacer {
@@ -47,8 +47,8 @@ impl Replacer {
         pattern: &[u8],
         substitute: &[u8],
     ) -> Result<Option<Replacer>, Mem>
-        ensures { IfOk result (λ made. MatchOption made (expression flags pattern.now ≡ None)
-            (Spells pattern.now (items_by flags.plain substitute.now) flags)) }
+        ensures { IfOk result (λ made. MatchOption made (job_expression flags pattern.now ≡ None)
+            (SpellsJob pattern.now (items_by_flag flags.plain substitute.now) flags)) }
     {
         match build(alloc, flags, pattern)? {
             Some(expression) => {
@@ -64,14 +64,14 @@ impl Replacer {
     }
 
     /// What searches for its expression.
-    pub(crate) fn search(&self, alloc: Global) -> Result<Search<'_>, Mem>
+    pub(crate) fn search(&self, alloc: Global) -> Result<JobSearch<'_>, Mem>
         ensures { IfOk result (IsSearchOf self.now) }
     {
-        Search::new(alloc, &self.expression)
+        JobSearch::new(alloc, &self.expression)
     }
 
     /// Whether it matches somewhere in a text.
-    pub(crate) fn finds(&self, search: &mut Search<'_>, text: &[u8]) -> bool
+    pub(crate) fn finds(&self, search: &mut JobSearch<'_>, text: &[u8]) -> bool
         requires { IsSearchOf self.now search.old }
         ensures miss { result ≡ false → replaces self.now text.now ≡ unchanged text.now }
         ensures hit { result ≡ true → 0 < (replaces self.now text.now).hits }
@@ -84,9 +84,9 @@ impl Replacer {
     pub(crate) fn run(
         &self,
         alloc: Global,
-        search: &mut Search<'_>,
+        search: &mut JobSearch<'_>,
         text: &[u8],
-    ) -> Result<Option<Outcome>, Mem>
+    ) -> Result<Option<JobOutcome>, Mem>
         requires { IsSearchOf self.now search.old }
         ensures value { IfOk result (λ found. unwrap_or found (unchanged text.now) ≡ replaces self.now text.now) }
         ensures hit { IfOk result (λ found. IfSome found (λ outcome. 0 < outcome.hits)) }

@@ -6,14 +6,14 @@ ghost use Rattle.regex.specs.Locations.{location_count};
 ghost use Rattle.regex.specs.Bytes.{regex_pattern, matcher_pattern, matcher_names};
 
 use crate::items::Part;
-use crate::outcomes::Outcome;
+use crate::outcomes::JobOutcome;
 use px_base::{Mem, Text};
 use regex::bytes::{CaptureLocations, Matcher, Regex};
 use std::alloc::{AllocError, Global};
 
 /// What searches for an expression, with room for the places of its groups.
 #[derive(Drop)]
-pub(crate) struct Search<'r> {
+pub(crate) struct JobSearch<'r> {
     matcher: Matcher<'r>,
     places: CaptureLocations,
 }
@@ -76,16 +76,16 @@ fn write_match(
     Ok(())
 }
 
-impl<'r> Search<'r> {
+impl<'r> JobSearch<'r> {
     ghost use Rattle.px_subst.specs.Jobs.{unchanged};
     ghost use Rattle.px_subst.specs.Replacers.{LiesAt, TakesNext, items_in_all, replaced_up_to};
 
     /// What searches for an expression.
-    pub(crate) fn new(alloc: Global, expression: &'r Regex) -> Result<Search<'r>, Mem>
+    pub(crate) fn new(alloc: Global, expression: &'r Regex) -> Result<JobSearch<'r>, Mem>
         ensures searches { IfOk result (λ s. matcher_pattern s.matcher ≡ regex_pattern expression.now) }
         ensures room { IfOk result (λ s. location_count s.places ≡ length (matcher_names s.matcher)) }
     {
-        Ok(Search {
+        Ok(JobSearch {
             matcher: expression.matcher(alloc)?,
             places: expression.capture_locations(alloc)?,
         })
@@ -146,7 +146,7 @@ impl<'r> Search<'r> {
         parts: &[Part],
         limit: u64,
         text: &[u8],
-    ) -> Result<Option<Outcome>, AllocError>
+    ) -> Result<Option<JobOutcome>, AllocError>
         requires { location_count self.old.places ≡ length (matcher_names self.old.matcher) }
         ensures value { IfOk result (λ found. unwrap_or found (unchanged text.now)
             ≡ replaced_up_to limit (items_in_all parts.now) (matcher_pattern self.old.matcher) text.now) }
@@ -169,7 +169,7 @@ impl<'r> Search<'r> {
             return Ok(None);
         }
         push_rest(&mut out, text, last)?;
-        Ok(Some(Outcome {
+        Ok(Some(JobOutcome {
             text: Text::from_vec(out),
             hits,
         }))

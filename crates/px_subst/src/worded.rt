@@ -4,7 +4,7 @@ ghost use Rattle.px_subst.specs.Jobs.{run_job, unchanged};
 ghost use Rattle.px_subst.specs.Parts.{IsMadeOf, worded_job};
 
 use crate::flags::Flags;
-use crate::outcomes::Outcome;
+use crate::outcomes::JobOutcome;
 use crate::replacers::Replacer;
 use crate::words::{Vars, filled};
 use px_base::{Mem, Text};
@@ -47,7 +47,7 @@ impl<'r> Model for KeptWorded<'r> {
 
 impl Made {
     /// What the job makes of a text, or None where it hits nothing. What searches is made anew.
-    fn run(&self, alloc: Global, job: &WordedJob, text: &[u8]) -> Result<Option<Outcome>, Mem>
+    fn run(&self, alloc: Global, job: &WordedJob, text: &[u8]) -> Result<Option<JobOutcome>, Mem>
         requires { IsMadeOf job.now self.now.vars self.now.replacer }
         ensures value { IfOk result (λ found. unwrap_or found (unchanged text.now)
             ≡ run_job (worded_job job.now) self.now.vars text.now) }
@@ -102,7 +102,7 @@ impl<'r> KeptWorded<'r> {
         alloc: Global,
         text: &[u8],
         vars: &Vars,
-    ) -> Result<Option<Outcome>, Mem>
+    ) -> Result<Option<JobOutcome>, Mem>
         ensures value { IfOk result (λ found. unwrap_or found (unchanged text.now)
             ≡ run_job (worded_job self.old) vars.now text.now) }
         ensures hit { IfOk result (λ found. IfSome found (λ outcome. 0 < outcome.hits)) }

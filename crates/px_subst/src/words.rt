@@ -1,6 +1,6 @@
 // The words that a job with the flag `D` replaces.
 ghost use Rattle.std.specs.Prelude.{◌≡◌, ◌++◌, ◌≤◌, length, IfOk, IfSome, IsTrue};
-ghost use Rattle.px_subst.specs.Words.{word_at, text_of, value_of, filled};
+ghost use Rattle.px_subst.specs.Words.{word_at, text_of, word_value, filled};
 
 use px_base::{Mem, Text};
 use std::alloc::{AllocError, Global};
@@ -66,7 +66,7 @@ impl Word {
     }
 
     fn value(self, vars: &Vars) -> &[u8]
-        ensures { result.now ≡ value_of vars.now self }
+        ensures { result.now ≡ word_value vars.now self }
     {
         match self {
             Word::Host => vars.host.as_bytes(),

@@ -25,7 +25,7 @@ pub enum WearFault {
 
 /// What came of the change that was wanted.
 #[derive(Drop)]
-pub(crate) enum Outcome {
+pub(crate) enum ChangeOutcome {
     /// No change was wanted, or it would have altered nothing.
     Stood,
     Made,
@@ -35,9 +35,9 @@ pub(crate) enum Outcome {
 
 /// What a board answers under its lock.
 #[derive(Drop)]
-pub(crate) struct Answer {
+pub(crate) struct BoardAnswer {
     pub worn: Worn,
     /// The receipt of the newest state.
     pub receipt: Receipt<PublishedState>,
-    pub outcome: Outcome,
+    pub outcome: ChangeOutcome,
 }

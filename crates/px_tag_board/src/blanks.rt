@@ -1,6 +1,6 @@
 // Boards that no type names yet.
 ghost use Rattle.std.specs.Prelude.{◌≡◌, ◌<◌, ◌≤◌, ◌∷◌, [], IfOk, vec_len};
-ghost use Rattle.px_tag_board.specs.Readers.{AreFresh};
+ghost use Rattle.px_tag_board.specs.Readers.{AreFreshReaders};
 
 use crate::chains::Chain;
 use crate::entries::PublishedState;
@@ -22,13 +22,13 @@ pub struct BlankBoard {
 impl Model for BlankBoard {
     ghost use Rattle.std.specs.Prelude.{◌≡◌, ◌∷◌, [], vec_len};
     ghost use Rattle.px_tag_board.specs.Blanks.{Naming};
-    ghost use Rattle.px_tag_board.specs.Readers.{AreFresh};
+    ghost use Rattle.px_tag_board.specs.Readers.{AreFreshReaders};
 
     ghost Value = { Naming };
 
     ghost view = { λ b. record { name = b.ledger.name; seats = b.ledger.parts; pair = b.chain.pair } };
 
-    ghost invariant = { λ b. (b.chain.states ≡ [] ∷ []) × (vec_len b.readers ≡ b.ledger.parts) × AreFresh b.chain.pair b.readers.items };
+    ghost invariant = { λ b. (b.chain.states ≡ [] ∷ []) × (vec_len b.readers ≡ b.ledger.parts) × AreFreshReaders b.chain.pair b.readers.items };
 }
 
 /// A board for so many seats, 64 at most. It and its seats take their memory by this allocator. It may wait, in giving up
@@ -55,7 +55,7 @@ impl BlankBoard {
         ensures pair { result.2.pair ≡ self.pair }
         ensures states { result.2.states ≡ [] ∷ [] }
         ensures count { vec_len result.3 ≡ self.seats }
-        ensures fresh { AreFresh self.pair result.3.items }
+        ensures fresh { AreFreshReaders self.pair result.3.items }
     {
         let BlankBoard {
             alloc,

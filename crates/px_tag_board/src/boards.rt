@@ -1,6 +1,6 @@
 // Boards: how their seats are made, and how they end.
 ghost use Rattle.std.specs.Prelude.{◌≡◌, ◌+◌, ◌<◌, ◌∷◌, [], IfOk, All, sum_by, vec_len};
-ghost use Rattle.px_tag_board.specs.Readers.{AreFresh};
+ghost use Rattle.px_tag_board.specs.Readers.{AreFreshReaders};
 
 use crate::blanks::BlankBoard;
 use crate::entries::PublishedState;
@@ -37,7 +37,7 @@ fn seated<N: BoardName, R: Wait>(
     all: &mut Share<N>,
     mut readers: Vec<ConfigReader<PublishedState>>,
 ) -> Result<Vec<Seat<N>>, Mem>
-    requires fresh { AreFresh N.pair readers.items }
+    requires fresh { AreFreshReaders N.pair readers.items }
     requires parts { all.old.parts ≡ vec_len readers }
     requires amount { all.old.amount ≡ 0 }
     ensures count { IfOk result (λ v. vec_len v ≡ vec_len readers) }

@@ -2,9 +2,9 @@
 ghost use Rattle.std.specs.Prelude.{◌≡◌, ◌+◌, ◌<◌, ◌≤◌, ◌^◌, ◌++◌, ◌∷◌, ◌↔◌, [], IsTrue, IfOk, OnOk, OnErr, length, vec_len};
 ghost use Rattle.px_publish.specs.Published.{published, pair_of, told, receipt_pair, seen_by, reader_pair};
 ghost use Rattle.px_tag_board.specs.Chains.{IsChained, newest_of};
-ghost use Rattle.px_tag_board.specs.Readers.{AreFresh};
+ghost use Rattle.px_tag_board.specs.Readers.{AreFreshReaders};
 
-use crate::entries::{Entry, PublishedState};
+use crate::entries::{BoardEntry, PublishedState};
 use px_base::Mem;
 use px_publish::{ConfigReader, Publisher, Receipt, publish_pair};
 use std::alloc::Global;
@@ -14,7 +14,7 @@ use std::sync::{Arc, Wait};
 /// The one publisher of a board with the newest state, seen as the published list and the pair. That list is chained.
 pub(crate) struct Chain {
     publisher: Publisher<PublishedState>,
-    newest: Vec<Entry>,
+    newest: Vec<BoardEntry>,
 }
 
 impl Model for Chain {
@@ -40,7 +40,7 @@ impl Chain {
         requires places { readers ≤ 64 }
         ensures states { IfOk result (λ c. c.0.states ≡ [] ∷ []) }
         ensures count { IfOk result (λ c. vec_len c.1 ≡ readers) }
-        ensures fresh { IfOk result (λ c. AreFresh c.0.pair c.1.items) }
+        ensures fresh { IfOk result (λ c. AreFreshReaders c.0.pair c.1.items) }
     {
         let newest = Vec::new(alloc);
         let first = Arc::new(alloc, PublishedState::of(&newest))?;
@@ -88,7 +88,7 @@ impl Chain {
         &mut self,
         rt: &R,
         alloc: Global,
-        entry: Entry,
+        entry: BoardEntry,
     ) -> Result<Receipt<PublishedState>, Mem>
         requires { length (newest_of self.old.states) < 2 ^ 32 }
         ensures pair { self.new.pair ≡ self.old.pair }
@@ -113,7 +113,7 @@ fn published<R: Wait>(
     rt: &R,
     alloc: Global,
     publisher: &mut Publisher<PublishedState>,
-    state: &Vec<Entry>,
+    state: &Vec<BoardEntry>,
 ) -> Result<Receipt<PublishedState>, Mem>
     requires { length (published publisher.old) < 2 ^ 64 }
     ensures pair { pair_of publisher.new ≡ pair_of publisher.old }

@@ -8,7 +8,7 @@ use std::snapshot::Snapshot;
 
 /// A change that was made, with the address that it was made for.
 #[derive(Drop)]
-pub(crate) struct Entry {
+pub(crate) struct BoardEntry {
     pub address: Text,
     pub change: TagChange,
 }
@@ -17,20 +17,20 @@ pub(crate) struct Entry {
 /// lock, so nobody reads the entries of a published state.
 #[derive(Drop)]
 pub(crate) struct PublishedState {
-    entries: Snapshot<Vec<Entry>>,
+    entries: Snapshot<Vec<BoardEntry>>,
 }
 
 impl Model for PublishedState {
-    ghost use Rattle.px_tag_board.specs.States.{State};
+    ghost use Rattle.px_tag_board.specs.States.{BoardState};
 
-    ghost Value = { State };
+    ghost Value = { BoardState };
 
     ghost view = { λ p. p.entries.value.items };
 }
 
 impl PublishedState {
     /// The state of these entries, which takes no memory.
-    pub(crate) fn of(entries: &Vec<Entry>) -> PublishedState
+    pub(crate) fn of(entries: &Vec<BoardEntry>) -> PublishedState
         ensures { result ≡ entries.now.items }
     {
         PublishedState {

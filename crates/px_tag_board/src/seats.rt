@@ -3,14 +3,14 @@ ghost use Rattle.std.specs.Prelude.{◌≡◌, ◌+◌, ◌<◌, ◌≤◌, ◌�
 ghost use Rattle.px_publish.specs.Published.{told, receipt_pair, seen_by, reader_pair};
 ghost use Rattle.px_publish.specs.Views.{GoesOn};
 ghost use Rattle.px_tag_board.specs.Chains.{IsChained};
-ghost use Rattle.px_tag_board.specs.Answers.{IsWorn, IsSettled};
-ghost use Rattle.px_tag_board.specs.Outcomes.{Comes, FullOnly, made_by};
-ghost use Rattle.px_tag_board.specs.Readers.{IsFresh};
+ghost use Rattle.px_tag_board.specs.Answers.{IsWorn, IsChangeSettled};
+ghost use Rattle.px_tag_board.specs.Outcomes.{ComesOfChange, FullOnly, made_by};
+ghost use Rattle.px_tag_board.specs.Readers.{IsFreshReader};
 ghost use Rattle.px_tag_board.specs.Seats.{MadeAtMostOne};
 ghost use Rattle.px_tag_board.specs.declared.answers.TheConstants.{ENTRY_LIMIT};
-ghost use Rattle.px_tag_board.specs.declared.answers.Outcome.TheVariants.{Made};
+ghost use Rattle.px_tag_board.specs.declared.answers.ChangeOutcome.TheVariants.{Made};
 
-use crate::answers::{Answer, Outcome, WearFault, Worn};
+use crate::answers::{BoardAnswer, ChangeOutcome, WearFault, Worn};
 use crate::changes::TagChange;
 use crate::entries::PublishedState;
 use crate::names::BoardName;
@@ -66,7 +66,7 @@ fn locked<N: BoardName, R: Wait>(
     share: &mut Share<N>,
     address: &[u8],
     change: Option<&TagChange>,
-) -> Result<Answer, Mem>
+) -> Result<BoardAnswer, Mem>
     requires pair { reader_pair reader.now ≡ N.pair }
     requires part { 0 < share.old.parts }
     ensures parts { share.new.parts ≡ share.old.parts }
@@ -74,7 +74,7 @@ fn locked<N: BoardName, R: Wait>(
     ensures no_shorter { IfOk result (λ a. length (seen_by reader.now) ≤ length (told a.receipt)) }
     ensures chained { IfOk result (λ a. IsChained (told a.receipt)) }
     ensures worn { IfOk result (λ a. IsWorn (told a.receipt) address.now a.worn) }
-    ensures comes { IfOk result (λ a. Comes a.outcome (seen_by reader.now) (told a.receipt) address.now (option_copied change.entry) a.worn.tags) }
+    ensures comes { IfOk result (λ a. ComesOfChange a.outcome (seen_by reader.now) (told a.receipt) address.now (option_copied change.entry) a.worn.tags) }
     ensures amount { IfOk result (λ a. share.new.amount ≡ share.old.amount + made_by a.outcome) }
     ensures few { IfOk result (λ a. a.outcome ≡ Made → share.new.amount ≤ ENTRY_LIMIT) }
     ensures err { OnErr result (share.new.amount ≡ share.old.amount) }
@@ -101,7 +101,7 @@ impl<N: BoardName> Seat<N> {
         reader: ConfigReader<PublishedState>,
         share: Share<N>,
     ) -> Seat<N>
-        requires fresh { IsFresh N.pair reader }
+        requires fresh { IsFreshReader N.pair reader }
         requires part { share.parts ≡ 1 }
         requires amount { share.amount ≡ 0 }
         ensures { result ≡ record { seen = [] ∷ []; made = 0 } }
@@ -141,7 +141,7 @@ impl<N: BoardName> Seat<N> {
         ensures goes_on { GoesOn self.old.seen self.new.seen }
         ensures chained { IsChained self.new.seen }
         ensures worn { IfOk result (λ w. IsWorn self.new.seen address.now w) }
-        ensures settled { IfOk result (λ w. IsSettled (option_copied change.entry) w.tags) }
+        ensures settled { IfOk result (λ w. IsChangeSettled (option_copied change.entry) w.tags) }
         ensures made { OnOk result (MadeAtMostOne self.old self.new address.now (option_copied change.entry)) }
         ensures full { IfErr result (λ f. FullOnly f self.new.seen address.now (option_copied change.entry)) }
         ensures err { OnErr result (self.new.made ≡ self.old.made) }
@@ -157,19 +157,19 @@ impl<N: BoardName> Seat<N> {
         let Ok(answer) = locked(rt, *alloc, shared, reader, share, address, change) else {
             return Err(WearFault::Mem);
         };
-        let Answer {
+        let BoardAnswer {
             worn,
             receipt,
             outcome,
         } = answer;
         learn(reader, receipt);
         match outcome {
-            Outcome::Stood => Ok(worn),
-            Outcome::Made => {
+            ChangeOutcome::Stood => Ok(worn),
+            ChangeOutcome::Made => {
                 *made += 1;
                 Ok(worn)
             }
-            Outcome::Full => Err(WearFault::Full(worn)),
+            ChangeOutcome::Full => Err(WearFault::Full(worn)),
         }
     }
 

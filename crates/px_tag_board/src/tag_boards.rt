@@ -4,13 +4,13 @@ ghost use Rattle.px_publish.specs.Published.{told, receipt_pair, seen_by, reader
 ghost use Rattle.px_tag_board.specs.declared.answers.TheConstants.{ENTRY_LIMIT};
 ghost use Rattle.px_tag_board.specs.TagMaps.{worn};
 ghost use Rattle.px_tag_board.specs.States.{worn_by};
-ghost use Rattle.px_tag_board.specs.Tags.{after};
+ghost use Rattle.px_tag_board.specs.Tags.{tags_after};
 ghost use Rattle.px_tag_board.specs.Chains.{IsChained, newest_of};
 
-use crate::answers::{Answer, ENTRY_LIMIT, Outcome, Worn};
+use crate::answers::{BoardAnswer, ChangeOutcome, ENTRY_LIMIT, Worn};
 use crate::chains::Chain;
 use crate::changes::{TagChange, alters, changed, copy_tags};
-use crate::entries::{Entry, PublishedState};
+use crate::entries::{BoardEntry, PublishedState};
 use crate::names::BoardName;
 use crate::tag_maps::TagMap;
 use px_base::{List, Mem, Text};
@@ -31,9 +31,9 @@ pub(crate) struct TagBoard<N: BoardName> {
 }
 
 impl<N: BoardName> TagBoard<N> {
-    ghost use Rattle.px_tag_board.specs.Answers.{IsWorn, IsSettled, IsMade};
-    ghost use Rattle.px_tag_board.specs.Outcomes.{Comes, made_by};
-    ghost use Rattle.px_tag_board.specs.declared.answers.Outcome.TheVariants.{Made};
+    ghost use Rattle.px_tag_board.specs.Answers.{IsWorn, IsChangeSettled, IsMade};
+    ghost use Rattle.px_tag_board.specs.Outcomes.{ComesOfChange, made_by};
+    ghost use Rattle.px_tag_board.specs.declared.answers.ChangeOutcome.TheVariants.{Made};
 
     /// A board before its first change.
     pub(crate) fn over(alloc: Global, chain: Chain, book: Book<N>) -> TagBoard<N>
@@ -76,7 +76,7 @@ impl<N: BoardName> TagBoard<N> {
     }
 
     // The answer that leaves the board as it is.
-    fn unchanged(&self, tags: List<Text>, outcome: Outcome) -> Result<Answer, Mem>
+    fn unchanged(&self, tags: List<Text>, outcome: ChangeOutcome) -> Result<BoardAnswer, Mem>
         ensures list { IfOk result (λ a. told a.receipt ≡ self.now.chain.states) }
         ensures pair { IfOk result (λ a. receipt_pair a.receipt ≡ N.pair) }
         ensures chained { IsChained self.now.chain.states }
@@ -86,7 +86,7 @@ impl<N: BoardName> TagBoard<N> {
     {
         let receipt = self.chain.receipt()?;
         let place = receipt.snapshot().number;
-        Ok(Answer {
+        Ok(BoardAnswer {
             worn: Worn { place, tags },
             receipt,
             outcome,
@@ -102,16 +102,16 @@ impl<N: BoardName> TagBoard<N> {
         address: &[u8],
         change: &TagChange,
         tags: List<Text>,
-    ) -> Result<Answer, Mem>
+    ) -> Result<BoardAnswer, Mem>
         requires part { 0 < share.old.parts }
         requires room { length (newest_of self.old.chain.states) < ENTRY_LIMIT }
         requires tags { tags ≡ worn_by address.now (newest_of self.old.chain.states) }
-        requires alters { after tags change.now ≢ tags }
+        requires alters { tags_after tags change.now ≢ tags }
         ensures parts { share.new.parts ≡ share.old.parts }
         ensures pair { IfOk result (λ a. receipt_pair a.receipt ≡ N.pair) }
         ensures chained { IfOk result (λ a. IsChained (told a.receipt)) }
         ensures worn { IfOk result (λ a. IsWorn (told a.receipt) address.now a.worn) }
-        ensures settled { IfOk result (λ a. IsSettled (Some change.now) a.worn.tags) }
+        ensures settled { IfOk result (λ a. IsChangeSettled (Some change.now) a.worn.tags) }
         ensures made { IfOk result (λ a. IsMade self.old.chain.states (told a.receipt) address.now (Some change.now)) }
         ensures outcome { IfOk result (λ a. a.outcome ≡ Made) }
         ensures amount { IfOk result (λ a. share.new.amount ≡ share.old.amount + 1) }
@@ -120,7 +120,7 @@ impl<N: BoardName> TagBoard<N> {
     {
         let tags = changed(alloc, tags, change)?;
         let kept = copy_tags(alloc, tags.as_slice())?;
-        let entry = Entry {
+        let entry = BoardEntry {
             address: Text::from_bytes(alloc, address)?,
             change: change.copy(alloc)?,
         };
@@ -135,10 +135,10 @@ impl<N: BoardName> TagBoard<N> {
         book.add(share, 1);
         book.audit(share);
         let place = receipt.snapshot().number;
-        Ok(Answer {
+        Ok(BoardAnswer {
             worn: Worn { place, tags },
             receipt,
-            outcome: Outcome::Made,
+            outcome: ChangeOutcome::Made,
         })
     }
 
@@ -150,27 +150,27 @@ impl<N: BoardName> TagBoard<N> {
         share: &mut Share<N>,
         address: &[u8],
         change: Option<&TagChange>,
-    ) -> Result<Answer, Mem>
+    ) -> Result<BoardAnswer, Mem>
         requires part { 0 < share.old.parts }
         ensures parts { share.new.parts ≡ share.old.parts }
         ensures pair { IfOk result (λ a. receipt_pair a.receipt ≡ N.pair) }
         ensures no_shorter { IfOk result (λ a. length self.old.chain.states ≤ length (told a.receipt)) }
         ensures chained { IfOk result (λ a. IsChained (told a.receipt)) }
         ensures worn { IfOk result (λ a. IsWorn (told a.receipt) address.now a.worn) }
-        ensures comes { IfOk result (λ a. Comes a.outcome self.old.chain.states (told a.receipt) address.now (option_copied change.entry) a.worn.tags) }
+        ensures comes { IfOk result (λ a. ComesOfChange a.outcome self.old.chain.states (told a.receipt) address.now (option_copied change.entry) a.worn.tags) }
         ensures amount { IfOk result (λ a. share.new.amount ≡ share.old.amount + made_by a.outcome) }
         ensures few { IfOk result (λ a. a.outcome ≡ Made → share.new.amount ≤ ENTRY_LIMIT) }
         ensures err { OnErr result (share.new.amount ≡ share.old.amount) }
     {
         let tags = self.tag_map.worn(alloc, address)?;
         let Some(change) = change else {
-            return self.unchanged(tags, Outcome::Stood);
+            return self.unchanged(tags, ChangeOutcome::Stood);
         };
         if !alters(tags.as_slice(), change) {
-            return self.unchanged(tags, Outcome::Stood);
+            return self.unchanged(tags, ChangeOutcome::Stood);
         }
         if self.chain.len() == ENTRY_LIMIT {
-            return self.unchanged(tags, Outcome::Full);
+            return self.unchanged(tags, ChangeOutcome::Full);
         }
         self.make(rt, alloc, share, address, change, tags)
     }

@@ -1,7 +1,7 @@
 // What each address wears.
 ghost use Rattle.std.specs.Prelude.{◌≡◌, [], IfOk, OnOk, IsSome, if◌then◌else◌};
 ghost use Rattle.std.specs.Str.{bytes_eq};
-ghost use Rattle.px_tag_board.specs.TagMaps.{kept, worn};
+ghost use Rattle.px_tag_board.specs.TagMaps.{kept_tags, worn};
 
 use crate::changes::copy_tags;
 use px_base::{List, Mem, Text};
@@ -36,7 +36,7 @@ impl TagMap {
 
     /// Makes room for the tags of an address, so that `put` takes no memory. What is worn stays.
     pub(crate) fn reserve(&mut self, alloc: Global, address: &[u8]) -> Result<(), Mem>
-        ensures room { OnOk result (IsSome (kept self.new address.now)) }
+        ensures room { OnOk result (IsSome (kept_tags self.new address.now)) }
         ensures same { (other : _) → worn self.new other ≡ worn self.old other }
     {
         if self.worn.contains_key(address) {
@@ -48,7 +48,7 @@ impl TagMap {
 
     /// Puts tags on an address, for which there is room, in place of those that it wore. It takes no memory.
     pub(crate) fn put(&mut self, address: &[u8], tags: List<Text>)
-        requires { IsSome (kept self.old address.now) }
+        requires { IsSome (kept_tags self.old address.now) }
         ensures { (other : _) → worn self.new other ≡ (if bytes_eq address.now other then tags else worn self.old other) }
     {
         if let Some(place) = self.worn.get_mut(address) {

@@ -3,16 +3,16 @@ use Rattle.std.proofs.Common.{◌≡◌, ◌⊎◌, ℕ, true, false, cond, List
 use Rattle.std.specs.Prelude.{OnErr, fold}
 use mathlib.Core.Logic.{⊎_elim}
 use Rattle.px_actions.specs.Sets.{IsUpdatedByFront}
-use Rattle.px_merge.specs.Merging.{tagged, updates_in}
-use Rattle.px_taggers.specs.Fronts.{IsFront, IsWithinLine, IsWithinLines, IsWithinTag, IsWithinTagger}
-use Rattle.px_taggers.specs.Tagging.{Rules, Tagged, after_line, after_tag, after_tagger, in_force, is_left_out, put, state, tag_of}
+use Rattle.px_merge.specs.Merging.{tagged_sections, updates_in}
+use Rattle.px_taggers.specs.Fronts.{IsFrontOfWork, IsWithinLine, IsWithinLines, IsWithinTag, IsWithinTagger}
+use Rattle.px_taggers.specs.Tagging.{Rules, Tagged, after_line, after_tag, after_tagger, in_force, is_left_out, with_tag, state, tag_of}
 
 -- ---- item by item
 
 -- from a state over the rest the work goes on as from the start over all
 pub record RunsOn {X : Type 0} (part : Tagged → X → Tagged → Type 0) (step : Tagged → X → Tagged) (start : Tagged) (items : List X) (s : Tagged) (rest : List X) : Type 0 where
   pub whole : fold step s rest ≡ fold step start items
-  pub fronts : (now : Tagged) → IsFront part step s rest now → IsFront part step start items now
+  pub fronts : (now : Tagged) → IsFrontOfWork part step s rest now → IsFrontOfWork part step start items now
 
 pub runs_begin : {X : Type 0} (part : Tagged → X → Tagged → Type 0) (step : Tagged → X → Tagged) (start : Tagged) (items : List X) → RunsOn part step start items start items
 runs_begin part step start items = record { whole = refl; fronts = λ now front. front }
@@ -21,16 +21,16 @@ pub runs_more : {X : Type 0} (part : Tagged → X → Tagged → Type 0) (step :
     → rest ≡ x ∷ others → next ≡ step s x → RunsOn part step start items s rest → RunsOn part step start items next others
 runs_more part step start items s next rest others x cut is runs = record {
   whole = ap (λ n. fold step n others) is ∙ ap (fold step s) (sym cut) ∙ runs.whole;
-  fronts = λ now front. runs.fronts now (subst (λ xs. IsFront part step s xs now) (sym cut) (inr (subst (λ n. IsFront part step n others now) is front)));
+  fronts = λ now front. runs.fronts now (subst (λ xs. IsFrontOfWork part step s xs now) (sym cut) (inr (subst (λ n. IsFrontOfWork part step n others now) is front)));
 }
 
 pub runs_stop : {X : Type 0} (part : Tagged → X → Tagged → Type 0) (step : Tagged → X → Tagged) (start : Tagged) (items : List X) (s now : Tagged) (rest others : List X) (x : X)
-    → rest ≡ x ∷ others → part s x now → RunsOn part step start items s rest → IsFront part step start items now
-runs_stop part step start items s now rest others x cut within runs = runs.fronts now (subst (λ xs. IsFront part step s xs now) (sym cut) (inl within))
+    → rest ≡ x ∷ others → part s x now → RunsOn part step start items s rest → IsFrontOfWork part step start items now
+runs_stop part step start items s now rest others x cut within runs = runs.fronts now (subst (λ xs. IsFrontOfWork part step s xs now) (sym cut) (inl within))
 
 -- ---- nothing done is a front
 
-front_begins : {X : Type 0} (part : Tagged → X → Tagged → Type 0) (step : Tagged → X → Tagged) → ((s : Tagged) (x : X) → part s x s) → (s : Tagged) (xs : List X) → IsFront part step s xs s
+front_begins : {X : Type 0} (part : Tagged → X → Tagged → Type 0) (step : Tagged → X → Tagged) → ((s : Tagged) (x : X) → part s x s) → (s : Tagged) (xs : List X) → IsFrontOfWork part step s xs s
 front_begins part step begins s [] = refl
 front_begins part step begins s (x ∷ xs) = inl (begins s x)
 
@@ -57,13 +57,13 @@ pub made_none : (rules : Rules) (s : Tagged) (made : Option (List ℕ)) → made
 made_none rules s made is = ap (after_tag rules s) (sym is)
 
 pub made_left_out : (rules : Rules) (s : Tagged) (made : Option (List ℕ)) (tag : List ℕ) → made ≡ Some tag → is_left_out s tag ≡ true → s ≡ after_tag rules s made
-made_left_out rules s made tag is among = sym (ap (after_tag rules s) is ∙ ap (λ b. cond b s (put rules s tag)) among)
+made_left_out rules s made tag is among = sym (ap (after_tag rules s) is ∙ ap (λ b. cond b s (with_tag rules s tag)) among)
 
-pub made_new : (rules : Rules) (s now : Tagged) (made : Option (List ℕ)) (tag : List ℕ) → made ≡ Some tag → is_left_out s tag ≡ false → now ≡ put rules s tag → now ≡ after_tag rules s made
-made_new rules s now made tag is new done = done ∙ sym (ap (after_tag rules s) is ∙ ap (λ b. cond b s (put rules s tag)) new)
+pub made_new : (rules : Rules) (s now : Tagged) (made : Option (List ℕ)) (tag : List ℕ) → made ≡ Some tag → is_left_out s tag ≡ false → now ≡ with_tag rules s tag → now ≡ after_tag rules s made
+made_new rules s now made tag is new done = done ∙ sym (ap (after_tag rules s) is ∙ ap (λ b. cond b s (with_tag rules s tag)) new)
 
 pub put_stopped : (rules : Rules) (s now : Tagged) (made : Option (List ℕ)) (tag : List ℕ) → made ≡ Some tag → is_left_out s tag ≡ false
-    → ((now.set ≡ s.set) × (now.tags ≡ s.tags)) ⊎ ((now.tags ≡ s.tags ++ tag ∷ []) × IsUpdatedByFront s.set (updates_in (tagged rules.sections tag)) now.set)
+    → ((now.set ≡ s.set) × (now.tags ≡ s.tags)) ⊎ ((now.tags ≡ s.tags ++ tag ∷ []) × IsUpdatedByFront s.set (updates_in (tagged_sections rules.sections tag)) now.set)
     → IsWithinTag rules s made now
 put_stopped rules s now made tag is new stopped =
     subst (λ o. IsWithinTag rules s o now) (sym is)

@@ -8,8 +8,8 @@ use Rattle.px_merge.specs.Merged.{Merged}
 use Rattle.px_merge.specs.declared.sides.Side.{Side}
 use Rattle.px_subst.specs.Jobs.{JobParts, run_filter, unchanged}
 use Rattle.px_subst.specs.declared.words.Vars.{Vars}
-use Rattle.px_taggers.specs.Fronts.{IsFront, IsWithinLine, IsWithinTag, IsWithinTaggers}
-use Rattle.px_taggers.specs.Places.{AreInForce, ArePlacesOf, IsWithinPlace, after_place, jobs_named, tag_by}
+use Rattle.px_taggers.specs.Fronts.{IsFrontOfWork, IsWithinLine, IsWithinTag, IsWithinTaggers}
+use Rattle.px_taggers.specs.Places.{AreInForce, AreTaggerPlaces, IsWithinPlace, after_place, jobs_named, tag_by}
 use Rattle.px_taggers.specs.Tagging.{Rules, Tagged, after_line, after_tag, after_tagger, in_force, rules, tag_in, tag_of}
 use Rattle.px_taggers.proofs.FrontLemmas.{RunsOn, runs_more, runs_stop}
 
@@ -21,19 +21,19 @@ module _ (rules : Rules) (line : List ℕ) where
   IsWithinJobs s jobs now = IsWithinTag rules s (tag_by jobs rules.vars line) now
 
   module _ {X : Type 0} (jobs : X → List JobParts) where
-    to_jobs : (s : Tagged) (xs : List X) (now : Tagged) → IsFront (λ t x. IsWithinJobs t (jobs x)) (λ t x. after_jobs t (jobs x)) s xs now
-        → IsFront IsWithinJobs after_jobs s (map jobs xs) now
+    to_jobs : (s : Tagged) (xs : List X) (now : Tagged) → IsFrontOfWork (λ t x. IsWithinJobs t (jobs x)) (λ t x. after_jobs t (jobs x)) s xs now
+        → IsFrontOfWork IsWithinJobs after_jobs s (map jobs xs) now
     to_jobs s [] now front = front
     to_jobs s (x ∷ xs) now (inl here) = inl here
     to_jobs s (x ∷ xs) now (inr later) = inr (to_jobs (after_jobs s (jobs x)) xs now later)
 
-    from_jobs : (s : Tagged) (xs : List X) (now : Tagged) → IsFront IsWithinJobs after_jobs s (map jobs xs) now
-        → IsFront (λ t x. IsWithinJobs t (jobs x)) (λ t x. after_jobs t (jobs x)) s xs now
+    from_jobs : (s : Tagged) (xs : List X) (now : Tagged) → IsFrontOfWork IsWithinJobs after_jobs s (map jobs xs) now
+        → IsFrontOfWork (λ t x. IsWithinJobs t (jobs x)) (λ t x. after_jobs t (jobs x)) s xs now
     from_jobs s [] now front = front
     from_jobs s (x ∷ xs) now (inl here) = inl here
     from_jobs s (x ∷ xs) now (inr later) = inr (from_jobs (after_jobs s (jobs x)) xs now later)
 
-  pub places_done : (s : Tagged) (names : List (List ℕ)) (places : List (Option ℕ)) → ArePlacesOf rules.filters rules.side names places
+  pub places_done : (s : Tagged) (names : List (List ℕ)) (places : List (Option ℕ)) → AreTaggerPlaces rules.filters rules.side names places
       → fold (after_place rules line) s places ≡ fold (after_tagger rules line) s names
   unfolding tag_by tag_of
   places_done s names places are =
@@ -41,12 +41,12 @@ module _ (rules : Rules) (line : List ℕ) where
       ∙ ap (fold after_jobs s) are.jobs
       ∙ fold-map after_jobs (jobs_named rules.filters rules.side) s names
 
-  pub places_front : (s : Tagged) (names : List (List ℕ)) (places : List (Option ℕ)) (now : Tagged) → ArePlacesOf rules.filters rules.side names places
-      → IsFront (IsWithinPlace rules line) (after_place rules line) s places now → IsWithinTaggers rules line s names now
+  pub places_front : (s : Tagged) (names : List (List ℕ)) (places : List (Option ℕ)) (now : Tagged) → AreTaggerPlaces rules.filters rules.side names places
+      → IsFrontOfWork (IsWithinPlace rules line) (after_place rules line) s places now → IsWithinTaggers rules line s names now
   unfolding tag_by tag_of
   places_front s names places now are front =
       from_jobs (jobs_named rules.filters rules.side) s names now
-      (subst (λ js. IsFront IsWithinJobs after_jobs s js now) are.jobs (to_jobs (jobs_at_place rules.filters) s places now front))
+      (subst (λ js. IsFrontOfWork IsWithinJobs after_jobs s js now) are.jobs (to_jobs (jobs_at_place rules.filters) s places now front))
 
 -- what is left as it is makes no tag
 pub no_tag : (jobs : List JobParts) (vars : Vars) (line : List ℕ) → run_filter jobs vars line ≡ unchanged line → None ≡ tag_by jobs vars line

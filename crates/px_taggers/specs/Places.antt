@@ -20,13 +20,13 @@ abbrev pub jobs_named : FiltersOfFiles → Side → List ℕ → List JobParts
 jobs_named filters side name = jobs_of filters (record { kind = filters_of side; name = name })
 
 -- for each name, in order, the place of a filter with the jobs of its tagger
-pub record ArePlacesOf (filters : FiltersOfFiles) (side : Side) (names : List (List ℕ)) (places : List (Option ℕ)) : Type 0 where
+pub record AreTaggerPlaces (filters : FiltersOfFiles) (side : Side) (names : List (List ℕ)) (places : List (Option ℕ)) : Type 0 where
   pub within : All (IsPlaceOf filters) places
   pub jobs : map (jobs_at_place filters) places ≡ map (jobs_named filters side) names
 
 -- the places are those of the taggers in force
 abbrev pub AreInForce : FiltersOfFiles → Side → List Setting → List (Option ℕ) → Type 0
-AreInForce filters side set places = ArePlacesOf filters side (in_force side set) places
+AreInForce filters side set places = AreTaggerPlaces filters side (in_force side set) places
 
 -- ---- what they do on a line
 

@@ -1,18 +1,18 @@
 -- Tags that are made of header lines (the manual's chapters on taggers and on tag patterns).
 use Rattle.std.specs.Prelude.{ℕ, ◌≡◌, ◌==◌, ◌||◌, Bool, List, [], ◌∷◌, ◌++◌, length, fold, Option, None, Some, if◌then◌else◌}
-use Rattle.px_actions.specs.Sets.{is_among, values}
+use Rattle.px_actions.specs.Sets.{is_among, set_values}
 use Rattle.px_actions.specs.declared.kinds.Kind.{Kind}
 use Rattle.px_actions.specs.declared.kinds.Kind.TheVariants.{ClientHeaderTagger, ServerHeaderTagger, SuppressTag}
 use Rattle.px_actions.specs.declared.settings.Setting.{Setting}
 use Rattle.px_filter_files.specs.FilterFiles.{FiltersOfFiles, jobs_of}
 use Rattle.px_filter_files.specs.declared.kinds.FilterKind.{FilterKind}
 use Rattle.px_filter_files.specs.declared.kinds.FilterKind.TheVariants.{ClientTagger, ServerTagger}
-use Rattle.px_merge.specs.Merging.{absent, applied, tagged}
+use Rattle.px_merge.specs.Merging.{absent, applied, tagged_sections}
 use Rattle.px_merge.specs.declared.places.Placed.{Placed}
 use Rattle.px_merge.specs.declared.sides.Side.{Side}
 use Rattle.px_merge.specs.declared.sides.Side.TheVariants.{Request, Response}
 use Rattle.px_subst.specs.Jobs.{run_filter}
-use Rattle.px_subst.specs.declared.outcomes.Outcome.{Outcome}
+use Rattle.px_subst.specs.declared.outcomes.JobOutcome.{JobOutcome}
 use Rattle.px_subst.specs.declared.words.Vars.{Vars}
 
 -- ---- what tags are made by
@@ -39,12 +39,12 @@ filters_of Response = ServerTagger
 
 -- the names of the taggers in force
 abbrev pub in_force : Side → List Setting → List (List ℕ)
-in_force side set = values set (action_of side)
+in_force side set = set_values set (action_of side)
 
 -- ---- tags
 
 -- hits and a text that isn't empty give a tag
-abbrev pub tag_in : Outcome → Option (List ℕ)
+abbrev pub tag_in : JobOutcome → Option (List ℕ)
 tag_in outcome = if outcome.hits == 0 then None else if length outcome.text == 0 then None else Some outcome.text
 
 -- the tag that the tagger of a name makes of a line; a name that no filter has makes none
@@ -60,12 +60,12 @@ abbrev pub state : List Setting → List (List ℕ) → Tagged
 state set tags = record { set = set; tags = tags }
 
 -- a tag goes last, and the sections that apply to it are applied at once
-abbrev pub put : Rules → Tagged → List ℕ → Tagged
-put rules s tag = state (applied s.set (tagged rules.sections tag)) (s.tags ++ tag ∷ [])
+abbrev pub with_tag : Rules → Tagged → List ℕ → Tagged
+with_tag rules s tag = state (applied s.set (tagged_sections rules.sections tag)) (s.tags ++ tag ∷ [])
 
 -- a tag isn't made that the set at that moment has as a value of `suppress-tag`, with case
 abbrev pub is_suppressed : List Setting → List ℕ → Bool
-is_suppressed set tag = is_among tag (values set SuppressTag)
+is_suppressed set tag = is_among tag (set_values set SuppressTag)
 
 -- such a tag, and one that stands among the others, changes nothing
 abbrev pub is_left_out : Tagged → List ℕ → Bool
@@ -73,7 +73,7 @@ is_left_out s tag = is_suppressed s.set tag || is_among tag s.tags
 
 abbrev pub after_tag : Rules → Tagged → Option (List ℕ) → Tagged
 after_tag rules s None = s
-after_tag rules s (Some tag) = if is_left_out s tag then s else put rules s tag
+after_tag rules s (Some tag) = if is_left_out s tag then s else with_tag rules s tag
 
 -- after one tagger on a line
 abbrev pub after_tagger : Rules → List ℕ → Tagged → List ℕ → Tagged

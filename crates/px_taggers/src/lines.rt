@@ -9,7 +9,7 @@ use crate::turns::Turn;
 use px_actions::ActionSet;
 use px_base::{List, Mem, Text};
 use px_filter_files::{Filters, WarmFilters};
-use px_merge::{Sections, Side, Warm};
+use px_merge::{Sections, Side, WarmSections};
 use px_subst::Vars;
 use std::alloc::Global;
 
@@ -51,7 +51,7 @@ fn places_behind(
 /// Runs on each line the taggers in force when its turn begins.
 fn tag_lines(
     alloc: Global,
-    sections: &mut Warm<'_>,
+    sections: &mut WarmSections<'_>,
     filters: &mut WarmFilters<'_>,
     set: &mut ActionSet,
     tags: &mut List<Text>,
@@ -104,7 +104,7 @@ pub fn has_taggers(set: &ActionSet, side: Side) -> bool
 #[tactic(auto, unfolding(crate::specs::Tagging::tag_headers))]
 pub fn tag_headers_with(
     alloc: Global,
-    sections: &mut Warm<'_>,
+    sections: &mut WarmSections<'_>,
     filters: &mut WarmFilters<'_>,
     set: &mut ActionSet,
     tags: &mut List<Text>,

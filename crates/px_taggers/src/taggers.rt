@@ -11,8 +11,8 @@ use crate::turns::Turn;
 use px_actions::{ActionSet, Kind};
 use px_base::{List, Mem, Text};
 use px_filter_files::{FilterKind, WarmFilters};
-use px_merge::{Side, Warm};
-use px_subst::Outcome;
+use px_merge::{Side, WarmSections};
+use px_subst::JobOutcome;
 use std::alloc::Global;
 
 /// The action that names the taggers of a side.
@@ -36,7 +36,7 @@ pub fn filters_of(side: Side) -> FilterKind
 }
 
 /// The tag that a tagger makes, by what it found in a line.
-fn tag_in(found: Option<Outcome>, line: &[u8]) -> Option<Text>
+fn tag_in(found: Option<JobOutcome>, line: &[u8]) -> Option<Text>
     requires { IfSome found (λ outcome. 0 < outcome.hits) }
     ensures { result ≡ tag_in (unwrap_or found (unchanged line.now)) }
 {
@@ -73,7 +73,7 @@ fn make_tag(
 #[tactic(auto, using(crate::proofs::FrontLemmas::made_none, crate::proofs::FrontLemmas::made_left_out, crate::proofs::FrontLemmas::made_new, crate::proofs::FrontLemmas::put_stopped, crate::proofs::FrontLemmas::tag_begins))]
 fn run_tagger(
     alloc: Global,
-    sections: &mut Warm<'_>,
+    sections: &mut WarmSections<'_>,
     filters: &mut WarmFilters<'_>,
     set: &mut ActionSet,
     tags: &mut List<Text>,
@@ -100,7 +100,7 @@ fn run_tagger(
 /// Runs the taggers in force, which stand at these places, on a line. Whether one of their tags is new.
 pub fn run_taggers(
     alloc: Global,
-    sections: &mut Warm<'_>,
+    sections: &mut WarmSections<'_>,
     filters: &mut WarmFilters<'_>,
     set: &mut ActionSet,
     tags: &mut List<Text>,

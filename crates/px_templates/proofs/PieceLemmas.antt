@@ -7,12 +7,12 @@ use Rattle.px_templates.specs.declared.symbols.Symbol.{Symbol}
 use Rattle.px_templates.specs.declared.symbols.Symbol.TheVariants as symbol
 use Rattle.px_templates.specs.declared.conditions.Condition.{Condition}
 use Rattle.px_templates.specs.declared.conditions.Condition.TheVariants as condition
-use Rattle.px_templates.specs.declared.fronts.Front.{Front}
-use Rattle.px_templates.specs.declared.fronts.Front.TheVariants as front
-use Rattle.px_templates.specs.declared.runs.Run.{Run}
+use Rattle.px_templates.specs.declared.fronts.TemplateFront.{TemplateFront}
+use Rattle.px_templates.specs.declared.fronts.TemplateFront.TheVariants as front
+use Rattle.px_templates.specs.declared.runs.TemplateRun.{TemplateRun}
 use Rattle.px_templates.specs.Symbols.{mark_of, symbol_at, start_of, end_of}
-use Rattle.px_templates.specs.Pieces.{Part, Piece, part_in, plain, parts_behind, front_at, front_pieces, width, pieces_behind, open_behind, open_or, end_place, line_at, open_line}
-use Rattle.px_templates.specs.Runs.{held}
+use Rattle.px_templates.specs.Pieces.{PiecePart, Piece, part_in, plain, parts_behind, front_at, front_pieces, width, pieces_behind, open_behind, open_or, end_place, line_at, open_line}
+use Rattle.px_templates.specs.Runs.{held_pieces}
 
 -- `drop (n - 1)` of what follows the first byte
 drop_behind : (n b : ℕ) (bs : List ℕ) → 0 < n → drop (n - 1) bs ≡ drop n (b ∷ bs)
@@ -32,7 +32,7 @@ start_some : (c : Condition) → 0 < length (start_of c)
 start_some condition.BlockReason = lit< tt
 start_some condition.Parent = lit< tt
 
-pub width_some : (f : Front) → 0 < width f
+pub width_some : (f : TemplateFront) → 0 < width f
 width_some front.Byte = lit< tt
 width_some (front.Value s) = mark_some s
 width_some (front.Block c n) = omega (arith, start_some c)
@@ -61,12 +61,12 @@ open_behind-drop at (suc n) (b ∷ bs) =
 
 -- a symbol's mark at the front
 parts_behind-value : (c : Option Condition) (s : Symbol) (text : List ℕ) → 0 < length text → symbol_at text ≡ Some s →
-    parts_behind c 0 text ≡ part_in c (Part.value s) ∷ parts_behind c 0 (drop (length (mark_of s)) text)
+    parts_behind c 0 text ≡ part_in c (PiecePart.value s) ∷ parts_behind c 0 (drop (length (mark_of s)) text)
 unfolding parts_behind
 parts_behind-value c s [] some is = absurd (omega arith)
 parts_behind-value c s (b ∷ bs) some is =
-    ap (λ o. option_map_or (λ w. part_in c (Part.value w) ∷ parts_behind c (length (mark_of w) - 1) bs) o (part_in c (Part.byte b) ∷ parts_behind c 0 bs)) is
-    ∙ ap (λ l. part_in c (Part.value s) ∷ l)
+    ap (λ o. option_map_or (λ w. part_in c (PiecePart.value w) ∷ parts_behind c (length (mark_of w) - 1) bs) o (part_in c (PiecePart.byte b) ∷ parts_behind c 0 bs)) is
+    ∙ ap (λ l. part_in c (PiecePart.value s) ∷ l)
     (parts_behind-drop c (length (mark_of s) - 1) bs ∙ ap (parts_behind c 0) (drop_behind (length (mark_of s)) b bs (mark_some s)))
 
 -- no symbol's mark at the front
@@ -75,7 +75,7 @@ parts_behind-byte : (c : Option Condition) (text : List ℕ) → 0 < length text
 unfolding parts_behind
 parts_behind-byte c [] some is = absurd (omega arith)
 parts_behind-byte c (b ∷ bs) some is =
-    ap (λ o. option_map_or (λ w. part_in c (Part.value w) ∷ parts_behind c (length (mark_of w) - 1) bs) o (part_in c (Part.byte b) ∷ parts_behind c 0 bs)) is
+    ap (λ o. option_map_or (λ w. part_in c (PiecePart.value w) ∷ parts_behind c (length (mark_of w) - 1) bs) o (part_in c (PiecePart.byte b) ∷ parts_behind c 0 bs)) is
 
 parts_behind-nil : (c : Option Condition) (text : List ℕ) → length text ≡ 0 → parts_behind c 0 text ≡ []
 unfolding parts_behind
@@ -83,7 +83,7 @@ parts_behind-nil c [] none = refl
 parts_behind-nil c (b ∷ bs) none = absurd (omega arith)
 
 -- what stands at the front
-pieces_behind-front : (f : Front) (text : List ℕ) → 0 < length text → f ≡ front_at text →
+pieces_behind-front : (f : TemplateFront) (text : List ℕ) → 0 < length text → f ≡ front_at text →
     pieces_behind 0 text ≡ front_pieces f text ++ pieces_behind 0 (drop (width f) text)
 unfolding pieces_behind
 pieces_behind-front f [] some is = absurd (omega arith)
@@ -97,13 +97,13 @@ unfolding pieces_behind
 pieces_behind-nil [] none = refl
 pieces_behind-nil (b ∷ bs) none = absurd (omega arith)
 
-open_or-later : (at : ℕ) (f : Front) (later : Option ℕ) → f ≢ front.Open → open_or at f later ≡ later
+open_or-later : (at : ℕ) (f : TemplateFront) (later : Option ℕ) → f ≢ front.Open → open_or at f later ≡ later
 open_or-later at front.Byte later ended = refl
 open_or-later at (front.Value s) later ended = refl
 open_or-later at (front.Block c n) later ended = refl
 open_or-later at front.Open later ended = absurd (ended refl)
 
-open_behind-front : (at : ℕ) (f : Front) (text : List ℕ) → 0 < length text → f ≡ front_at text → f ≢ front.Open →
+open_behind-front : (at : ℕ) (f : TemplateFront) (text : List ℕ) → 0 < length text → f ≡ front_at text → f ≢ front.Open →
     open_behind at 0 text ≡ open_behind (at + width f) 0 (drop (width f) text)
 unfolding open_behind
 open_behind-front at f [] some is ended = absurd (omega arith)
@@ -150,7 +150,7 @@ kept-byte c text from at all old whole rest order so_far front =
     so_far ∙ ap (λ w. old ++ w)
     (ap (λ w. plain c (take (at - from) (drop from text)) ++ w) front
     ∙ sym (append_assoc (plain c (take (at - from) (drop from text))) (plain c (take 1 (drop at text))) rest)
-    ∙ ap (λ l. l ++ rest) (sym (map-append (λ b. part_in c (Part.byte b)) (take (at - from) (drop from text)) (take 1 (drop at text)))
+    ∙ ap (λ l. l ++ rest) (sym (map-append (λ b. part_in c (PiecePart.byte b)) (take (at - from) (drop from text)) (take 1 (drop at text)))
     ∙ ap (plain c) (sym (slice-last text from at order))))
 
 -- A list of pieces goes on as what is kept, and the pieces in front of the rest, are pushed.
@@ -166,16 +166,16 @@ kept-front c text at all old slice whole front rest mid new so_far whole_is mid_
     ∙ ap (λ l. new ++ (plain c l ++ rest)) (sym (slice-none text at))
 
 -- what the loop over a block's text keeps: the bytes from `from` on aren't pushed yet
-pub record HasParts (before : List Run) (c : Option Condition) (text : List ℕ) (from at : ℕ) (runs : List Run) : Type 0 where
+pub record HasParts (before : List TemplateRun) (c : Option Condition) (text : List ℕ) (from at : ℕ) (runs : List TemplateRun) : Type 0 where
   pub order : from ≤ at
   pub within : at ≤ length text
-  pub parts : held before ++ parts_behind c 0 text ≡ held runs ++ (plain c (take (at - from) (drop from text)) ++ parts_behind c 0 (drop at text))
+  pub parts : held_pieces before ++ parts_behind c 0 text ≡ held_pieces runs ++ (plain c (take (at - from) (drop from text)) ++ parts_behind c 0 (drop at text))
 
 -- the same for the loop over the whole text
-pub record HasPieces (text : List ℕ) (from at : ℕ) (runs : List Run) : Type 0 where
+pub record HasPieces (text : List ℕ) (from at : ℕ) (runs : List TemplateRun) : Type 0 where
   pub order : from ≤ at
   pub within : at ≤ length text
-  pub pieces : pieces_behind 0 text ≡ held runs ++ (plain None (take (at - from) (drop from text)) ++ pieces_behind 0 (drop at text))
+  pub pieces : pieces_behind 0 text ≡ held_pieces runs ++ (plain None (take (at - from) (drop from text)) ++ pieces_behind 0 (drop at text))
   pub unended : open_behind 0 0 text ≡ open_behind at 0 (drop at text)
 
 -- the mark that ends a block, at the front of a text
@@ -220,68 +220,68 @@ end_not_found c text slice mark at r within slice_is mark_is r_is later so_far =
 pub end_nowhere : (c : Condition) (text : List ℕ) (at : ℕ) → length text ≤ at → end_place c text ≡ option_map (λ n. n + at) (end_place c (drop at text)) → None ≡ end_place c text
 end_nowhere c text at past so_far = sym (so_far ∙ ap (option_map (λ n. n + at)) (end_place-nil c (drop at text) (omega (arith, length-drop at text))))
 
-pub parts_byte : (before : List Run) (c : Option Condition) (text slice : List ℕ) (from at : ℕ) (runs : List Run) →
+pub parts_byte : (before : List TemplateRun) (c : Option Condition) (text slice : List ℕ) (from at : ℕ) (runs : List TemplateRun) →
     HasParts before c text from at runs → at < length text → slice ≡ drop at text → None ≡ symbol_at slice → HasParts before c text from (at + 1) runs
 parts_byte before c text slice from at runs h within slice_is none = record {
   order = let o = h.order in omega arith;
   within = omega arith;
-  parts = kept-byte c text from at (held before ++ parts_behind c 0 text) (held runs) (parts_behind c 0 (drop at text)) (parts_behind c 0 (drop (at + 1) text)) h.order h.parts
+  parts = kept-byte c text from at (held_pieces before ++ parts_behind c 0 text) (held_pieces runs) (parts_behind c 0 (drop at text)) (parts_behind c 0 (drop (at + 1) text)) h.order h.parts
       (parts_behind-byte c (drop at text) (omega (arith, length-drop at text)) (ap symbol_at (sym slice_is) ∙ sym none)
       ∙ ap (λ l. plain c (take 1 (drop at text)) ++ parts_behind c 0 l) (drop-drop 1 at text));
 }
 
-pub parts_value : (before : List Run) (c : Option Condition) (text slice mark : List ℕ) (from at : ℕ) (s : Symbol) (runs mid new : List Run) →
+pub parts_value : (before : List TemplateRun) (c : Option Condition) (text slice mark : List ℕ) (from at : ℕ) (s : Symbol) (runs mid new : List TemplateRun) →
     HasParts before c text from at runs → at < length text → slice ≡ drop at text → Some s ≡ symbol_at slice → length (mark_of s) ≤ length slice → mark ≡ mark_of s →
-    held mid ≡ held runs ++ plain c (take (at - from) (drop from text)) → held new ≡ held mid ++ part_in c (Part.value s) ∷ [] →
+    held_pieces mid ≡ held_pieces runs ++ plain c (take (at - from) (drop from text)) → held_pieces new ≡ held_pieces mid ++ part_in c (PiecePart.value s) ∷ [] →
     HasParts before c text (at + length mark) (at + length mark) new
 parts_value before c text slice mark from at s runs mid new h within slice_is is fits mark_is mid_is new_is =
     let wide : length mark ≡ length (mark_of s) = ap length mark_is in
     let slice_len : length slice ≡ length (drop at text) = ap length slice_is in record {
       order = omega arith;
       within = omega (arith, length-drop at text);
-      parts = kept-front c text (at + length mark) (held before ++ parts_behind c 0 text) (held runs) (plain c (take (at - from) (drop from text)))
-          (parts_behind c 0 (drop at text)) (part_in c (Part.value s) ∷ []) (parts_behind c 0 (drop (at + length mark) text)) (held mid) (held new) h.parts
+      parts = kept-front c text (at + length mark) (held_pieces before ++ parts_behind c 0 text) (held_pieces runs) (plain c (take (at - from) (drop from text)))
+          (parts_behind c 0 (drop at text)) (part_in c (PiecePart.value s) ∷ []) (parts_behind c 0 (drop (at + length mark) text)) (held_pieces mid) (held_pieces new) h.parts
           (parts_behind-value c s (drop at text) (omega (arith, length-drop at text)) (ap symbol_at (sym slice_is) ∙ sym is)
-          ∙ ap (λ l. part_in c (Part.value s) ∷ parts_behind c 0 l) (drop-drop (length (mark_of s)) at text ∙ ap (λ n. drop (at + n) text) (sym wide)))
+          ∙ ap (λ l. part_in c (PiecePart.value s) ∷ parts_behind c 0 l) (drop-drop (length (mark_of s)) at text ∙ ap (λ n. drop (at + n) text) (sym wide)))
           mid_is new_is;
     }
 
-pub parts_end : (before : List Run) (c : Option Condition) (text : List ℕ) (from at : ℕ) (runs : List Run) →
+pub parts_end : (before : List TemplateRun) (c : Option Condition) (text : List ℕ) (from at : ℕ) (runs : List TemplateRun) →
     HasParts before c text from at runs → length text ≤ at →
-    held runs ++ plain c (take (length text - from) (drop from text)) ≡ held before ++ parts_behind c 0 text
+    held_pieces runs ++ plain c (take (length text - from) (drop from text)) ≡ held_pieces before ++ parts_behind c 0 text
 parts_end before c text from at runs h past =
     let inside = h.within in
     let same : at ≡ length text = omega arith in
     sym (h.parts
-    ∙ ap (λ w. held runs ++ (plain c (take (at - from) (drop from text)) ++ w)) (parts_behind-nil c (drop at text) (omega (arith, length-drop at text)))
-    ∙ ap (λ w. held runs ++ w) (append-nil (plain c (take (at - from) (drop from text))))
-    ∙ ap (λ n. held runs ++ plain c (take (n - from) (drop from text))) same)
+    ∙ ap (λ w. held_pieces runs ++ (plain c (take (at - from) (drop from text)) ++ w)) (parts_behind-nil c (drop at text) (omega (arith, length-drop at text)))
+    ∙ ap (λ w. held_pieces runs ++ w) (append-nil (plain c (take (at - from) (drop from text))))
+    ∙ ap (λ n. held_pieces runs ++ plain c (take (n - from) (drop from text))) same)
 
-pub pieces_init : (text : List ℕ) (runs : List Run) → runs ≡ [] → HasPieces text 0 0 runs
-unfolding held
+pub pieces_init : (text : List ℕ) (runs : List TemplateRun) → runs ≡ [] → HasPieces text 0 0 runs
+unfolding held_pieces
 pieces_init text runs none = record {
   order = omega arith;
   within = omega arith;
-  pieces = ap (λ r. held r ++ pieces_behind 0 text) (sym none);
+  pieces = ap (λ r. held_pieces r ++ pieces_behind 0 text) (sym none);
   unended = refl;
 }
 
-pub pieces_byte : (text slice : List ℕ) (from at : ℕ) (runs : List Run) →
+pub pieces_byte : (text slice : List ℕ) (from at : ℕ) (runs : List TemplateRun) →
     HasPieces text from at runs → at < length text → slice ≡ drop at text → front.Byte ≡ front_at slice → HasPieces text from (at + 1) runs
 pieces_byte text slice from at runs h within slice_is is =
     let some : 0 < length (drop at text) = omega (arith, length-drop at text) in
     let here : front.Byte ≡ front_at (drop at text) = is ∙ ap front_at slice_is in record {
       order = let o = h.order in omega arith;
       within = omega arith;
-      pieces = kept-byte None text from at (pieces_behind 0 text) (held runs) (pieces_behind 0 (drop at text)) (pieces_behind 0 (drop (at + 1) text)) h.order h.pieces
+      pieces = kept-byte None text from at (pieces_behind 0 text) (held_pieces runs) (pieces_behind 0 (drop at text)) (pieces_behind 0 (drop (at + 1) text)) h.order h.pieces
           (pieces_behind-front front.Byte (drop at text) some here
           ∙ ap (λ l. plain None (take 1 (drop at text)) ++ pieces_behind 0 l) (drop-drop 1 at text));
       unended = h.unended ∙ open_behind-front at front.Byte (drop at text) some here (λ e. cc) ∙ ap (open_behind (at + 1) 0) (drop-drop 1 at text);
     }
 
-pub pieces_front : (text slice : List ℕ) (from at to : ℕ) (f : Front) (runs mid new : List Run) →
+pub pieces_front : (text slice : List ℕ) (from at to : ℕ) (f : TemplateFront) (runs mid new : List TemplateRun) →
     HasPieces text from at runs → at < length text → slice ≡ drop at text → f ≡ front_at slice → width f ≤ length slice → f ≢ front.Open → to ≡ at + width f →
-    held mid ≡ held runs ++ plain None (take (at - from) (drop from text)) → held new ≡ held mid ++ front_pieces f (drop at text) →
+    held_pieces mid ≡ held_pieces runs ++ plain None (take (at - from) (drop from text)) → held_pieces new ≡ held_pieces mid ++ front_pieces f (drop at text) →
     HasPieces text to to new
 pieces_front text slice from at to f runs mid new h within slice_is is fits ended to_is mid_is new_is =
     let slice_len : length slice ≡ length (drop at text) = ap length slice_is in
@@ -290,8 +290,8 @@ pieces_front text slice from at to f runs mid new h within slice_is is fits ende
     let behind : drop (width f) (drop at text) ≡ drop to text = drop-drop (width f) at text ∙ ap (λ n. drop n text) (sym to_is) in record {
       order = omega arith;
       within = omega (arith, length-drop at text);
-      pieces = kept-front None text to (pieces_behind 0 text) (held runs) (plain None (take (at - from) (drop from text)))
-          (pieces_behind 0 (drop at text)) (front_pieces f (drop at text)) (pieces_behind 0 (drop to text)) (held mid) (held new) h.pieces
+      pieces = kept-front None text to (pieces_behind 0 text) (held_pieces runs) (plain None (take (at - from) (drop from text)))
+          (pieces_behind 0 (drop at text)) (front_pieces f (drop at text)) (pieces_behind 0 (drop to text)) (held_pieces mid) (held_pieces new) h.pieces
           (pieces_behind-front f (drop at text) some here ∙ ap (λ l. front_pieces f (drop at text) ++ pieces_behind 0 l) behind)
           mid_is new_is;
       unended = h.unended ∙ open_behind-front at f (drop at text) some here ended ∙ ap (open_behind (at + width f) 0) behind ∙ ap (λ n. open_behind n 0 (drop to text)) (sym to_is);
@@ -305,21 +305,21 @@ inside-is k n at begin text mark mark_is begin_is =
     ap (λ m. take m (drop begin text)) len ∙ ap (λ m. take n (drop m text)) begin_is ∙ ap (λ (l : List ℕ). take n (drop (at + length l) text)) mark_is
     ∙ ap (take n) (sym (drop-drop (length (start_of k)) at text))
 
-pub pieces_end : (text : List ℕ) (from at : ℕ) (runs : List Run) → HasPieces text from at runs → length text ≤ at →
-    held runs ++ plain None (take (length text - from) (drop from text)) ≡ pieces_behind 0 text
+pub pieces_end : (text : List ℕ) (from at : ℕ) (runs : List TemplateRun) → HasPieces text from at runs → length text ≤ at →
+    held_pieces runs ++ plain None (take (length text - from) (drop from text)) ≡ pieces_behind 0 text
 pieces_end text from at runs h past =
     let inside = h.within in
     let same : at ≡ length text = omega arith in
     sym (h.pieces
-    ∙ ap (λ w. held runs ++ (plain None (take (at - from) (drop from text)) ++ w)) (pieces_behind-nil (drop at text) (omega (arith, length-drop at text)))
-    ∙ ap (λ w. held runs ++ w) (append-nil (plain None (take (at - from) (drop from text))))
-    ∙ ap (λ n. held runs ++ plain None (take (n - from) (drop from text))) same)
+    ∙ ap (λ w. held_pieces runs ++ (plain None (take (at - from) (drop from text)) ++ w)) (pieces_behind-nil (drop at text) (omega (arith, length-drop at text)))
+    ∙ ap (λ w. held_pieces runs ++ w) (append-nil (plain None (take (at - from) (drop from text))))
+    ∙ ap (λ n. held_pieces runs ++ plain None (take (n - from) (drop from text))) same)
 
-pub ended_all : (text : List ℕ) (from at : ℕ) (runs : List Run) → HasPieces text from at runs → length text ≤ at → open_line text ≡ None
+pub ended_all : (text : List ℕ) (from at : ℕ) (runs : List TemplateRun) → HasPieces text from at runs → length text ≤ at → open_line text ≡ None
 ended_all text from at runs h past =
     ap (option_map (line_at text)) (h.unended ∙ open_behind-nil at (drop at text) (omega (arith, length-drop at text)))
 
-pub open_here : (text slice : List ℕ) (from at line : ℕ) (runs : List Run) → HasPieces text from at runs → at < length text → slice ≡ drop at text →
+pub open_here : (text slice : List ℕ) (from at line : ℕ) (runs : List TemplateRun) → HasPieces text from at runs → at < length text → slice ≡ drop at text →
     front.Open ≡ front_at slice → line ≡ line_at text at → open_line text ≡ Some line
 open_here text slice from at line runs h within slice_is is line_is =
     ap (option_map (line_at text)) (h.unended ∙ open_behind-open at (drop at text) (omega (arith, length-drop at text)) (is ∙ ap front_at slice_is)) ∙ ap Some (sym line_is)

@@ -1,45 +1,42 @@
 -- The lines of a template (Privoxy's manual, "Privoxy's Template Files"): lines that begin with `#` are left out, and one that
 -- includes another text stands for that text.
-use Rattle.std.specs.Prelude.{ℕ, ◌-◌, Bool, ◌&&◌, ◌==◌, nat_eq, List, [], ◌∷◌, length, take, drop, slice_index, find, filter_map, flat_map, Option, Some, None, option_map, option_and_then, codes, if◌then◌else◌}
+use Rattle.std.specs.Prelude.{ℕ, ◌-◌, Bool, ◌&&◌, ◌==◌, nat_eq, List, [], ◌∷◌, length, take, drop, slice_index, find, filter_map, flat_map, Option, None, option_map, option_and_then, codes, if◌then◌else◌}
 use Rattle.std.specs.List.{starts_with, ends_with}
 use Rattle.std.specs.Option.{option_map_or}
 use Rattle.std.specs.Str.{bytes_eq}
 use Rattle.px_base.specs.Blanks.{is_blank, trimmed}
+use Rattle.px_base.specs.Lists.{nonempty}
 
 -- a byte in front of the first of lines
-abbrev pub in_front : ℕ → List (List ℕ) → List (List ℕ)
-in_front b [] = (b ∷ []) ∷ []
-in_front b (line ∷ rest) = (b ∷ line) ∷ rest
+abbrev pub in_front_of_lines : ℕ → List (List ℕ) → List (List ℕ)
+in_front_of_lines b [] = (b ∷ []) ∷ []
+in_front_of_lines b (line ∷ rest) = (b ∷ line) ∷ rest
 
 -- the lines of a text, each with the LF that ends it
-unfoldable pub lines_of : List ℕ → List (List ℕ)
-lines_of [] = []
-lines_of (b ∷ bs) = if b == 10 then (b ∷ []) ∷ lines_of bs else in_front b (lines_of bs)
+unfoldable pub text_lines : List ℕ → List (List ℕ)
+text_lines [] = []
+text_lines (b ∷ bs) = if b == 10 then (b ∷ []) ∷ text_lines bs else in_front_of_lines b (text_lines bs)
 
 abbrev pub is_comment : List ℕ → Bool
 is_comment line = starts_with nat_eq line (codes "#")
 
 -- the bytes without that byte at their end
-abbrev pub without_last : ℕ → List ℕ → List ℕ
-without_last b bs = if ends_with nat_eq bs (b ∷ []) then take (length bs - 1) bs else bs
+abbrev pub without_end_byte : ℕ → List ℕ → List ℕ
+without_end_byte b bs = if ends_with nat_eq bs (b ∷ []) then take (length bs - 1) bs else bs
 
 -- what stands behind `#include` on a line, without the LF, without white space at both ends, and without a CR at the end
-abbrev pub name_behind : List ℕ → List ℕ
-name_behind rest = trimmed (without_last 13 (trimmed (without_last 10 rest)))
-
-abbrev pub nonempty : List ℕ → Option (List ℕ)
-nonempty [] = None
-nonempty (b ∷ bs) = Some (b ∷ bs)
+abbrev pub name_behind_include : List ℕ → List ℕ
+name_behind_include rest = trimmed (without_end_byte 13 (trimmed (without_end_byte 10 rest)))
 
 -- the name of the text that a line includes, if it includes one: `#include`, white space and the name
 unfoldable pub included_name : List ℕ → Option (List ℕ)
 included_name line =
     if starts_with nat_eq line (codes "#include") && is_blank (slice_index line 8)
-    then nonempty (name_behind (drop 8 line)) else None
+    then nonempty (name_behind_include (drop 8 line)) else None
 
 -- the names of the texts that a text includes, in order
 abbrev pub included_names : List ℕ → List (List ℕ)
-included_names text = filter_map included_name (lines_of text)
+included_names text = filter_map included_name (text_lines text)
 
 -- the first text of that name
 abbrev pub text_named : List (List ℕ × List ℕ) → List ℕ → Option (List ℕ)
@@ -47,7 +44,7 @@ text_named includes name = option_map (λ i. i.1) (find (λ i. bytes_eq i.0 name
 
 -- the lines that don't begin with `#`
 unfoldable pub without_comments : List ℕ → List ℕ
-without_comments text = flat_map (λ line. if is_comment line then [] else line) (lines_of text)
+without_comments text = flat_map (λ line. if is_comment line then [] else line) (text_lines text)
 
 -- the text that a line includes; a name that is missing gives nothing
 abbrev pub included : List (List ℕ × List ℕ) → List ℕ → List ℕ
@@ -59,4 +56,4 @@ line_text includes line = if is_comment line then included includes line else li
 
 -- a template's text without the lines that are left out, and with the texts that it includes
 unfoldable pub assembled : List (List ℕ × List ℕ) → List ℕ → List ℕ
-assembled includes text = flat_map (line_text includes) (lines_of text)
+assembled includes text = flat_map (line_text includes) (text_lines text)

@@ -32,22 +32,22 @@ page_status ConnectDenied = codes "403 Forbidden"
 page_status BadRewrite = codes "500 Internal Server Error"
 
 -- what the built-in template of a page says: its name, and on two pages a value
-abbrev pub page_text : Page → List ℕ
-page_text Blocked = codes "blocked: @block-reason@"
-page_text ConnectFailed = page_name ConnectFailed
-page_text NoSuchDomain = page_name NoSuchDomain
-page_text ForwardingFailed = page_name ForwardingFailed
-page_text NoServerData = page_name NoServerData
-page_text InvalidRequest = codes "invalid-request: @error@"
-page_text HeadTooLong = page_name HeadTooLong
-page_text BadReply = page_name BadReply
-page_text SendFailed = page_name SendFailed
-page_text ConnectDenied = page_name ConnectDenied
-page_text BadRewrite = page_name BadRewrite
+abbrev pub built_in_text : Page → List ℕ
+built_in_text Blocked = codes "blocked: @block-reason@"
+built_in_text ConnectFailed = page_name ConnectFailed
+built_in_text NoSuchDomain = page_name NoSuchDomain
+built_in_text ForwardingFailed = page_name ForwardingFailed
+built_in_text NoServerData = page_name NoServerData
+built_in_text InvalidRequest = codes "invalid-request: @error@"
+built_in_text HeadTooLong = page_name HeadTooLong
+built_in_text BadReply = page_name BadReply
+built_in_text SendFailed = page_name SendFailed
+built_in_text ConnectDenied = page_name ConnectDenied
+built_in_text BadRewrite = page_name BadRewrite
 
 -- the template of a page where an operator wrote none
 abbrev pub built_in : Page → List ℕ
-built_in page = codes "<html><body>" ++ page_text page ++ codes "</body></html>" ++ 10 ∷ []
+built_in page = codes "<html><body>" ++ built_in_text page ++ codes "</body></html>" ++ 10 ∷ []
 
 -- the place of a page among all pages
 abbrev pub page_rank : Page → ℕ

@@ -4,21 +4,21 @@ use Rattle.std.specs.List.{starts_with}
 use Rattle.std.specs.Option.{option_map_or}
 use Rattle.px_templates.specs.declared.symbols.Symbol.{Symbol}
 use Rattle.px_templates.specs.declared.conditions.Condition.{Condition}
-use Rattle.px_templates.specs.declared.fronts.Front.{Front}
-use Rattle.px_templates.specs.declared.fronts.Front.TheVariants as front
+use Rattle.px_templates.specs.declared.fronts.TemplateFront.{TemplateFront}
+use Rattle.px_templates.specs.declared.fronts.TemplateFront.TheVariants as front
 use Rattle.px_templates.specs.Symbols.{mark_of, symbol_at, start_of, end_of, condition_at}
 
 -- a byte as it is, or the value of a symbol
-pub data Part : Type 0 where
-  byte : ℕ → Part
-  value : Symbol → Part
+pub data PiecePart : Type 0 where
+  byte : ℕ → PiecePart
+  value : Symbol → PiecePart
 
 -- a part, and the condition of the block that it stands in, if it stands in one
 pub record Piece : Type 0 where
   pub condition : Option Condition
-  pub part : Part
+  pub part : PiecePart
 
-abbrev pub part_in : Option Condition → Part → Piece
+abbrev pub part_in : Option Condition → PiecePart → Piece
 part_in c p = record { condition = c; part = p }
 
 -- bytes as they are
@@ -39,24 +39,24 @@ end_place c [] = None
 end_place c (b ∷ bs) = if starts_with nat_eq (b ∷ bs) (end_of c) then Some 0 else option_map (λ n. n + 1) (end_place c bs)
 
 -- a block whose first mark begins the text, or that mark where no other ends it
-abbrev pub block_at : Condition → List ℕ → Front
+abbrev pub block_at : Condition → List ℕ → TemplateFront
 block_at c text = option_map_or (λ n. front.Block c n) (end_place c (drop (length (start_of c)) text)) front.Open
 
 -- what stands at the front of a text that no block holds: a symbol, a block with so many bytes between its marks, a first mark
 -- that isn't ended, or a byte
-unfoldable pub front_at : List ℕ → Front
+unfoldable pub front_at : List ℕ → TemplateFront
 front_at text =
     option_map_or front.Value (symbol_at text) (option_map_or (λ c. block_at c text) (condition_at text) front.Byte)
 
 -- how many bytes that takes
-abbrev pub width : Front → ℕ
+abbrev pub width : TemplateFront → ℕ
 width front.Byte = 1
 width (front.Value s) = length (mark_of s)
 width (front.Block c n) = length (start_of c) + n + length (end_of c)
 width front.Open = 1
 
 -- the pieces of what stands at the front of a text
-abbrev pub front_pieces : Front → List ℕ → List Piece
+abbrev pub front_pieces : TemplateFront → List ℕ → List Piece
 front_pieces front.Byte text = plain None (take 1 text)
 front_pieces (front.Value s) text = part_in None (value s) ∷ []
 front_pieces (front.Block c n) text = parts_behind (Some c) 0 (take n (drop (length (start_of c)) text))
@@ -72,7 +72,7 @@ abbrev pub pieces_of : List ℕ → List Piece
 pieces_of text = pieces_behind 0 text
 
 -- a place where a first mark isn't ended, or a later such place
-abbrev pub open_or : ℕ → Front → Option ℕ → Option ℕ
+abbrev pub open_or : ℕ → TemplateFront → Option ℕ → Option ℕ
 open_or at front.Open later = Some at
 open_or at front.Byte later = later
 open_or at (front.Value s) later = later

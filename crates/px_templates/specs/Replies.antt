@@ -5,14 +5,14 @@ use Rattle.px_templates.specs.declared.replies.Local.{Local}
 use Rattle.px_templates.specs.declared.replies.Local.TheVariants as kind
 use Rattle.px_templates.specs.Pages.{page_status}
 
-abbrev pub crlf : List ℕ
-crlf = 13 ∷ 10 ∷ []
+abbrev pub reply_crlf : List ℕ
+reply_crlf = 13 ∷ 10 ∷ []
 
-abbrev pub field : List ℕ → List ℕ → List ℕ
-field name value = name ++ codes ": " ++ value ++ crlf
+abbrev pub reply_field : List ℕ → List ℕ → List ℕ
+reply_field name value = name ++ codes ": " ++ value ++ reply_crlf
 
-abbrev pub status_line : List ℕ → List ℕ
-status_line status = codes "HTTP/1.1 " ++ status ++ crlf
+abbrev pub reply_status_line : List ℕ → List ℕ
+reply_status_line status = codes "HTTP/1.1 " ++ status ++ reply_crlf
 
 -- the status and its phrase
 abbrev pub status_of : Local → List ℕ
@@ -35,11 +35,11 @@ first_value (kind.Empty ok) = codes "text/html"
 first_value (kind.Redirect target) = target
 
 -- the body: the page or the image that is given, a space, or nothing
-abbrev pub body_of : Local → List ℕ → List ℕ
-body_of (kind.Page page) body = body
-body_of kind.Image body = body
-body_of (kind.Empty ok) body = codes " "
-body_of (kind.Redirect target) body = []
+abbrev pub reply_body : Local → List ℕ → List ℕ
+reply_body (kind.Page page) body = body
+reply_body kind.Image body = body
+reply_body (kind.Empty ok) body = codes " "
+reply_body (kind.Redirect target) body = []
 
 abbrev pub close_word : Bool → List ℕ
 close_word close = if close then codes "close" else codes "keep-alive"
@@ -47,10 +47,10 @@ close_word close = if close then codes "close" else codes "keep-alive"
 -- the head of a reply with a body of that length
 unfoldable pub head_of : Local → ℕ → Bool → List ℕ
 head_of kind n close =
-    status_line (status_of kind) ++ field (first_name kind) (first_value kind) ++ field (codes "Content-Length") (decimal n)
-    ++ field (codes "Cache-Control") (codes "no-cache") ++ field (codes "Connection") (close_word close) ++ crlf
+    reply_status_line (status_of kind) ++ reply_field (first_name kind) (first_value kind) ++ reply_field (codes "Content-Length") (decimal n)
+    ++ reply_field (codes "Cache-Control") (codes "no-cache") ++ reply_field (codes "Connection") (close_word close) ++ reply_crlf
 
 -- the reply; where it has no body, the fields stay
 unfoldable pub reply_of : Local → List ℕ → Bool → Bool → List ℕ
 reply_of kind body close bodiless =
-    head_of kind (length (body_of kind body)) close ++ (if bodiless then [] else body_of kind body)
+    head_of kind (length (reply_body kind body)) close ++ (if bodiless then [] else reply_body kind body)

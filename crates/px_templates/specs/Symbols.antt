@@ -17,14 +17,14 @@ mark_of symbol.BlockReason = codes "@block-reason@"
 mark_of symbol.Error = codes "@error@"
 mark_of symbol.Parent = codes "@parent@"
 
-abbrev pub value_of : Symbols → Symbol → List ℕ
-value_of symbols symbol.Hostname = symbols.hostname
-value_of symbols symbol.Port = symbols.port
-value_of symbols symbol.Path = symbols.path
-value_of symbols symbol.Url = symbols.url
-value_of symbols symbol.BlockReason = symbols.block_reason
-value_of symbols symbol.Error = symbols.error
-value_of symbols symbol.Parent = symbols.parent
+abbrev pub symbol_value : Symbols → Symbol → List ℕ
+symbol_value symbols symbol.Hostname = symbols.hostname
+symbol_value symbols symbol.Port = symbols.port
+symbol_value symbols symbol.Path = symbols.path
+symbol_value symbols symbol.Url = symbols.url
+symbol_value symbols symbol.BlockReason = symbols.block_reason
+symbol_value symbols symbol.Error = symbols.error
+symbol_value symbols symbol.Parent = symbols.parent
 
 abbrev pub all_symbols : List Symbol
 all_symbols = symbol.Hostname ∷ symbol.Port ∷ symbol.Path ∷ symbol.Url ∷ symbol.BlockReason ∷ symbol.Error ∷ symbol.Parent ∷ []
@@ -52,5 +52,5 @@ symbol_of condition.BlockReason = symbol.BlockReason
 symbol_of condition.Parent = symbol.Parent
 
 -- the value isn't empty
-abbrev pub holds : Symbols → Condition → Bool
-holds symbols c = not (length (value_of symbols (symbol_of c)) == 0)
+abbrev pub condition_holds : Symbols → Condition → Bool
+condition_holds symbols c = not (length (symbol_value symbols (symbol_of c)) == 0)

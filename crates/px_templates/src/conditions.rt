@@ -1,6 +1,6 @@
 // The conditions of a template: values by which a block stands or falls.
 ghost use Rattle.std.specs.Prelude.{◌≡◌, ◌≤◌, length, IfSome};
-ghost use Rattle.px_templates.specs.Symbols.{condition_at, end_of, holds, start_of, symbol_of};
+ghost use Rattle.px_templates.specs.Symbols.{condition_at, end_of, condition_holds, start_of, symbol_of};
 
 use crate::symbols::{Symbol, Symbols};
 
@@ -48,7 +48,7 @@ impl Condition {
 
     /// Whether the block stands.
     pub(crate) fn holds(self, symbols: &Symbols) -> bool
-        ensures { result ≡ holds symbols.now self }
+        ensures { result ≡ condition_holds symbols.now self }
     {
         !symbols.value(self.symbol()).is_empty()
     }

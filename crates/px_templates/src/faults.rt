@@ -15,12 +15,12 @@ pub enum TemplateFault {
 }
 
 impl TemplateFault {
-    ghost use Rattle.px_templates.specs.Faults.{name_of, number_of};
+    ghost use Rattle.px_templates.specs.Faults.{template_fault_name, template_fault_number};
 
     /// The number under which the refusal is printed. Want of memory has none.
     pub fn number(self) -> u8
         requires { self ≢ TemplateFault.Mem }
-        ensures { result ≡ number_of self }
+        ensures { result ≡ template_fault_number self }
     {
         match self {
             TemplateFault::OpenCondition { line: _ } => 28,
@@ -30,7 +30,7 @@ impl TemplateFault {
 
     /// The name under which the refusal is printed.
     pub fn name(self) -> &'static str
-        ensures { result.now ≡ name_of self }
+        ensures { result.now ≡ template_fault_name self }
     {
         match self {
             TemplateFault::OpenCondition { line: _ } => "OpenCondition",
@@ -41,9 +41,9 @@ impl TemplateFault {
 
 impl fmt::Display for TemplateFault {
     ghost use Rattle.std.specs.Prelude.{Some};
-    ghost use Rattle.px_templates.specs.Faults.{name_of};
+    ghost use Rattle.px_templates.specs.Faults.{template_fault_name};
 
-    ghost output = { λ fault. Some (name_of fault) };
+    ghost output = { λ fault. Some (template_fault_name fault) };
 
     fn fmt<W: fmt::Write>(&self, f: &mut fmt::Formatter<W>) -> fmt::Result {
         let name = self.name();

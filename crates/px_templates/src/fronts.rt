@@ -8,7 +8,7 @@ use crate::symbols::Symbol;
 
 /// What stands at the front of a text.
 #[derive(Clone, Copy, Debug)]
-pub(crate) enum Front {
+pub(crate) enum TemplateFront {
     /// A byte.
     Byte,
     /// The mark of a symbol.
@@ -19,32 +19,32 @@ pub(crate) enum Front {
     Open,
 }
 
-impl Front {
+impl TemplateFront {
     #[tactic(auto, unfolding(crate::specs::Pieces::front_at))]
-    pub(crate) fn at(text: &[u8]) -> Front
+    pub(crate) fn at(text: &[u8]) -> TemplateFront
         requires { 0 < length text.now }
         ensures front { result ≡ front_at text.now }
         ensures within { width result ≤ length text.now }
     {
         match Symbol::at(text) {
-            Some(symbol) => Front::Value(symbol),
+            Some(symbol) => TemplateFront::Value(symbol),
             None => match Condition::at(text) {
                 Some(condition) => block_at(condition, text),
-                None => Front::Byte,
+                None => TemplateFront::Byte,
             },
         }
     }
 }
 
 /// The block whose first mark begins the text.
-fn block_at(condition: Condition, text: &[u8]) -> Front
+fn block_at(condition: Condition, text: &[u8]) -> TemplateFront
     requires { length (start_of condition) ≤ length text.now }
     ensures front { result ≡ block_at condition text.now }
     ensures within { width result ≤ length text.now }
 {
     match end_place(condition, &text[condition.start().len()..]) {
-        Some(len) => Front::Block(condition, len),
-        None => Front::Open,
+        Some(len) => TemplateFront::Block(condition, len),
+        None => TemplateFront::Open,
     }
 }
 

@@ -1,6 +1,6 @@
 // The lines of a template, and what a line includes.
 ghost use Rattle.std.specs.Prelude.{◌≡◌, ◌∷◌, ◌<◌, length, option_map};
-ghost use Rattle.px_templates.specs.Lines.{included_name, is_comment, lines_of, name_behind, without_last};
+ghost use Rattle.px_templates.specs.Lines.{included_name, is_comment, text_lines, name_behind_include, without_end_byte};
 
 use memchr::memchr;
 use px_base::{is_blank, trim};
@@ -16,7 +16,7 @@ const INCLUDE: &[u8] = b"#include";
 /// The first line with its LF, and what follows it.
 pub fn split_line(text: &[u8]) -> (&[u8], &[u8])
     requires { 0 < length text.now }
-    ensures split { lines_of text.now ≡ result.0.now ∷ lines_of result.1.now }
+    ensures split { text_lines text.now ≡ result.0.now ∷ text_lines result.1.now }
     ensures shorter { length result.1.now < length text.now }
 {
     match memchr(LINE_FEED, text) {
@@ -45,14 +45,14 @@ pub fn included_name(line: &[u8]) -> Option<&[u8]>
 }
 
 fn name_behind(rest: &[u8]) -> &[u8]
-    ensures { result.now ≡ name_behind rest.now }
+    ensures { result.now ≡ name_behind_include rest.now }
 {
     trim(without_last(CARRIAGE_RETURN, trim(without_last(LINE_FEED, rest))))
 }
 
 /// The bytes without that byte at their end.
 fn without_last(byte: u8, bytes: &[u8]) -> &[u8]
-    ensures { result.now ≡ without_last byte bytes.now }
+    ensures { result.now ≡ without_end_byte byte bytes.now }
 {
     if bytes.ends_with(&[byte]) {
         &bytes[..bytes.len() - 1]

@@ -1,7 +1,7 @@
 // Replies that are returned in place of an origin's answer.
 ghost use Rattle.std.specs.Prelude.{◌≡◌, ◌++◌, IfOk, OnOk, length};
 ghost use Rattle.std.specs.Fmt.{decimal};
-ghost use Rattle.px_templates.specs.Replies.{close_word, field, head_of, reply_of, status_line};
+ghost use Rattle.px_templates.specs.Replies.{close_word, reply_field, head_of, reply_of, reply_status_line};
 
 use crate::pages::Page;
 use itoa::Buffer;
@@ -27,7 +27,7 @@ pub enum Local {
 }
 
 impl Local {
-    ghost use Rattle.px_templates.specs.Replies.{body_of, first_name, first_value, status_of};
+    ghost use Rattle.px_templates.specs.Replies.{reply_body, first_name, first_value, status_of};
 
     fn status(&self) -> &'static [u8]
         ensures { result.now ≡ status_of self.now }
@@ -66,7 +66,7 @@ impl Local {
     }
 
     fn body<'b>(&self, body: &'b [u8]) -> &'b [u8]
-        ensures { result.now ≡ body_of self.now body.now }
+        ensures { result.now ≡ reply_body self.now body.now }
     {
         match self {
             Local::Page(_) => body,
@@ -112,7 +112,7 @@ fn push_head(kind: &Local, len: usize, close: bool, out: &mut Text) -> Result<()
 }
 
 fn push_status(status: &[u8], out: &mut Text) -> Result<(), Mem>
-    ensures { OnOk result (out.new ≡ out.old ++ status_line status.now) }
+    ensures { OnOk result (out.new ≡ out.old ++ reply_status_line status.now) }
 {
     out.push_all(b"HTTP/1.1 ")?;
     out.push_all(status)?;
@@ -120,7 +120,7 @@ fn push_status(status: &[u8], out: &mut Text) -> Result<(), Mem>
 }
 
 fn push_field(name: &[u8], value: &[u8], out: &mut Text) -> Result<(), Mem>
-    ensures { OnOk result (out.new ≡ out.old ++ field name.now value.now) }
+    ensures { OnOk result (out.new ≡ out.old ++ reply_field name.now value.now) }
 {
     out.push_all(name)?;
     out.push_all(b": ")?;

@@ -1,8 +1,8 @@
 // The pieces of a template as they are kept.
 ghost use Rattle.std.specs.Prelude.{◌≡◌, ◌++◌, ◌∷◌, [], ◌-◌, ◌^◌, OnOk, length, min, option_map, unwrap_or};
-ghost use Rattle.px_templates.specs.Pieces.{Part, part_in, parts_behind, plain};
-ghost use Rattle.px_templates.specs.Rendering.{escaped, escaped_byte, rendered, stands};
-ghost use Rattle.px_templates.specs.Runs.{held};
+ghost use Rattle.px_templates.specs.Pieces.{PiecePart, part_in, parts_behind, plain};
+ghost use Rattle.px_templates.specs.Rendering.{escaped, escaped_byte, rendered, run_stands};
+ghost use Rattle.px_templates.specs.Runs.{held_pieces};
 
 use crate::conditions::Condition;
 use crate::symbols::{Symbol, Symbols};
@@ -11,50 +11,50 @@ use std::alloc::Global;
 
 /// Bytes that stand together, or the value of a symbol.
 #[derive(Drop)]
-pub(crate) enum Content {
+pub(crate) enum RunContent {
     Bytes(Text),
     Value(Symbol),
 }
 
 /// A content, and the condition of the block that it stands in, if it stands in one.
 #[derive(Drop)]
-pub(crate) struct Run {
+pub(crate) struct TemplateRun {
     pub(crate) condition: Option<Condition>,
-    pub(crate) content: Content,
+    pub(crate) content: RunContent,
 }
 
 /// Adds bytes as they are.
-#[tactic(auto, unfolding(crate::specs::Runs::held))]
+#[tactic(auto, unfolding(crate::specs::Runs::held_pieces))]
 pub(crate) fn push_bytes(
     alloc: Global,
     condition: Option<Condition>,
     bytes: &[u8],
-    runs: &mut Vec<Run>,
+    runs: &mut Vec<TemplateRun>,
 ) -> Result<(), Mem>
-    ensures { OnOk result (held runs.new.items ≡ held runs.old.items ++ plain condition bytes.now) }
+    ensures { OnOk result (held_pieces runs.new.items ≡ held_pieces runs.old.items ++ plain condition bytes.now) }
 {
     if bytes.is_empty() {
         return Ok(());
     }
-    runs.push(Run {
+    runs.push(TemplateRun {
         condition,
-        content: Content::Bytes(Text::from_bytes(alloc, bytes)?),
+        content: RunContent::Bytes(Text::from_bytes(alloc, bytes)?),
     })?;
     Ok(())
 }
 
 /// Adds the value of a symbol.
-#[tactic(auto, unfolding(crate::specs::Runs::held))]
+#[tactic(auto, unfolding(crate::specs::Runs::held_pieces))]
 pub(crate) fn push_value(
     condition: Option<Condition>,
     symbol: Symbol,
-    runs: &mut Vec<Run>,
+    runs: &mut Vec<TemplateRun>,
 ) -> Result<(), Mem>
-    ensures { OnOk result (held runs.new.items ≡ held runs.old.items ++ part_in condition (Part.value symbol) ∷ []) }
+    ensures { OnOk result (held_pieces runs.new.items ≡ held_pieces runs.old.items ++ part_in condition (PiecePart.value symbol) ∷ []) }
 {
-    runs.push(Run {
+    runs.push(TemplateRun {
         condition,
-        content: Content::Value(symbol),
+        content: RunContent::Value(symbol),
     })?;
     Ok(())
 }
@@ -64,9 +64,9 @@ pub(crate) fn push_parts(
     alloc: Global,
     condition: Option<Condition>,
     text: &[u8],
-    runs: &mut Vec<Run>,
+    runs: &mut Vec<TemplateRun>,
 ) -> Result<(), Mem>
-    ensures { OnOk result (held runs.new.items ≡ held runs.old.items ++ parts_behind condition 0 text.now) }
+    ensures { OnOk result (held_pieces runs.new.items ≡ held_pieces runs.old.items ++ parts_behind condition 0 text.now) }
 {
     let mut from = 0;
     let mut at = 0;
@@ -84,7 +84,7 @@ pub(crate) fn push_parts(
     push_bytes(alloc, condition, &text[from..], runs)
 }
 
-impl Run {
+impl TemplateRun {
     ghost use Rattle.px_templates.specs.Runs.{run_pieces};
 
     /// Adds what the run gives with these values.
@@ -95,8 +95,8 @@ impl Run {
             return Ok(());
         }
         match &self.content {
-            Content::Bytes(bytes) => out.push_all(bytes.as_bytes()),
-            Content::Value(symbol) => push_escaped(symbols.value(*symbol), out),
+            RunContent::Bytes(bytes) => out.push_all(bytes.as_bytes()),
+            RunContent::Value(symbol) => push_escaped(symbols.value(*symbol), out),
         }
     }
 
@@ -108,14 +108,14 @@ impl Run {
             return 0;
         }
         match &self.content {
-            Content::Bytes(bytes) => bytes.len(),
-            Content::Value(symbol) => escaped_room(symbols.value(*symbol)),
+            RunContent::Bytes(bytes) => bytes.len(),
+            RunContent::Value(symbol) => escaped_room(symbols.value(*symbol)),
         }
     }
 
     /// Whether the block that the run stands in stands, if it stands in one.
     fn stands(&self, symbols: &Symbols) -> bool
-        ensures { result ≡ stands symbols.now self.now.condition }
+        ensures { result ≡ run_stands symbols.now self.now.condition }
     {
         match self.condition {
             Some(condition) => condition.holds(symbols),

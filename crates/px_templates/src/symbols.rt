@@ -1,6 +1,6 @@
 // The symbols of a template and their values.
 ghost use Rattle.std.specs.Prelude.{◌≡◌, ◌≤◌, length, IfSome};
-ghost use Rattle.px_templates.specs.Symbols.{mark_of, symbol_at, value_of};
+ghost use Rattle.px_templates.specs.Symbols.{mark_of, symbol_at, symbol_value};
 
 use px_base::Text;
 
@@ -78,7 +78,7 @@ impl Symbol {
 
 impl Symbols {
     pub(crate) fn value(&self, symbol: Symbol) -> &[u8]
-        ensures { result.now ≡ value_of self.now symbol }
+        ensures { result.now ≡ symbol_value self.now symbol }
     {
         match symbol {
             Symbol::Hostname => self.hostname.as_bytes(),

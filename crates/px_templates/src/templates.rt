@@ -4,12 +4,12 @@ ghost use Rattle.px_templates.specs.Faults.{IsAt};
 ghost use Rattle.px_templates.specs.Lines.{assembled};
 ghost use Rattle.px_templates.specs.Pieces.{line_at, open_line, pieces_of};
 ghost use Rattle.px_templates.specs.Rendering.{rendered};
-ghost use Rattle.px_templates.specs.Runs.{held};
+ghost use Rattle.px_templates.specs.Runs.{held_pieces};
 
 use crate::assembling::assemble;
 use crate::faults::TemplateFault;
-use crate::fronts::Front;
-use crate::runs::{Run, push_bytes, push_parts, push_value};
+use crate::fronts::TemplateFront;
+use crate::runs::{TemplateRun, push_bytes, push_parts, push_value};
 use crate::symbols::Symbols;
 use px_base::{Mem, Text};
 use std::alloc::Global;
@@ -18,17 +18,17 @@ use std::marker::Model;
 /// The template of a page, seen as its pieces (Privoxy's manual, "Privoxy's Template Files").
 #[derive(Drop)]
 pub struct Template {
-    runs: Vec<Run>,
+    runs: Vec<TemplateRun>,
 }
 
 impl Model for Template {
     ghost use Rattle.std.specs.Prelude.{List};
     ghost use Rattle.px_templates.specs.Pieces.{Piece};
-    ghost use Rattle.px_templates.specs.Runs.{held};
+    ghost use Rattle.px_templates.specs.Runs.{held_pieces};
 
     ghost Value = { List Piece };
 
-    ghost view = { λ t. held t.runs.items };
+    ghost view = { λ t. held_pieces t.runs.items };
 }
 
 impl Template {
@@ -52,7 +52,7 @@ impl Template {
 
     /// The page with these values. In a value `&`, `<`, `>` and `"` are escaped, and it isn't searched for symbols. A block
     /// is left out where its value is empty.
-    #[tactic(auto, unfolding(crate::specs::Rendering::rendered, crate::specs::Runs::held))]
+    #[tactic(auto, unfolding(crate::specs::Rendering::rendered, crate::specs::Runs::held_pieces))]
     pub fn render(&self, alloc: Global, symbols: &Symbols) -> Result<Text, Mem>
         ensures { IfOk result (λ page. page ≡ rendered symbols.now self.now) }
     {
@@ -76,8 +76,8 @@ impl Template {
 }
 
 /// The pieces of a text.
-fn read_runs(alloc: Global, text: &[u8]) -> Result<Vec<Run>, TemplateFault>
-    ensures pieces { IfOk result (λ runs. held runs.items ≡ pieces_of text.now) }
+fn read_runs(alloc: Global, text: &[u8]) -> Result<Vec<TemplateRun>, TemplateFault>
+    ensures pieces { IfOk result (λ runs. held_pieces runs.items ≡ pieces_of text.now) }
     ensures ended { OnOk result (open_line text.now ≡ None) }
     ensures refused { IfErr result (IsAt (open_line text.now)) }
 {
@@ -85,22 +85,22 @@ fn read_runs(alloc: Global, text: &[u8]) -> Result<Vec<Run>, TemplateFault>
     let mut from = 0;
     let mut at = 0;
     'fronts: while at < text.len() {
-        match Front::at(&text[at..]) {
-            Front::Byte => at += 1,
-            Front::Value(symbol) => {
+        match TemplateFront::at(&text[at..]) {
+            TemplateFront::Byte => at += 1,
+            TemplateFront::Value(symbol) => {
                 push_bytes(alloc, None, &text[from..at], &mut runs)?;
                 push_value(None, symbol, &mut runs)?;
                 at += symbol.mark().len();
                 from = at;
             }
-            Front::Block(condition, len) => {
+            TemplateFront::Block(condition, len) => {
                 push_bytes(alloc, None, &text[from..at], &mut runs)?;
                 let begin = at + condition.start().len();
                 push_parts(alloc, Some(condition), &text[begin..begin + len], &mut runs)?;
                 at = begin + len + condition.end().len();
                 from = at;
             }
-            Front::Open => {
+            TemplateFront::Open => {
                 return Err(TemplateFault::OpenCondition {
                     line: line_at(text, at),
                 });

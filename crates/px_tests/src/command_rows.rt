@@ -1,11 +1,11 @@
 //! Words, files and printed lines of the commands, and the generated job.
-#![tactic(auto, unfolding(core::specs::Fmt::digits, px_base::specs::Numbers::decimal, px_commands::specs::Entries::first_entry, px_generated::specs::Draws::after_draws, px_generated::specs::Files::filter_text, px_generated::specs::Files::place, px_generated::specs::Files::section, px_generated::specs::Files::section_from, px_generated::specs::Files::update_of, px_generated::specs::Sessions::answer_bytes, px_generated::specs::Sessions::answer_front, px_generated::specs::Sessions::request, px_generated::specs::Sessions::request_from, px_show::specs::Showing::counted, px_show::specs::Showing::file_counts, px_show::specs::Showing::filter_counts, px_show::specs::Showing::note_lines, px_show::specs::Showing::pattern_counts, px_show::specs::Showing::ref_lines))]
+#![tactic(auto, unfolding(core::specs::Fmt::digits, px_base::specs::Numbers::decimal, px_commands::specs::Entries::first_counted_entry, px_generated::specs::Draws::after_draws, px_generated::specs::Files::filter_text, px_generated::specs::Files::host_and_path, px_generated::specs::Files::section, px_generated::specs::Files::section_from, px_generated::specs::Files::update_of, px_generated::specs::Sessions::answer_bytes, px_generated::specs::Sessions::answer_front, px_generated::specs::Sessions::generated_request, px_generated::specs::Sessions::request_from, px_show::specs::Showing::shown_count, px_show::specs::Showing::file_counts, px_show::specs::Showing::filter_counts, px_show::specs::Showing::note_lines, px_show::specs::Showing::pattern_counts, px_show::specs::Showing::ref_lines))]
 
 ghost use Rattle.std.specs.Prelude.{◌≡◌, ◌∷◌, ◌^◌, ◌-◌, [], Some, None, true, false, codes};
-ghost use Rattle.px_commands.specs.Entries.{first_entry};
+ghost use Rattle.px_commands.specs.Entries.{first_counted_entry};
 ghost use Rattle.px_commands.specs.Sents.{sent_text};
 ghost use Rattle.px_commands.specs.Statuses.{code_of};
-ghost use Rattle.px_commands.specs.Words.{count_of, most_of, no_flags, number_of};
+ghost use Rattle.px_commands.specs.Words.{count_in_word, most_of, no_flags, number_in_word};
 ghost use Rattle.px_commands.specs.declared.statuses.Status.TheVariants as status;
 ghost use Rattle.px_generated.specs.Draws.{after_draws, first_draw, second_draw, third_draw};
 ghost use Rattle.px_generated.specs.Files.{filter_text, section_from, update_of};
@@ -14,28 +14,28 @@ ghost use Rattle.px_show.specs.Showing.{file_counts, filter_counts, note_lines, 
 
 /// WORKERS is a number from 1 to 64, and CONNECTIONS one from 1 to 4,294,967,295.
 fn numbers_of_workers()
-    ensures least { count_of 64 (codes "1") ≡ Some 1 }
-    ensures most { count_of 64 (codes "64") ≡ Some 64 }
-    ensures zero { count_of 64 (codes "0") ≡ None }
-    ensures above { count_of 64 (codes "65") ≡ None }
-    ensures long { number_of 2147483647 (codes "00000000001") ≡ None }
+    ensures least { count_in_word 64 (codes "1") ≡ Some 1 }
+    ensures most { count_in_word 64 (codes "64") ≡ Some 64 }
+    ensures zero { count_in_word 64 (codes "0") ≡ None }
+    ensures above { count_in_word 64 (codes "65") ≡ None }
+    ensures long { number_in_word 2147483647 (codes "00000000001") ≡ None }
     ensures no_number { most_of [] ≡ Some (2 ^ 64 - 1) }
     ensures connections { most_of (codes "2" ∷ codes "3" ∷ []) ≡ Some 3 }
     ensures three_numbers { most_of (codes "2" ∷ codes "3" ∷ codes "4" ∷ []) ≡ None }
     ensures great_number { most_of (codes "2" ∷ codes "4294967296" ∷ []) ≡ None }
     ensures flag { no_flags (codes "c" ∷ codes "-h" ∷ []) ≡ false }
-    ensures seed { number_of 2147483647 (codes "2147483647") ≡ Some 2147483647 }
-    ensures great_seed { number_of 2147483647 (codes "2147483648") ≡ None }
+    ensures seed { number_in_word 2147483647 (codes "2147483647") ≡ Some 2147483647 }
+    ensures great_seed { number_in_word 2147483647 (codes "2147483648") ≡ None }
 {}
 
 /// An entry of ORIGIN is a line with a number and so many bytes; what is behind it is left.
 fn entries_of_origin()
-    ensures entry { first_entry (codes "2\nhi1") ≡ Some (codes "hi", codes "1") }
-    ensures nothing { first_entry (codes "0\n") ≡ Some ([], []) }
-    ensures short { first_entry (codes "3\nhi") ≡ None }
-    ensures no_line { first_entry (codes "2hi") ≡ None }
-    ensures nine_digits { first_entry (codes "000000002\nhi") ≡ None }
-    ensures carriage_return { first_entry (codes "2\r\nhi") ≡ None }
+    ensures entry { first_counted_entry (codes "2\nhi1") ≡ Some (codes "hi", codes "1") }
+    ensures nothing { first_counted_entry (codes "0\n") ≡ Some ([], []) }
+    ensures short { first_counted_entry (codes "3\nhi") ≡ None }
+    ensures no_line { first_counted_entry (codes "2hi") ≡ None }
+    ensures nine_digits { first_counted_entry (codes "000000002\nhi") ≡ None }
+    ensures carriage_return { first_counted_entry (codes "2\r\nhi") ≡ None }
 {}
 
 /// An entry of SENT for each link.

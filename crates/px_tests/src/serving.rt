@@ -1,8 +1,8 @@
 //! The command `serve` over doors in memory.
 ghost use Rattle.std.specs.Prelude.{IfOk};
 ghost use Rattle.px_doors.specs.Conns.{IsFreshConn};
-ghost use Rattle.px_desk.specs.Facts.{Begun};
-ghost use Rattle.px_doors.specs.MemConns.{AreFresh, mem_conn};
+ghost use Rattle.px_desk.specs.Facts.{DoorsBegun};
+ghost use Rattle.px_doors.specs.MemConns.{AreFreshConns, mem_conn};
 
 use crate::common::{same, same_at};
 use px_base::{Answer, FixedClock, List, Mem, MemDialer, MemFiles, Peer, TapeIn, TapeOut, Text};
@@ -76,7 +76,7 @@ fn two_answers(alloc: Global) -> Result<Answer, Mem> {
 
 /// Three connections with one request each.
 fn three_conns(alloc: Global) -> Result<List<MemConn>, Mem>
-    ensures { IfOk result (λ conns. AreFresh conns) }
+    ensures { IfOk result (λ conns. AreFreshConns conns) }
 {
     let conns = vec![in alloc; conn(alloc)?, conn(alloc)?, conn(alloc)?]?;
     Ok(List::from_vec(conns))
@@ -84,7 +84,7 @@ fn three_conns(alloc: Global) -> Result<List<MemConn>, Mem>
 
 /// One connection with two requests.
 fn one_conn(alloc: Global) -> Result<List<MemConn>, Mem>
-    ensures { IfOk result (λ conns. AreFresh conns) }
+    ensures { IfOk result (λ conns. AreFreshConns conns) }
 {
     let conns = vec![in alloc; conn_of_two(alloc)?]?;
     Ok(List::from_vec(conns))
@@ -108,8 +108,8 @@ fn parts_of(
     conns: List<MemConn>,
     fails: &[u64],
 ) -> Result<Parts<MemFiles, MemDoors, TapeOut>, Mem>
-    requires fresh { AreFresh conns }
-    ensures begun { IfOk result (λ parts. Begun (⟦<MemDoors as Doors>⟧.state parts.doors)) }
+    requires fresh { AreFreshConns conns }
+    ensures begun { IfOk result (λ parts. DoorsBegun (⟦<MemDoors as Doors>⟧.state parts.doors)) }
 {
     let doors = MemDoors::new(alloc, conns, fails)?;
     let files = files_of(alloc, main)?;
@@ -134,7 +134,7 @@ fn proxied<R: Threads + Wait + Sync>(
     conns: List<MemConn>,
     fails: &[u64],
 ) -> Result<Proxied<MemFiles, MemDoors, TapeOut>, Fail>
-    requires fresh { AreFresh conns }
+    requires fresh { AreFreshConns conns }
 {
     let parts = parts_of(alloc, main, conns, fails)?;
     let words = words_of(alloc, words)?;

@@ -6,7 +6,7 @@ use px_base::{
 use px_config::{Config, load};
 use px_publish::FixedConfig;
 use px_serve::SessionEnd;
-use px_shared::{Shared, serve_shared};
+use px_shared::{SharedSession, serve_shared};
 use px_ways::Way;
 use std::alloc::Global;
 use std::process::Abort;
@@ -81,8 +81,8 @@ fn lent(rt: &impl Abort, alloc: Global) -> Ends {
 }
 
 /// Asserts that both answers were returned, and that one link was dialled, over which both requests went.
-fn was_shared(rt: &impl Abort, alloc: Global, ends: &Ends, shared: Shared<MemDialer>) {
-    let Shared {
+fn was_shared(rt: &impl Abort, alloc: Global, ends: &Ends, shared: SharedSession<MemDialer>) {
+    let SharedSession {
         session,
         dialer,
         wanting,
@@ -138,7 +138,7 @@ fn a_link_that_gave_too_much_is_not_shared(rt: HostRuntime) {
         &ends.peer,
         &[],
     );
-    let Shared {
+    let SharedSession {
         session,
         dialer,
         wanting: _,

@@ -8,7 +8,7 @@ use Rattle.px_text.specs.declared.TheConstants.{LINE_LIMIT}
 use Rattle.px_text.specs.declared.faults.TextFault.TheVariants.{NotText, TooLong}
 use Rattle.px_text.specs.declared.lines.Line.{Line}
 use Rattle.px_text.specs.Faults.{earlier, first_not_text, first_too_long}
-use Rattle.px_text.specs.Lines.{is_continued, joined, joined_to, kept, part}
+use Rattle.px_text.specs.Lines.{is_continued, joined_lines, joined_to, kept_lines, part}
 
 abbrev pub line_of : ℕ → List ℕ → Line
 line_of number text = record { number = number; text = text }
@@ -21,33 +21,33 @@ joined_to-joined_to m n front back (line ∷ lines) = ap (λ text. line_of m tex
 
 -- what follows where a physical line is continued, and where it isn't
 pub joined_to-continued : (m n : ℕ) (text line : List ℕ) (rest : List (List ℕ)) → is_continued line ≡ true →
-    joined_to m text (joined n (line ∷ rest)) ≡ joined_to m (text ++ part line) (joined (n + 1) rest)
-unfolding joined
-joined_to-continued m n text line rest continued = rw continued (joined_to-joined_to m n text (part line) (joined (n + 1) rest))
+    joined_to m text (joined_lines n (line ∷ rest)) ≡ joined_to m (text ++ part line) (joined_lines (n + 1) rest)
+unfolding joined_lines
+joined_to-continued m n text line rest continued = rw continued (joined_to-joined_to m n text (part line) (joined_lines (n + 1) rest))
 
 pub joined_to-last : (m n : ℕ) (text line : List ℕ) (rest : List (List ℕ)) → is_continued line ≡ false →
-    joined_to m text (joined n (line ∷ rest)) ≡ line_of m (text ++ part line) ∷ joined (n + 1) rest
-unfolding joined joined_to
+    joined_to m text (joined_lines n (line ∷ rest)) ≡ line_of m (text ++ part line) ∷ joined_lines (n + 1) rest
+unfolding joined_lines joined_to
 joined_to-last m n text line rest last = rw last refl
 
 -- an empty text in front changes nothing
-joined_to-own : (n : ℕ) (line : List ℕ) (rest : List (List ℕ)) → joined_to n [] (joined n (line ∷ rest)) ≡ joined n (line ∷ rest)
-unfolding joined joined_to
+joined_to-own : (n : ℕ) (line : List ℕ) (rest : List (List ℕ)) → joined_to n [] (joined_lines n (line ∷ rest)) ≡ joined_lines n (line ∷ rest)
+unfolding joined_lines joined_to
 joined_to-own n line rest =
-    elim (cases_Bool (is_continued line)) [ inl does ↦ rw does (joined_to-joined_to n n [] (part line) (joined (n + 1) rest)) | inr fails ↦ rw fails refl ]
+    elim (cases_Bool (is_continued line)) [ inl does ↦ rw does (joined_to-joined_to n n [] (part line) (joined_lines (n + 1) rest)) | inr fails ↦ rw fails refl ]
 
-pub kept-own : (n : ℕ) (rest : List (List ℕ)) → kept (joined_to n [] (joined n rest)) ≡ kept (joined n rest)
-unfolding joined joined_to kept trimmed
+pub kept-own : (n : ℕ) (rest : List (List ℕ)) → kept_lines (joined_to n [] (joined_lines n rest)) ≡ kept_lines (joined_lines n rest)
+unfolding joined_lines joined_to kept_lines trimmed
 kept-own n [] = refl
-kept-own n (line ∷ rest) = ap kept (joined_to-own n line rest)
+kept-own n (line ∷ rest) = ap kept_lines (joined_to-own n line rest)
 
-pub first_too_long-own : (n : ℕ) (rest : List (List ℕ)) → first_too_long (joined_to n [] (joined n rest)) ≡ first_too_long (joined n rest)
-unfolding joined joined_to first_too_long
+pub first_too_long-own : (n : ℕ) (rest : List (List ℕ)) → first_too_long (joined_to n [] (joined_lines n rest)) ≡ first_too_long (joined_lines n rest)
+unfolding joined_lines joined_to first_too_long
 first_too_long-own n [] = refl
 first_too_long-own n (line ∷ rest) = ap first_too_long (joined_to-own n line rest)
 
-pub kept-cons : (line : Line) (lines : List Line) → kept (line ∷ lines) ≡ kept (line ∷ []) ++ kept lines
-unfolding kept
+pub kept-cons : (line : Line) (lines : List Line) → kept_lines (line ∷ lines) ≡ kept_lines (line ∷ []) ++ kept_lines lines
+unfolding kept_lines
 kept-cons line lines = elim (cases_Bool (nat_lt 0 (length (trimmed line.text)))) [ inl does ↦ rw does refl | inr fails ↦ rw fails refl ]
 
 -- the number of a first fault is at least `n`
@@ -79,13 +79,13 @@ unfolding joined_to
 AreFrom-joined_to n text [] from = (omega arith, tt)
 AreFrom-joined_to n text (line ∷ lines) from = (omega arith, from.1)
 
-AreFrom-joined : (n : ℕ) (lines : List (List ℕ)) → AreFrom n (joined n lines)
-unfolding joined
+AreFrom-joined : (n : ℕ) (lines : List (List ℕ)) → AreFrom n (joined_lines n lines)
+unfolding joined_lines
 AreFrom-joined n [] = tt
 AreFrom-joined n (line ∷ rest) =
-    let later = AreFrom-later n (n + 1) (joined (n + 1) rest) (omega arith) (AreFrom-joined (n + 1) rest) in
+    let later = AreFrom-later n (n + 1) (joined_lines (n + 1) rest) (omega arith) (AreFrom-joined (n + 1) rest) in
     elim (cases_Bool (is_continued line)) [
-      | inl does ↦ rw does (AreFrom-joined_to n (part line) (joined (n + 1) rest) later)
+      | inl does ↦ rw does (AreFrom-joined_to n (part line) (joined_lines (n + 1) rest) later)
       | inr fails ↦ rw fails (omega arith, later)
     ]
 
@@ -95,12 +95,12 @@ first_too_long-from n [] from = tt
 first_too_long-from n (line ∷ lines) from =
     elim (cases_Bool (nat_le (length line.text) LINE_LIMIT)) [ inl does ↦ rw does (first_too_long-from n lines from.1) | inr fails ↦ rw fails from.0 ]
 
-pub first_too_long-joined_to : (m n : ℕ) (text : List ℕ) (rest : List (List ℕ)) → m ≤ n → IsFrom m (first_too_long (joined_to m text (joined n rest)))
+pub first_too_long-joined_to : (m n : ℕ) (text : List ℕ) (rest : List (List ℕ)) → m ≤ n → IsFrom m (first_too_long (joined_to m text (joined_lines n rest)))
 first_too_long-joined_to m n text rest ordered =
-    first_too_long-from m (joined_to m text (joined n rest)) (AreFrom-joined_to m text (joined n rest) (AreFrom-later m n (joined n rest) ordered (AreFrom-joined n rest)))
+    first_too_long-from m (joined_to m text (joined_lines n rest)) (AreFrom-joined_to m text (joined_lines n rest) (AreFrom-later m n (joined_lines n rest) ordered (AreFrom-joined n rest)))
 
-pub first_too_long-joined : (n : ℕ) (rest : List (List ℕ)) → IsFrom n (first_too_long (joined n rest))
-first_too_long-joined n rest = first_too_long-from n (joined n rest) (AreFrom-joined n rest)
+pub first_too_long-joined : (n : ℕ) (rest : List (List ℕ)) → IsFrom n (first_too_long (joined_lines n rest))
+first_too_long-joined n rest = first_too_long-from n (joined_lines n rest) (AreFrom-joined n rest)
 
 -- a joined line of too many bytes is the first one that is too long, whatever is joined to it
 pub first_too_long-here : (m : ℕ) (text : List ℕ) (lines : List Line) → LINE_LIMIT < length text → first_too_long (joined_to m text lines) ≡ Some m

@@ -8,7 +8,7 @@ use Rattle.std.proofs.lemmas.Grind.{common_steps}
 use Rattle.std.proofs.lemmas.List.{length-drop, take-append-drop, drop_more, drop-drop, drop_all, take_rest, length-take-le, get_or-take, get_or_default}
 use Rattle.std.proofs.lemmas.List.Splits.{slice_split_none, slice_split_at, length-slice_split}
 use Rattle.px_text.specs.declared.TheConstants.{BACKSLASH, BYTE_ORDER_MARK, HASH}
-use Rattle.px_text.specs.Lines.{uncommented, unescaped, without_mark}
+use Rattle.px_text.specs.Lines.{uncommented, unescaped_line, without_mark}
 
 -- no byte of the list is `at`
 abbrev pub Lacks : ℕ → List ℕ → Type 0
@@ -65,7 +65,7 @@ lines-last text some none =
 
 -- what a line holds behind the byte `before`
 abbrev pub clean : ℕ → List ℕ → List ℕ
-clean before bytes = unescaped (uncommented before bytes)
+clean before bytes = unescaped_line (uncommented before bytes)
 
 -- whether what is left begins with a `#` that is kept
 abbrev keeps_hash : ℕ → List ℕ → Bool
@@ -80,7 +80,7 @@ unfolding uncommented
 uncommented-bare before bytes bare = rw (ne_eqb before BACKSLASH bare)
 
 clean-other : (before b : ℕ) (bytes : List ℕ) → b ≢ HASH → keeps_hash b bytes ≡ false → clean before (b ∷ bytes) ≡ b ∷ clean b bytes
-unfolding uncommented unescaped
+unfolding uncommented unescaped_line
 clean-other before b bytes other plain = rw (ne_eqb b HASH other) (rw plain (grind (arith, common_steps)))
 
 -- only whether the byte in front is a backslash counts
@@ -91,7 +91,7 @@ uncommented-before p q (b ∷ bytes) one other = rw (ne_eqb p BACKSLASH one) (rw
 
 -- a line without `#` is kept as it is
 pub clean-plain : (before : ℕ) (bytes : List ℕ) → Lacks HASH bytes → clean before bytes ≡ bytes
-unfolding uncommented unescaped
+unfolding uncommented unescaped_line
 clean-plain before [] none = refl
 clean-plain before (b ∷ []) none = clean-other before b [] (none 0 (omega arith)) refl
 clean-plain before (b ∷ c ∷ bytes) none =
@@ -110,11 +110,11 @@ last_of-take before (b ∷ bytes) (suc n) within = last_of-take b bytes n (omega
 
 -- a line ends at a `#` with no backslash directly before it
 pub clean-comment : (before : ℕ) (front rest : List ℕ) → Lacks HASH front → last_of before front ≢ BACKSLASH → clean before (front ++ HASH ∷ rest) ≡ front
-unfolding uncommented unescaped
-clean-comment before [] rest none bare = ap unescaped (uncommented-bare before rest bare)
+unfolding uncommented unescaped_line
+clean-comment before [] rest none bare = ap unescaped_line (uncommented-bare before rest bare)
 clean-comment before (b ∷ []) rest none bare =
     clean-other before b (HASH ∷ rest) (none 0 (omega arith)) (ap (λ l. starts_with nat_eq l (HASH ∷ [])) (uncommented-bare b rest bare))
-    ∙ ap (λ l. b ∷ unescaped l) (uncommented-bare b rest bare)
+    ∙ ap (λ l. b ∷ unescaped_line l) (uncommented-bare b rest bare)
 clean-comment before (b ∷ c ∷ front) rest none bare =
     clean-other before b (c ∷ front ++ HASH ∷ rest) (none 0 (omega arith)) (keeps_hash-other b c (front ++ HASH ∷ rest) (none 1 (omega arith)))
     ∙ ap (λ l. b ∷ l) (clean-comment b (c ∷ front) rest (λ k within. none (suc k) (omega arith)) bare)
@@ -124,7 +124,7 @@ backslash≢hash = eqb-false BACKSLASH HASH refl
 
 -- a `#` with a backslash directly before it is kept without the backslash
 pub clean-escaped : (before : ℕ) (front rest : List ℕ) → Lacks HASH front → clean before (front ++ BACKSLASH ∷ HASH ∷ rest) ≡ front ++ HASH ∷ clean HASH rest
-unfolding uncommented unescaped
+unfolding uncommented unescaped_line
 clean-escaped before [] rest none = refl
 clean-escaped before (b ∷ []) rest none =
     clean-other before b (BACKSLASH ∷ HASH ∷ rest) (none 0 (omega arith)) (keeps_hash-other b BACKSLASH (HASH ∷ rest) backslash≢hash)
@@ -159,7 +159,7 @@ escaped_at-suc bytes at within slash hash none =
     ∙ ap (λ b. clean 0 (take at bytes ++ b ∷ slice_index bytes (at + 1) ∷ drop (at + 1 + 1) bytes)) slash
     ∙ ap (λ b. clean 0 (take at bytes ++ BACKSLASH ∷ b ∷ drop (at + 1 + 1) bytes)) hash
     ∙ clean-escaped 0 (take at bytes) (drop (at + 1 + 1) bytes) (Lacks-less HASH bytes at (at + 1) (omega arith) (omega arith) none)
-    ∙ ap (λ l. take at bytes ++ HASH ∷ unescaped l) (uncommented-before HASH 0 (drop (at + 1 + 1) bytes) (λ e. backslash≢hash (sym e)) (eqb-false 0 BACKSLASH refl))
+    ∙ ap (λ l. take at bytes ++ HASH ∷ unescaped_line l) (uncommented-before HASH 0 (drop (at + 1 + 1) bytes) (λ e. backslash≢hash (sym e)) (eqb-false 0 BACKSLASH refl))
 
 -- the first `#` of a line, where a backslash stands directly before it, with what follows it
 pub escaped_at : (bytes after : List ℕ) (at : ℕ) → 0 < at → at < length bytes → (slice_index bytes at == HASH) ≡ true → NoneBelow HASH bytes at → slice_index bytes (at - 1) ≡ BACKSLASH →

@@ -5,7 +5,7 @@ use Rattle.px_text.specs.declared.TheConstants.{LINE_LIMIT}
 use Rattle.px_text.specs.declared.lines.Line.{Line}
 use Rattle.px_text.specs.declared.faults.TextFault.{TextFault}
 use Rattle.px_text.specs.declared.faults.TextFault.TheVariants.{Mem, NotText, TooLong}
-use Rattle.px_text.specs.Lines.{joined, physical_lines}
+use Rattle.px_text.specs.Lines.{joined_lines, physical_lines}
 
 -- the number of the first line that isn't UTF-8, where the first of all has this number
 unfoldable pub first_not_text : ℕ → List (List ℕ) → Option ℕ
@@ -25,27 +25,27 @@ earlier None (Some line) = Some (TooLong line)
 earlier (Some line) (Some long) = if nat_le line long then Some (NotText line) else Some (TooLong long)
 
 -- the first fault of physical lines
-unfoldable pub fault_of : List (List ℕ) → Option TextFault
-fault_of lines = earlier (first_not_text 1 lines) (first_too_long (joined 1 lines))
+unfoldable pub first_line_fault : List (List ℕ) → Option TextFault
+first_line_fault lines = earlier (first_not_text 1 lines) (first_too_long (joined_lines 1 lines))
 
 -- the refusal at the smallest line of a file, if there is one
-abbrev pub first_fault : List ℕ → Option TextFault
-first_fault text = fault_of (physical_lines text)
+abbrev pub first_text_fault : List ℕ → Option TextFault
+first_text_fault text = first_line_fault (physical_lines text)
 
 -- the refusal is this fault, or want of memory, which has no cause in the text
-abbrev pub IsReported : Option TextFault → TextFault → Type 0
-IsReported fault (NotText line) = fault ≡ Some (NotText line)
-IsReported fault (TooLong line) = fault ≡ Some (TooLong line)
-IsReported fault Mem = Unit {0}
+abbrev pub IsTextRefusal : Option TextFault → TextFault → Type 0
+IsTextRefusal fault (NotText line) = fault ≡ Some (NotText line)
+IsTextRefusal fault (TooLong line) = fault ≡ Some (TooLong line)
+IsTextRefusal fault Mem = Unit {0}
 
 -- the number under which a refusal is printed
-abbrev pub number_of : TextFault → ℕ
-number_of (NotText line) = 1
-number_of (TooLong line) = 2
-number_of Mem = 0
+abbrev pub text_fault_number : TextFault → ℕ
+text_fault_number (NotText line) = 1
+text_fault_number (TooLong line) = 2
+text_fault_number Mem = 0
 
 -- the name under which a refusal is printed
-abbrev pub name_of : TextFault → List ℕ
-name_of (NotText line) = codes "NotText"
-name_of (TooLong line) = codes "TooLong"
-name_of Mem = codes "Mem"
+abbrev pub text_fault_name : TextFault → List ℕ
+text_fault_name (NotText line) = codes "NotText"
+text_fault_name (TooLong line) = codes "TooLong"
+text_fault_name Mem = codes "Mem"

@@ -28,13 +28,13 @@ uncommented before [] = []
 uncommented before (b ∷ bytes) = if b == HASH && not (before == BACKSLASH) then [] else b ∷ uncommented b bytes
 
 -- the bytes with each `\#` written as `#`
-unfoldable pub unescaped : List ℕ → List ℕ
-unescaped [] = []
-unescaped (b ∷ bytes) = if b == BACKSLASH && starts_with nat_eq bytes (HASH ∷ []) then unescaped bytes else b ∷ unescaped bytes
+unfoldable pub unescaped_line : List ℕ → List ℕ
+unescaped_line [] = []
+unescaped_line (b ∷ bytes) = if b == BACKSLASH && starts_with nat_eq bytes (HASH ∷ []) then unescaped_line bytes else b ∷ unescaped_line bytes
 
 -- what a physical line adds to its joined line
 unfoldable pub part : List ℕ → List ℕ
-part line = unescaped (uncommented 0 (without_continuation line))
+part line = unescaped_line (uncommented 0 (without_continuation line))
 
 -- the lines with a text put in front of the first, which then has the text's number
 unfoldable pub joined_to : ℕ → List ℕ → List Line → List Line
@@ -42,20 +42,20 @@ joined_to number text [] = record { number = number; text = text } ∷ []
 joined_to number text (line ∷ rest) = record { number = number; text = text ++ line.text } ∷ rest
 
 -- the joined lines of physical lines, the first of which has this number
-unfoldable pub joined : ℕ → List (List ℕ) → List Line
-joined number [] = []
-joined number (line ∷ rest) =
-    if is_continued line then joined_to number (part line) (joined (number + 1) rest)
-    else record { number = number; text = part line } ∷ joined (number + 1) rest
+unfoldable pub joined_lines : ℕ → List (List ℕ) → List Line
+joined_lines number [] = []
+joined_lines number (line ∷ rest) =
+    if is_continued line then joined_to number (part line) (joined_lines (number + 1) rest)
+    else record { number = number; text = part line } ∷ joined_lines (number + 1) rest
 
 -- a joined line without the white space at both ends
 abbrev pub trimmed_line : Line → Line
 trimmed_line line = record { number = line.number; text = trimmed line.text }
 
 -- the trimmed lines, empty ones left out
-unfoldable pub kept : List Line → List Line
-kept lines = filter (λ line. nat_lt 0 (length line.text)) (map trimmed_line lines)
+unfoldable pub kept_lines : List Line → List Line
+kept_lines lines = filter (λ line. nat_lt 0 (length line.text)) (map trimmed_line lines)
 
 -- the lines that a file's bytes stand for
 unfoldable pub logical : List ℕ → List Line
-logical text = kept (joined 1 (physical_lines text))
+logical text = kept_lines (joined_lines 1 (physical_lines text))

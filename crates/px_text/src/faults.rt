@@ -16,12 +16,12 @@ pub enum TextFault {
 }
 
 impl TextFault {
-    ghost use Rattle.px_text.specs.Faults.{name_of, number_of};
+    ghost use Rattle.px_text.specs.Faults.{text_fault_name, text_fault_number};
 
     /// The number under which the refusal is printed. Want of memory has none.
     pub fn number(self) -> u8
         requires { self ≢ TextFault.Mem }
-        ensures { result ≡ number_of self }
+        ensures { result ≡ text_fault_number self }
     {
         match self {
             TextFault::NotText { line: _ } => 1,
@@ -32,7 +32,7 @@ impl TextFault {
 
     /// The name under which the refusal is printed.
     pub fn name(self) -> &'static str
-        ensures { result.now ≡ name_of self }
+        ensures { result.now ≡ text_fault_name self }
     {
         match self {
             TextFault::NotText { line: _ } => "NotText",
@@ -44,9 +44,9 @@ impl TextFault {
 
 impl fmt::Display for TextFault {
     ghost use Rattle.std.specs.Prelude.{Some};
-    ghost use Rattle.px_text.specs.Faults.{name_of};
+    ghost use Rattle.px_text.specs.Faults.{text_fault_name};
 
-    ghost output = { λ fault. Some (name_of fault) };
+    ghost output = { λ fault. Some (text_fault_name fault) };
 
     fn fmt<W: fmt::Write>(&self, f: &mut fmt::Formatter<W>) -> fmt::Result {
         let name = self.name();

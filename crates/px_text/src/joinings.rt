@@ -1,7 +1,7 @@
 // The lines of a file as far as they are joined.
 ghost use Rattle.std.specs.Prelude.{◌≡◌, ◌+◌, ◌++◌, ◌∷◌, [], ◌<◌, ◌^◌, None, Some, IfErr, IfOk, OnOk};
-ghost use Rattle.px_text.specs.Faults.{IsReported};
-ghost use Rattle.px_text.specs.Joinings.{Adds, IsFirst, IsJoining, IsLater, IsNoted, Refuses, after_line, fault_after, kept_line, lines_after, with_note};
+ghost use Rattle.px_text.specs.Faults.{IsTextRefusal};
+ghost use Rattle.px_text.specs.Joinings.{AddsPhysicalLine, IsFirst, IsJoining, IsLaterLine, IsNoted, RefusesLine, with_ended_line, fault_after, kept_line, lines_after, noted_not_text};
 
 use crate::parts::{push_part, split_continuation};
 use crate::{LINE_LIMIT, Line, TextFault};
@@ -45,8 +45,8 @@ impl Joining {
         requires next { self.old.next + 1 < 2 ^ 32 }
         ensures joining { OnOk result (IsJoining self.new) }
         ensures next { OnOk result (self.new.next ≡ self.old.next + 1) }
-        ensures added { OnOk result (Adds self.old line.now self.new) }
-        ensures refused { IfErr result (Refuses self.old line.now) }
+        ensures added { OnOk result (AddsPhysicalLine self.old line.now self.new) }
+        ensures refused { IfErr result (RefusesLine self.old line.now) }
     {
         self.note(line)?;
         let (part, continued) = split_continuation(line);
@@ -67,7 +67,7 @@ impl Joining {
         requires joining { IsJoining self }
         ensures lines { IfOk result (λ lines. lines ≡ lines_after self []) }
         ensures fault { OnOk result (fault_after self [] ≡ None) }
-        ensures refused { IfErr result (IsReported (fault_after self [])) }
+        ensures refused { IfErr result (IsTextRefusal (fault_after self [])) }
     {
         self.finish(alloc)?;
         Ok(self.lines)
@@ -77,9 +77,9 @@ impl Joining {
     /// joined line goes, no fault can come before it.
     fn note(&mut self, line: &[u8]) -> Result<(), TextFault>
         requires joining { IsJoining self.old }
-        ensures noted { OnOk result (self.new ≡ record self.old { not_text = with_note self.old line.now }) }
-        ensures later { OnOk result (IsLater self.old.number (self.old.next + 1) (with_note self.old line.now)) }
-        ensures refused { IfErr result (λ e. (e ≡ TextFault.NotText self.old.number) × (with_note self.old line.now ≡ Some self.old.number)) }
+        ensures noted { OnOk result (self.new ≡ record self.old { not_text = noted_not_text self.old line.now }) }
+        ensures later { OnOk result (IsLaterLine self.old.number (self.old.next + 1) (noted_not_text self.old line.now)) }
+        ensures refused { IfErr result (λ e. (e ≡ TextFault.NotText self.old.number) × (noted_not_text self.old line.now ≡ Some self.old.number)) }
     {
         if is_text(line) {
             return Ok(());
@@ -96,7 +96,7 @@ impl Joining {
     /// Ends the line that is being joined, before the physical line that comes next.
     fn finish(&mut self, alloc: Global) -> Result<(), TextFault>
         ensures text { OnOk result (self.old.not_text ≡ None) }
-        ensures ended { OnOk result (self.new ≡ after_line self.old) }
+        ensures ended { OnOk result (self.new ≡ with_ended_line self.old) }
         ensures refused { IfErr result (IsNoted self.old) }
     {
         if let Some(line) = self.not_text {

@@ -1,6 +1,6 @@
 // The logical lines of a file.
 ghost use Rattle.std.specs.Prelude.{◌≡◌, ◌≤◌, length, None, IfErr, IfOk, OnOk};
-ghost use Rattle.px_text.specs.Faults.{IsReported, first_fault};
+ghost use Rattle.px_text.specs.Faults.{IsTextRefusal, first_text_fault};
 ghost use Rattle.px_text.specs.Lines.{logical};
 
 use crate::TextFault;
@@ -26,8 +26,8 @@ pub struct Line {
 pub fn logical_lines(alloc: Global, text: &[u8]) -> Result<List<Line>, TextFault>
     requires { length text.now ≤ 4294967294 }
     ensures lines { IfOk result (λ lines. lines ≡ logical text.now) }
-    ensures sound { OnOk result (first_fault text.now ≡ None) }
-    ensures fault { IfErr result (IsReported (first_fault text.now)) }
+    ensures sound { OnOk result (first_text_fault text.now ≡ None) }
+    ensures fault { IfErr result (IsTextRefusal (first_text_fault text.now)) }
 {
     let mut rest = without_mark(text);
     let mut joining = Joining::begin(alloc);

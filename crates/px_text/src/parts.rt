@@ -1,7 +1,7 @@
 // One physical line of a file: where it ends, and what it adds to its joined line.
 ghost use Rattle.std.specs.Prelude.{◌≡◌, ◌++◌, ◌∷◌, ◌<◌, length, OnOk};
 ghost use Rattle.std.specs.Str.Lines.{lines, strip_carriage_return};
-ghost use Rattle.px_text.specs.Lines.{is_continued, uncommented, unescaped, without_continuation, without_mark};
+ghost use Rattle.px_text.specs.Lines.{is_continued, uncommented, unescaped_line, without_continuation, without_mark};
 
 use crate::{BACKSLASH, BYTE_ORDER_MARK, CARRIAGE_RETURN, HASH, LINE_FEED};
 use memchr::memchr;
@@ -55,7 +55,7 @@ pub fn split_continuation(line: &[u8]) -> (&[u8], bool)
 
 /// Adds to the joined line what a physical line holds: its bytes up to a comment, with each `\#` as `#`.
 pub fn push_part(line: &[u8], joined: &mut Text) -> Result<(), Mem>
-    ensures { OnOk result (joined.new ≡ joined.old ++ unescaped (uncommented 0 line.now)) }
+    ensures { OnOk result (joined.new ≡ joined.old ++ unescaped_line (uncommented 0 line.now)) }
 {
     let mut rest = line;
     while let Some(at) = memchr(HASH, rest) {

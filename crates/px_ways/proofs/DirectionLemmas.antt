@@ -8,10 +8,10 @@ use Rattle.px_base.specs.Sources.{SourceState, SourceGoesOn, Gives}
 use Rattle.px_base.specs.declared.faults.SinkFault.{SinkFault}
 use Rattle.px_base.specs.declared.faults.SinkFault.TheVariants as fault
 use Rattle.px_base.specs.Sinks.{SinkState, SinkGoesOn, AddsFront, RefusesBy}
-use Rattle.px_ways.specs.Directions.{AddsSome, Carries, CopiesSome, SinkCause, SourceCause, StopsIn, Takes, stop_of}
+use Rattle.px_ways.specs.Directions.{AddsSome, Carries, CopiesSome, StopSinkCause, SourceCause, StopsIn, DirectionTakes, stop_of}
 use Rattle.px_ways.specs.declared.directions.TheConstants.{DIRECTION_LIMIT}
-use Rattle.px_ways.specs.declared.directions.Stop.{Stop}
-use Rattle.px_ways.specs.declared.directions.Stop.TheVariants as stop
+use Rattle.px_ways.specs.declared.directions.DirectionStop.{DirectionStop}
+use Rattle.px_ways.specs.declared.directions.DirectionStop.TheVariants as stop
 
 -- the first bytes of a direction went to a sink, and so many more may
 pub record Moved (bytes : List ℕ) (i i' : SourceState) (o o' : SinkState) (left : ℕ) : Type 0 where
@@ -99,19 +99,19 @@ moved_most {bytes = bytes} {o = o} none h = record {
   sink_goes_on = h.sink_goes_on;
 }
 
-source_cause_from : (i m i' : SourceState) (s : Stop) → m.faults ≡ i.faults → SourceCause m i' s → SourceCause i i' s
+source_cause_from : (i m i' : SourceState) (s : DirectionStop) → m.faults ≡ i.faults → SourceCause m i' s → SourceCause i i' s
 source_cause_from i m i' stop.Whole e k = k ∙ e
 source_cause_from i m i' stop.SourceFailed e k = subst (λ (n : ℕ). Rose n i'.faults) e k
 source_cause_from i m i' stop.SinkFailed e k = k ∙ e
 source_cause_from i m i' stop.NoMemory e k = k ∙ e
 
-sink_cause_from : (o p o' : SinkState) (s : Stop) → p.faults ≡ o.faults → SinkCause p o' s → SinkCause o o' s
+sink_cause_from : (o p o' : SinkState) (s : DirectionStop) → p.faults ≡ o.faults → StopSinkCause p o' s → StopSinkCause o o' s
 sink_cause_from o p o' stop.Whole e k = k ∙ e
 sink_cause_from o p o' stop.SourceFailed e k = k ∙ e
 sink_cause_from o p o' stop.SinkFailed e k = subst (λ (n : ℕ). Rose n o'.faults) e k
 sink_cause_from o p o' stop.NoMemory e k = k ∙ e
 
-takes_some : (bytes taken taken' : List ℕ) (s : Stop) → s ≢ stop.Whole → AddsSome DIRECTION_LIMIT bytes taken taken' → Takes bytes taken taken' s
+takes_some : (bytes taken taken' : List ℕ) (s : DirectionStop) → s ≢ stop.Whole → AddsSome DIRECTION_LIMIT bytes taken taken' → DirectionTakes bytes taken taken' s
 takes_some bytes taken taken' stop.Whole u h = absurd (u refl)
 takes_some bytes taken taken' stop.SourceFailed u h = h
 takes_some bytes taken taken' stop.SinkFailed u h = h
@@ -125,7 +125,7 @@ more_some taken mid now bytes behind count fits sum em eb h = record {
 }
 
 -- a direction that stopped in a piece
-pub moved_some : {bytes : List ℕ} {i m i' : SourceState} {o p o' : SinkState} {left room : ℕ} (s : Stop) → Moved bytes i m o p left → StopsIn m i' p o' room s → SourceGoesOn m i' → SinkGoesOn p o' → room ≤ left → Carries bytes i i' o o' s
+pub moved_some : {bytes : List ℕ} {i m i' : SourceState} {o p o' : SinkState} {left room : ℕ} (s : DirectionStop) → Moved bytes i m o p left → StopsIn m i' p o' room s → SourceGoesOn m i' → SinkGoesOn p o' → room ≤ left → Carries bytes i i' o o' s
 moved_some {bytes = bytes} {i = i} {m = m} {i' = i'} {o = o} {p = p} {o' = o'} s h k gi go fits = record {
   takes = λ ti to. takes_some bytes o.taken o'.taken s k.unfinished (more_some o.taken p.taken o'.taken bytes m.left h.count fits h.sum (h.taken ti to) (h.behind ti) (k.taken (h.source_goes_on.tells_same ∙ ti) (h.sink_goes_on.tells_same ∙ to)));
   source_cause = source_cause_from i m i' s h.source_faults k.source_cause;
@@ -151,7 +151,7 @@ calm_source : (i i' : SourceState) (f : SinkFault) → i'.faults ≡ i.faults �
 calm_source i i' fault.Failed calm = calm
 calm_source i i' fault.Mem calm = calm
 
-refused_sink : (o o' : SinkState) (size : ℕ) (f : SinkFault) → RefusesBy o o' size f → SinkCause o o' (stop_of f)
+refused_sink : (o o' : SinkState) (size : ℕ) (f : SinkFault) → RefusesBy o o' size f → StopSinkCause o o' (stop_of f)
 refused_sink o o' size fault.Failed refused = refused
 refused_sink o o' size fault.Mem refused = refused.0
 

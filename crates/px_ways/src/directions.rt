@@ -19,7 +19,7 @@ pub fn constants()
 
 /// Why a direction stopped.
 #[derive(Clone, Copy, Debug, PartialEq, Eq)]
-pub enum Stop {
+pub enum DirectionStop {
     /// All its bytes were carried, or as many as a direction may carry.
     Whole,
     /// Its source's count of faults rose.
@@ -31,12 +31,12 @@ pub enum Stop {
 }
 
 /// Why a sink that refused bytes stops a direction.
-fn stop_of(fault: SinkFault) -> Stop
+fn stop_of(fault: SinkFault) -> DirectionStop
     ensures { result ≡ stop_of fault }
 {
     match fault {
-        SinkFault::Failed => Stop::SinkFailed,
-        SinkFault::Mem => Stop::NoMemory,
+        SinkFault::Failed => DirectionStop::SinkFailed,
+        SinkFault::Mem => DirectionStop::NoMemory,
     }
 }
 
@@ -45,7 +45,7 @@ fn copy_piece<S: Source, O: Sink>(
     source: &mut S,
     sink: &mut O,
     piece: &mut [u8],
-) -> Result<usize, Stop>
+) -> Result<usize, DirectionStop>
     requires room { 0 < length piece.old }
     ensures copies { Copies (S.state source.old) (S.state source.new) (O.state sink.old) (O.state sink.new) (length piece.old) result }
     ensures open { (O.state sink.new).finished ≡ (O.state sink.old).finished }
@@ -54,7 +54,7 @@ fn copy_piece<S: Source, O: Sink>(
 {
     let count = match source.read(piece) {
         Ok(count) => count,
-        Err(Failed) => return Err(Stop::SourceFailed),
+        Err(Failed) => return Err(DirectionStop::SourceFailed),
     };
     match write_all(sink, &piece[..count]) {
         Ok(()) => Ok(count),
@@ -63,7 +63,7 @@ fn copy_piece<S: Source, O: Sink>(
 }
 
 /// Copies bytes and then those of a source to a sink, each piece before the next is read. The sink is left open.
-fn copy<S: Source, O: Sink>(first: &[u8], source: &mut S, sink: &mut O) -> Stop
+fn copy<S: Source, O: Sink>(first: &[u8], source: &mut S, sink: &mut O) -> DirectionStop
     requires short { length first.now ≤ DIRECTION_LIMIT }
     ensures carries { Carries (first.now ++ (S.state source.old).left) (S.state source.old) (S.state source.new) (O.state sink.old) (O.state sink.new) result }
     ensures open { (O.state sink.new).finished ≡ (O.state sink.old).finished }
@@ -76,17 +76,21 @@ fn copy<S: Source, O: Sink>(first: &[u8], source: &mut S, sink: &mut O) -> Stop
     'pieces: while left > 0 {
         let room = left.min(PIECE as u64) as usize;
         match copy_piece(source, sink, &mut piece[..room]) {
-            Ok(0) => return Stop::Whole,
+            Ok(0) => return DirectionStop::Whole,
             Ok(count) => left -= count as u64,
             Err(stop) => return stop,
         }
     }
-    Stop::Whole
+    DirectionStop::Whole
 }
 
 /// Carries one direction: copies bytes that were read ahead of a source, and then those of the source, to a sink, up to
 /// `DIRECTION_LIMIT` of them, and finishes the sink.
-pub fn carry_direction<S: Source, O: Sink>(ahead: &[u8], source: &mut S, sink: &mut O) -> Stop
+pub fn carry_direction<S: Source, O: Sink>(
+    ahead: &[u8],
+    source: &mut S,
+    sink: &mut O,
+) -> DirectionStop
     requires short { length ahead.now ≤ DIRECTION_LIMIT }
     ensures direction { Direction (ahead.now ++ (S.state source.old).left) (S.state source.old) (S.state source.new) (O.state sink.old) (O.state sink.new) result }
 {

@@ -4,5 +4,5 @@
 mod directions;
 mod ways;
 
-pub use directions::{DIRECTION_LIMIT, Stop, carry_direction, constants};
+pub use directions::{DIRECTION_LIMIT, DirectionStop, carry_direction, constants};
 pub use ways::{Carried, Way, carry};

@@ -1,8 +1,8 @@
 // Ways to carry both directions of a tunnel.
 ghost use Rattle.std.specs.Prelude.{◌≡◌, ◌≤◌, length};
-ghost use Rattle.px_ways.specs.Ways.{Ends, CarriesBoth, carried_of};
+ghost use Rattle.px_ways.specs.Ways.{TunnelEnds, CarriesBoth, carried_of};
 
-use crate::directions::{DIRECTION_LIMIT, Stop, carry_direction};
+use crate::directions::{DIRECTION_LIMIT, DirectionStop, carry_direction};
 use px_base::{Sink, Source};
 use std::thread::{Threads, join_mut};
 
@@ -18,13 +18,13 @@ pub struct Carried {
 }
 
 /// What came of both directions, by why each stopped.
-fn carried_of(there: Stop, back: Stop) -> Carried
+fn carried_of(there: DirectionStop, back: DirectionStop) -> Carried
     ensures { result ≡ carried_of there back }
 {
     Carried {
-        client_read: there == Stop::SourceFailed,
-        client_write: back == Stop::SinkFailed,
-        no_memory: there == Stop::NoMemory || back == Stop::NoMemory,
+        client_read: there == DirectionStop::SourceFailed,
+        client_write: back == DirectionStop::SinkFailed,
+        no_memory: there == DirectionStop::NoMemory || back == DirectionStop::NoMemory,
     }
 }
 

@@ -55,7 +55,7 @@ impl<'a> Key<'a> {
 
 /// A field: the line where it begins, or the `again` that it is of, its key, the words behind the key, and the lines of its text.
 #[derive(Drop)]
-pub struct Field<'a> {
+pub struct CaseField<'a> {
     pub line: usize,
     pub key: Key<'a>,
     pub words: &'a str,
@@ -68,7 +68,7 @@ pub struct Field<'a> {
 #[derive(Drop)]
 pub struct Case<'a> {
     pub line: usize,
-    pub fields: Vec<Field<'a>>,
+    pub fields: Vec<CaseField<'a>>,
 }
 
 impl<'a> Case<'a> {
@@ -83,10 +83,10 @@ impl<'a> Case<'a> {
     }
 
     /// Its fields for the case behind, which says so at that line.
-    fn inherited(&self, alloc: Global, line: usize) -> Result<Vec<Field<'a>>, Fault> {
+    fn inherited(&self, alloc: Global, line: usize) -> Result<Vec<CaseField<'a>>, Fault> {
         let mut fields = Vec::new(alloc);
         for field in &self.fields {
-            fields.push(Field {
+            fields.push(CaseField {
                 line,
                 key: field.key,
                 words: field.words,
@@ -124,7 +124,7 @@ fn take_line<'a>(
             }
             add_field(
                 cases,
-                Field {
+                CaseField {
                     line,
                     key: Key::by_name(name)?,
                     words,
@@ -171,7 +171,7 @@ fn begin_again(alloc: Global, cases: &mut Vec<Case<'_>>, line: usize) -> Result<
     Ok(())
 }
 
-fn add_field<'a>(cases: &mut Vec<Case<'a>>, field: Field<'a>) -> Result<(), Fault> {
+fn add_field<'a>(cases: &mut Vec<Case<'a>>, field: CaseField<'a>) -> Result<(), Fault> {
     match cases.last_mut() {
         Some(case) => {
             let key = field.key;

@@ -12,7 +12,7 @@ use px_config::{Config, load};
 use px_leaf_rows::Fault;
 use px_publish::StepConfig;
 use px_serve::{Session, serve_connection};
-use px_shared::{Shared, serve_shared};
+use px_shared::{SharedSession, serve_shared};
 use px_socks::SocksDialer;
 use px_ways::Way;
 use std::alloc::Global;
@@ -21,7 +21,7 @@ use std::thread::Threads;
 
 /// How the streams of a run are cut.
 #[derive(Clone, Copy)]
-pub enum Cut {
+pub enum RunCut {
     /// As the case says.
     Given,
     /// Each in two, behind so many bytes.
@@ -32,15 +32,15 @@ pub enum Cut {
 
 /// How a run differs from that of the case itself.
 #[derive(Clone, Copy)]
-pub struct Plan {
-    pub cut: Cut,
+pub struct RunPlan {
+    pub cut: RunCut,
     pub failing: Option<Failing>,
 }
 
-impl Plan {
+impl RunPlan {
     /// The run of the case itself.
-    pub(crate) const OWN: Plan = Plan {
-        cut: Cut::Given,
+    pub(crate) const OWN: RunPlan = RunPlan {
+        cut: RunCut::Given,
         failing: None,
     };
 }
@@ -99,7 +99,7 @@ impl Seen {
 struct Run<'r, 's> {
     alloc: Global,
     setup: &'r Setup<'s>,
-    plan: &'r Plan,
+    plan: &'r RunPlan,
 }
 
 impl Run<'_, '_> {
@@ -111,15 +111,15 @@ impl Run<'_, '_> {
     fn sizes(&self, device: Device) -> Result<Vec<usize>, Fault> {
         let mut sizes = Vec::new(self.alloc);
         match self.plan.cut {
-            Cut::Given => {
+            RunCut::Given => {
                 for cuts in &self.setup.cuts {
                     if cuts.device == device {
                         sizes.extend_from_slice(cuts.sizes.as_slice())?;
                     }
                 }
             }
-            Cut::At(place) => sizes.push(place)?,
-            Cut::Bytes => return Ok(vec![in self.alloc; 1; SINGLE_BYTES]?),
+            RunCut::At(place) => sizes.push(place)?,
+            RunCut::Bytes => return Ok(vec![in self.alloc; 1; SINGLE_BYTES]?),
         }
         Ok(sizes)
     }
@@ -321,7 +321,7 @@ struct Streams {
 pub(crate) fn run_command<R: Threads + Sync>(
     _rt: &R,
     setup: &Setup<'_>,
-    plan: &Plan,
+    plan: &RunPlan,
 ) -> Result<Seen, Fault> {
     let alloc = setup.alloc;
     let run = Run { alloc, setup, plan };
@@ -383,7 +383,7 @@ fn command_seen(
 
 /// The configurations of the files of a case.
 pub(crate) fn configs(setup: &Setup<'_>) -> Result<Vec<Arc<Config>>, Fault> {
-    let (alloc, plan) = (setup.alloc, &Plan::OWN);
+    let (alloc, plan) = (setup.alloc, &RunPlan::OWN);
     let run = Run { alloc, setup, plan };
     let mut configs = Vec::new(alloc);
     for named in &setup.states {
@@ -422,7 +422,7 @@ pub(crate) fn run_session<R: Threads + Sync>(
     rt: &R,
     setup: &Setup<'_>,
     configs: &[Arc<Config>],
-    plan: &Plan,
+    plan: &RunPlan,
 ) -> Result<Seen, Fault> {
     let alloc = setup.alloc;
     let run = Run { alloc, setup, plan };
@@ -474,7 +474,7 @@ fn share_links<R: Threads + Sync>(
 ) -> Result<Served, Fault> {
     let mut configs = configs;
     let mut clock = run.clock()?;
-    let Shared {
+    let SharedSession {
         session,
         dialer,
         wanting: _,

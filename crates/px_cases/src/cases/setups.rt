@@ -1,5 +1,5 @@
 //! What a case is run on: the words of a command, files, the client's bytes, the origins' answers, and how the objects behave.
-use crate::cases::fields::{Case, Field, Key};
+use crate::cases::fields::{Case, CaseField, Key};
 use px_leaf_rows::{Fault, Misread, decoded};
 use std::alloc::Global;
 use std::str::FromStr;
@@ -171,7 +171,7 @@ impl<'a> Setup<'a> {
     }
 
     /// Takes up what a field says.
-    fn add(&mut self, field: &Field<'a>) -> Result<(), Fault> {
+    fn add(&mut self, field: &CaseField<'a>) -> Result<(), Fault> {
         let (alloc, texts) = (self.alloc, field.texts.as_slice());
         match field.key {
             Key::File(name) => self.add_file(name, text_bytes(alloc, texts, "\n")?),

@@ -1,5 +1,5 @@
 //! What a case wants of its runs, and where a run gives something else.
-use crate::cases::fields::{Case, Field, Key};
+use crate::cases::fields::{Case, CaseField, Key};
 use crate::cases::runs::{Seen, UNTOUCHED};
 use crate::cases::setups::{Setup, number_of, text_bytes};
 use px_leaf_rows::{Fault, Misread, decoded};
@@ -23,7 +23,7 @@ struct FailedWant<'a> {
 
 /// A line of a case that a run doesn't meet: what it wants, and what came.
 #[derive(Drop)]
-pub struct Difference<'d> {
+pub struct CaseDifference<'d> {
     pub line: usize,
     pub want: &'d [u8],
     pub got: &'d [u8],
@@ -77,7 +77,7 @@ impl<'a> Wants<'a> {
         Ok(wants)
     }
 
-    fn add(&mut self, field: &Field<'a>, line_end: &str) -> Result<(), Fault> {
+    fn add(&mut self, field: &CaseField<'a>, line_end: &str) -> Result<(), Fault> {
         let (alloc, texts) = (self.alloc, field.texts.as_slice());
         let bytes = match field.key {
             Key::Out => text_bytes(alloc, texts, line_end)?,
@@ -96,7 +96,7 @@ impl<'a> Wants<'a> {
     }
 
     /// Adds to the text of SENT; `nothing` where it is empty, and `untouched` where it isn't put.
-    fn add_sent(&mut self, field: &Field<'a>) -> Result<(), Fault> {
+    fn add_sent(&mut self, field: &CaseField<'a>) -> Result<(), Fault> {
         let bytes = text_bytes(self.alloc, field.texts.as_slice(), "\r\n")?;
         let text = match field.words {
             "nothing" => Vec::new(self.alloc),
@@ -111,7 +111,7 @@ impl<'a> Wants<'a> {
         }
     }
 
-    fn add_failed(&mut self, field: &Field<'a>) -> Result<(), Fault> {
+    fn add_failed(&mut self, field: &CaseField<'a>) -> Result<(), Fault> {
         match field.words.split_once(' ') {
             Some(("times", words)) => {
                 self.times = Some((field.line, number_of(words)?));
@@ -153,11 +153,11 @@ impl<'a> Wants<'a> {
     }
 
     /// The first line that the case's own run doesn't meet.
-    pub(crate) fn difference<'d>(&'d self, seen: &'d Seen) -> Option<Difference<'d>> {
+    pub(crate) fn difference<'d>(&'d self, seen: &'d Seen) -> Option<CaseDifference<'d>> {
         for want in &self.whole {
             if let Some(got) = seen.shown(want.key) {
                 if got != want.bytes.as_slice() {
-                    return Some(Difference {
+                    return Some(CaseDifference {
                         line: want.line,
                         want: want.bytes.as_slice(),
                         got,
@@ -169,7 +169,7 @@ impl<'a> Wants<'a> {
     }
 
     /// The first line `failed` that a run with one more failing call doesn't meet.
-    pub(crate) fn failed_difference<'d>(&'d self, seen: &'d Seen) -> Option<Difference<'d>> {
+    pub(crate) fn failed_difference<'d>(&'d self, seen: &'d Seen) -> Option<CaseDifference<'d>> {
         for want in &self.failed {
             let (met, got) = match want.what {
                 "out" => (self.out().starts_with(seen.out()), seen.out()),
@@ -179,7 +179,7 @@ impl<'a> Wants<'a> {
                 _ => (false, seen.out()),
             };
             if !met {
-                return Some(Difference {
+                return Some(CaseDifference {
                     line: want.line,
                     want: want.words.as_bytes(),
                     got,

@@ -3,7 +3,7 @@ use crate::faults::Fault;
 use crate::kinds::bodies::Cut;
 use crate::kinds::made::{filters_of, head_of, push_fields, said, set_of, vars_of, yes_or_no};
 use crate::leaves::Row;
-use px_answers::{BodyPlan, Framed, HeaderLines, Outcome, Passage, Terms};
+use px_answers::{AnswerOutcome, BodyPlan, Framed, HeaderLines, Passage, Terms};
 use px_base::{List, Text};
 use px_filter_files::Filters;
 use px_framing::response_body;
@@ -86,7 +86,7 @@ fn pass(
     files: &Filters,
     pieces: &[&[u8]],
     out: &mut Text,
-) -> Result<Option<Outcome>, Fault> {
+) -> Result<Option<AnswerOutcome>, Fault> {
     let framed = framed(row, files)?;
     let vars = vars_of(row.alloc, b"")?;
     let mut warm = files.warm(row.alloc)?;
@@ -101,7 +101,7 @@ fn pass(
 /// What is returned of an answer whose body comes in pieces, and behind it how, and whether the connection is kept.
 fn returned(row: &Row<'_>, files: &Filters, pieces: &[&[u8]]) -> Result<Text, Fault> {
     let mut out = Text::new(row.alloc);
-    let Some(Outcome { returned, keep }) = pass(row, files, pieces, &mut out)? else {
+    let Some(AnswerOutcome { returned, keep }) = pass(row, files, pieces, &mut out)? else {
         return said(row.alloc, "the answer isn't ended");
     };
     let keep = if keep { "keep" } else { "close" };

@@ -5,7 +5,7 @@ use crate::kinds::made::{as_str, filter_file_of, lines_of, push_item, said, vars
 use crate::leaves::Row;
 use px_action_files::{ActionFile, Pattern, refusal_name};
 use px_base::{List, Text};
-use px_subst::{Filter, Job, Outcome, Vars};
+use px_subst::{Filter, Job, JobOutcome, Vars};
 use std::alloc::Global;
 
 /// The lines that a file's bytes stand for, each behind its number.
@@ -119,7 +119,7 @@ fn gives_again(
     filter: &Filter,
     text: &[u8],
     vars: &Vars,
-    afresh: &Outcome,
+    afresh: &JobOutcome,
 ) -> Result<bool, Fault> {
     let mut kept = filter.keep(alloc)?;
     let first = kept.run(alloc, text, vars)?;
@@ -127,6 +127,6 @@ fn gives_again(
     Ok(is_same(&first, afresh) && is_same(&second, afresh))
 }
 
-fn is_same(one: &Outcome, other: &Outcome) -> bool {
+fn is_same(one: &JobOutcome, other: &JobOutcome) -> bool {
     one.hits == other.hits && one.text.as_bytes() == other.text.as_bytes()
 }

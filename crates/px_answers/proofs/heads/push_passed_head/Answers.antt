@@ -1,5 +1,5 @@
 use Rattle.std.proofs.Common.{sym}
-use Rattle.px_answers.specs.Forms.{keeps}
+use Rattle.px_answers.specs.Forms.{keeps_behind_answer}
 use Rattle.px_answers.proofs.HeadLemmas.{head_is}
 use Rattle.px_answers.proofs.heads.push_passed_head.Goals as goal
 
@@ -7,4 +7,4 @@ pub returns : goal.returns
 returns c =
     let f = c.args.framed.now in
     let lines = rw c.as_slice.ensures at c.in_ok-push_fields.ensures in
-    rw (sym (head_is c.args.out.now c.push_front.new.out c.push_fields.new.out f f.framing (keeps f) c.in_ok-push_front.ensures lines)) (rw c.keeps.ensures at c.push_end.ensures)
+    rw (sym (head_is c.args.out.now c.push_front.new.out c.push_fields.new.out f f.framing (keeps_behind_answer f) c.in_ok-push_front.ensures lines)) (rw c.keeps.ensures at c.push_end.ensures)

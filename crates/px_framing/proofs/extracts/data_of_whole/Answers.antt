@@ -1,5 +1,5 @@
 use Rattle.std.proofs.Common.{◌≡◌, ℕ, List, length, sym, ◌∙◌, ap, subst}
-use Rattle.px_framing.specs.declared.places.Place.TheVariants.{Size}
+use Rattle.px_framing.specs.declared.places.ChunkPlace.TheVariants.{Size}
 use Rattle.px_framing.specs.declared.places.State.TheVariants.{Whole}
 use Rattle.px_framing.specs.declared.rules.BodyRule.TheVariants as rule
 use Rattle.px_framing.specs.Body.{Part}

@@ -1,5 +1,5 @@
 use Rattle.std.proofs.Common.{◌-◌, ℕ, length, arith, subst, ◌≡◌}
-use Rattle.px_framing.specs.declared.places.Place.TheVariants.{Data, Gap}
+use Rattle.px_framing.specs.declared.places.ChunkPlace.TheVariants.{Data, Gap}
 use Rattle.px_framing.specs.Elements.{AreWhole}
 use Rattle.std.proofs.lemmas.Bool.Decides.{nat_tests}
 use Rattle.px_framing.proofs.MoveLemmas.{data-place-zero, data-place-some}

@@ -1,7 +1,7 @@
 use Rattle.std.proofs.Common.{◌≡◌, ℕ, List, [], ◌++◌, take, inl, sym, ap, subst, arith}
 use Rattle.std.proofs.lemmas.List.{nil_from_length}
 use Rattle.std.proofs.lemmas.Bool.Decides.{nat_tests}
-use Rattle.px_framing.specs.declared.places.Place.TheVariants.{Gap, Size}
+use Rattle.px_framing.specs.declared.places.ChunkPlace.TheVariants.{Gap, Size}
 use Rattle.px_framing.specs.Passing.{Goes}
 use Rattle.px_framing.proofs.HeldLemmas.{goes-gap}
 use Rattle.px_framing.proofs.passes.pass_gap.Goals as goal

@@ -1,6 +1,6 @@
 use Rattle.std.proofs.Common.{◌-◌, length, take, inl, refl, arith, length-drop}
 use Rattle.std.proofs.lemmas.List.{length-take-le, take_rest}
-use Rattle.px_framing.specs.declared.places.Place.TheVariants.{Gap}
+use Rattle.px_framing.specs.declared.places.ChunkPlace.TheVariants.{Gap}
 use Rattle.px_framing.proofs.HeldLemmas.{goes-data-end}
 use Rattle.px_framing.proofs.MoveLemmas.{move-data, data-place-zero}
 use Rattle.px_framing.proofs.passes.pass_last_data.Goals as goal

@@ -1,6 +1,6 @@
 use Rattle.std.proofs.Common.{◌≡◌, [], ◌∷◌, ◌++◌, sym, ap, ◌∙◌, arith}
 use Rattle.std.proofs.lemmas.Grind.{common_steps}
-use Rattle.px_merge.specs.Selections.{is_of, picked}
+use Rattle.px_merge.specs.Selections.{is_of_purpose, picked}
 use Rattle.px_merge.proofs.SelectionLemmas.{walked_found, walked_skipped}
 use Rattle.px_merge.proofs.lists.numbers_of.Goals as goal
 use Rattle.px_merge.proofs.lists.numbers_of.Goals.{then-is_listed+in_ok-push, else-is_listed}
@@ -8,7 +8,7 @@ use Rattle.px_merge.proofs.lists.numbers_of.Goals.{then-is_listed+in_ok-push, el
 pub loop-at-preserved : goal.loop-at-preserved
 loop-at-preserved c =
     let sections = c.args.sections.now in
-    let test = is_of c.args.purpose in
+    let test = is_of_purpose c.args.purpose in
     let hits = c.loop-at.numbers.items in
     elim c.if-is_listed.branch [
       | then-is_listed+in_ok-push w ↦

@@ -3,7 +3,7 @@ use Rattle.std.proofs.lemmas.Bool.{eq-eqb}
 use Rattle.px_base.specs.Dials.{is_open}
 use Rattle.px_base.specs.declared.dials.Dial.{Dial}
 use Rattle.px_base.specs.declared.dials.DialOutcome.TheVariants as outcome
-use Rattle.px_socks.specs.Dialers.{Kept, outer_state}
+use Rattle.px_socks.specs.Dialers.{KeptDialer, outer_state}
 use Rattle.px_part_tests.proofs.socks.visit.Goals as goal
 
 -- the link of a first dial is open
@@ -13,5 +13,5 @@ first_open old new host port mark mark' offered none added same = rw (added, non
 
 pub hang_up-requires-clause-open : goal.hang_up-requires-clause-open
 hang_up-requires-clause-open g c = λ t.
-    first_open _ _ _ _ _ _ _ (ap (λ (k : Kept). (outer_state k).dials) c.new-dialer.ensures.made)
+    first_open _ _ _ _ _ _ _ (ap (λ (k : KeptDialer). (outer_state k).dials) c.new-dialer.ensures.made)
     (c.in-Ok.ensures.dials (sym c.in-Ok.ensures.goes_on.tells_same ∙ t)) c.listen-heard.ensures.goes_on.mark_same

@@ -2,7 +2,7 @@ use Rattle.std.proofs.Common.{◌+◌, ◌∙◌, sym, subst, arith, take, lengt
 use Rattle.std.proofs.lemmas.Bool.{both_ways}
 use Rattle.std.proofs.lemmas.List.{take_rest}
 use Rattle.px_patterns.specs.declared.labels.LabelPattern.TheVariants.{Plain}
-use Rattle.px_patterns.specs.Hosts.{HasFirst, is_label}
+use Rattle.px_patterns.specs.Hosts.{HasFirstLabel, is_label}
 use Rattle.px_patterns.proofs.EndLabelLemmas.{has_first, has_first_alone, lacks_first}
 use Rattle.px_patterns.proofs.hosts.without_first_text.Goals as goal
 
@@ -22,5 +22,5 @@ returns-then-behind-ne-DOT c = lacks_first c.args.text.now c.args.bytes.now (λ 
 
 pub returns : goal.returns
 returns c =
-    subst (λ l. HasFirst (Plain c.args.text.now) c.args.bytes.now (Some l)) (sym (take_rest c.args.bytes.now (length c.args.text.now + 1)))
+    subst (λ l. HasFirstLabel (Plain c.args.text.now) c.args.bytes.now (Some l)) (sym (take_rest c.args.bytes.now (length c.args.text.now + 1)))
     (has_first c.args.text.now c.args.bytes.now (omega (arith, c.if-bytes-end.false, c.if-bytes-end-2.false)) c.if-behind-ne-DOT.false (sym c.is_label.ensures ∙ c.if-not-is_label.false))

@@ -4,7 +4,7 @@ use Rattle.px_head.specs.Blocks.{head_end}
 use Rattle.px_head.specs.declared.TheConstants.{HEAD_LIMIT}
 use Rattle.px_head.specs.declared.blocks.HeadEnd.TheVariants.{At, Over}
 use Rattle.px_pool_ends.specs.declared.judges.Judged.TheVariants as judged
-use Rattle.px_pool_ends.specs.Answers.{IsInterim, IsFinal, Judges}
+use Rattle.px_pool_ends.specs.Answers.{IsInterim, IsFinalHead, Judges}
 use Rattle.px_pool_ends.proofs.AnswerLemmas.{never_over, never_judged, ninth, one_passed, both, body_begins, body_read}
 use Rattle.px_pool_ends.proofs.followers.pass_heads.Goals as goal
 
@@ -28,7 +28,7 @@ heads-preserved c =
 
 pub returns-in-Final-clause-due : goal.returns-in-Final-clause-due
 returns-in-Final-clause-due c lost more =
-    let is : IsFinal (take c.in-At.len c.heads.rest) c.in-Final.rule = rw c.as_bytes-in-heads.ensures at c.in-Final.ensures in
+    let is : IsFinalHead (take c.in-At.len c.heads.rest) c.in-Final.rule = rw c.as_bytes-in-heads.ensures at c.in-Final.ensures in
     let due = rw (take_rest, c.as_bytes-in-Final.ensures, c.new-reader.ensures.first) at (c.hear_body.ensures.due lost more) in
     both (c.heads.invariant.same more) (both (body_begins (8 - c.heads.passed) c.in-At.len c.heads.rest more c.in-Final.rule is (body_read c.in-Final.rule (drop c.in-At.len c.heads.rest ++ more))) due)
 

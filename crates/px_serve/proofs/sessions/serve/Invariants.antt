@@ -1,6 +1,6 @@
 use Rattle.std.proofs.Common.{◌≤◌, ◌-◌, vec_capacity}
 use Rattle.px_serve.specs.declared.ends.TheConstants.{REQUEST_LIMIT}
-use Rattle.px_serve.specs.Keeping.{IsKept}
+use Rattle.px_serve.specs.Keeping.{IsKeptStore}
 use Rattle.px_serve.proofs.SessionLemmas.{Serving}
 use Rattle.px_serve.proofs.sessions.serve.Given as goal
 
@@ -19,7 +19,7 @@ invariant-requests g l =
           (record { client_out = O l.client_out; dialer = D l.dialer; clock = T l.clock })
           l.notes.items;
       room : REQUEST_LIMIT ≤ vec_capacity l.notes;
-      kept : IsKept (g.K.Configs.view l.configs) l.kept;
+      kept : IsKeptStore (g.K.Configs.view l.configs) l.kept;
     }
 
 abbrev pub decreases-requests : goal.decreases-requests

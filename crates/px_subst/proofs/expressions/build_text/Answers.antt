@@ -1,6 +1,6 @@
 use Rattle.std.proofs.Common.{◌∙◌, subst, sym}
 use Rattle.regex.specs.Bytes.{regex_pattern}
-use Rattle.px_subst.specs.Expressions.{IsBuiltFrom}
+use Rattle.px_subst.specs.Expressions.{IsJobBuiltFrom}
 use Rattle.regex.specs.Names.{names_of}
 use Rattle.px_subst.proofs.ExpressionLemmas.{built_expression, refused_expression, options_of, source_of}
 use Rattle.px_subst.proofs.expressions.build_text.Goals as goal
@@ -15,7 +15,7 @@ returns-in-Ok c =
     (c.in-Ok.ensures.config
     ∙ options_of c.args.flags _ _ _ _ _ _ c.new.ensures.config c.case_insensitive.ensures c.multi_line.ensures c.dot_matches_new_line.ensures c.swap_greed.ensures c.ignore_whitespace.ensures)
     source_is c.in-Ok.ensures.read in
-    (source_is, subst (λ text. IsBuiltFrom c.args.flags text (regex_pattern c.in-Ok.regex)) (sym source_is) built)
+    (source_is, subst (λ text. IsJobBuiltFrom c.args.flags text (regex_pattern c.in-Ok.regex)) (sym source_is) built)
 
 pub returns-in-Err-Syntax : goal.returns-in-Err-Syntax
 returns-in-Err-Syntax c =

@@ -2,7 +2,7 @@ use Rattle.std.proofs.Common.{◌≡◌, [], ◌∷◌, ◌++◌, get_or, ap, �
 use Rattle.std.proofs.Math.Seq.{get_or-append_seam}
 use Rattle.std.proofs.lemmas.Result.{on_err_weaker}
 use Rattle.px_actions.specs.Sets.{IsUpdatedByFront}
-use Rattle.px_merge.specs.Merging.{tagged, updates_in}
+use Rattle.px_merge.specs.Merging.{tagged_sections, updates_in}
 use Rattle.px_taggers.proofs.tags.put.Goals as goal
 
 pub returns-clause-err : goal.returns-clause-err
@@ -16,5 +16,5 @@ returns-clause-err c =
     ∙ ap (λ n. get_or (tags ++ c.args.tag ∷ []) n shown) c.len-at.ensures
     ∙ get_or-append_seam tags c.args.tag [] shown in
     on_err_weaker c.apply_tag.result (λ had.
-    inr (c.in_ok-add.ensures.ok, subst (λ tag. IsUpdatedByFront c.args.set.now (updates_in (tagged c.args.sections.now.sections tag)) c.apply_tag.new.set) is_tag had))
+    inr (c.in_ok-add.ensures.ok, subst (λ tag. IsUpdatedByFront c.args.set.now (updates_in (tagged_sections c.args.sections.now.sections tag)) c.apply_tag.new.set) is_tag had))
     c.apply_tag.ensures.err

@@ -1,7 +1,7 @@
 use Rattle.std.proofs.Common.{◌≡◌, subst, OnOk, List}
 use Rattle.std.proofs.lemmas.List.{take_rest}
 use Rattle.px_templates.specs.Pieces.{Piece}
-use Rattle.px_templates.specs.Runs.{held}
+use Rattle.px_templates.specs.Runs.{held_pieces}
 use Rattle.px_templates.proofs.PieceLemmas.{parts_byte, parts_end, parts_value}
 use Rattle.px_templates.proofs.runs.push_parts.Goals as goal
 
@@ -18,6 +18,6 @@ parts-preserved c =
 
 pub returns : goal.returns
 returns c =
-    subst (λ (l : List Piece). OnOk c.push_bytes-2.result (held c.push_bytes-2.new.runs.items ≡ l))
+    subst (λ (l : List Piece). OnOk c.push_bytes-2.result (held_pieces c.push_bytes-2.new.runs.items ≡ l))
     (parts_end c.args.runs.now.items c.args.condition c.args.text.now c.parts.from c.parts.at c.parts.runs.items c.parts.invariant c.parts-test.false)
     c.push_bytes-2.ensures

@@ -1,9 +1,9 @@
 use Rattle.std.proofs.Common.{◌≡◌, ◌++◌, ◌+◌, ◌∙◌, ap, Some, length, arith, refl}
 use Rattle.std.proofs.lemmas.List.{take_rest}
-use Rattle.px_templates.specs.declared.fronts.Front.TheVariants as front
+use Rattle.px_templates.specs.declared.fronts.TemplateFront.TheVariants as front
 use Rattle.px_templates.specs.Pieces.{parts_behind}
 use Rattle.px_templates.specs.Symbols.{start_of, end_of}
-use Rattle.px_templates.specs.Runs.{held}
+use Rattle.px_templates.specs.Runs.{held_pieces}
 use Rattle.px_templates.proofs.PieceLemmas.{ended_all, inside-is, open_here, pieces_byte, pieces_end, pieces_front, pieces_init}
 use Rattle.px_templates.proofs.templates.read_runs.Goals as goal
 
@@ -33,7 +33,7 @@ fronts-preserved c =
     (take_rest c.args.text.now c.fronts.at) c.in-Block.ensures.front c.in-Block.ensures.within (λ e. cc) (omega arith)
     c.in_ok-push_bytes-in-Block.ensures
     (c.in_ok-push_parts-in-Block.ensures
-    ∙ ap (λ l. held c.push_bytes-in-Block.new.runs.items ++ parts_behind (Some k) 0 l)
+    ∙ ap (λ l. held_pieces c.push_bytes-in-Block.new.runs.items ++ parts_behind (Some k) 0 l)
     (inside-is k n c.fronts.at (c.fronts.at + length c.start.result.now) c.args.text.now c.start.result.now c.start.ensures refl))
 
 pub returns-in-Open-clause-refused : goal.returns-in-Open-clause-refused

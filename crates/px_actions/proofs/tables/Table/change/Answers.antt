@@ -1,7 +1,7 @@
 use Rattle.std.proofs.Common.{◌≢◌, ◌∙◌, ap, false, get_or, sym}
 use Rattle.std.proofs.lemmas.Result.{on_ok_weaker}
 use Rattle.px_actions.specs.Kinds.{entry_of}
-use Rattle.px_actions.specs.Sets.{changed}
+use Rattle.px_actions.specs.Sets.{changed_setting}
 use Rattle.px_actions.specs.declared.kinds.Shape.TheVariants as shape
 use Rattle.px_actions.specs.declared.settings.Setting.TheVariants as setting
 use Rattle.px_actions.proofs.TableLemmas.{table_changed, table_flagged}
@@ -12,7 +12,7 @@ returns-in-Flag-clause-ok c =
     rw c.place.ensures.place
     (table_flagged c.args.self.now c.self.inside.flags c.self.inside.entries c.args.kind c.args.change.now _ c.self.view_is c.requires.sound
     (sym c.shape.ensures ∙ c.in-Flag.is)
-    (c.change_flag.ensures ∙ ap (λ at. changed (setting.Flag (get_or c.self.inside.flags at false)) c.args.change.now) c.place.ensures.place))
+    (c.change_flag.ensures ∙ ap (λ at. changed_setting (setting.Flag (get_or c.self.inside.flags at false)) c.args.change.now) c.place.ensures.place))
 
 pub returns-in-Single-clause-ok : goal.returns-in-Single-clause-ok
 returns-in-Single-clause-ok c =

@@ -1,5 +1,5 @@
 use Rattle.std.proofs.Common.{◌≡◌, ℕ, List, ◌++◌, sym, ◌∙◌, ap, subst}
-use Rattle.px_framing.specs.Reading.{Steps, first, added, IsSettled, Reading}
+use Rattle.px_framing.specs.Reading.{ReaderSteps, first, added, IsSettled, Reading}
 use Rattle.px_framing.specs.Passing.{settled, data_in, raw_in}
 use Rattle.px_framing.proofs.BodyLemmas.{body-of}
 use Rattle.px_framing.proofs.StepLemmas.{added-is, steps-on}
@@ -42,9 +42,9 @@ returns-in-Ok-clause-steps c =
     let piece = c.args.piece.now in
     let used = c.in-Ok.far.used in
     let plain_put = added c.args.plain.now c.from_vec.result in
-    subst (λ (r : Reading). Steps r piece (raw_in r piece) plain_put used (after c)) c.self.view_is
-    (subst (λ (w : List ℕ). Steps (before c) piece (raw_in (before c) piece) w used (after c)) (sym (added-is c.args.plain.now c.from_vec.result _ (plain-is c)))
-    (subst (λ (w : List ℕ). Steps (before c) piece w (data_in (before c) piece) used (after c)) (raw-is c)
+    subst (λ (r : Reading). ReaderSteps r piece (raw_in r piece) plain_put used (after c)) c.self.view_is
+    (subst (λ (w : List ℕ). ReaderSteps (before c) piece (raw_in (before c) piece) w used (after c)) (sym (added-is c.args.plain.now c.from_vec.result _ (plain-is c)))
+    (subst (λ (w : List ℕ). ReaderSteps (before c) piece w (data_in (before c) piece) used (after c)) (raw-is c)
     (steps-passed (before c) (after c) piece (put c) used c.in-Ok.ensures.passes.passes (settled-after c))))
 
 pub returns-in-Ok-clause-after : goal.returns-in-Ok-clause-after

@@ -1,6 +1,6 @@
 use Rattle.std.proofs.Common.{◌≡◌, ℕ, List, ◌++◌, take, sym, ◌∙◌, ap, subst}
 use Rattle.std.proofs.lemmas.List.{take_at}
-use Rattle.px_framing.specs.Reading.{Steps, first, added, IsSettled, Reading}
+use Rattle.px_framing.specs.Reading.{ReaderSteps, first, added, IsSettled, Reading}
 use Rattle.px_framing.specs.Passing.{settled, data_in}
 use Rattle.px_framing.proofs.BodyLemmas.{body-of}
 use Rattle.px_framing.proofs.StepLemmas.{steps-on}
@@ -28,8 +28,8 @@ returns-clause-steps c =
     put-all kept line c.settle_line.new.line piece whole
     (λ e. c.settle_line.ensures.none e ∙ ap (take c.len-len.result) pushed ∙ take_at line kept c.len-len.result (sym c.len-len.ensures))
     (λ some. c.settle_line.ensures.some some ∙ pushed) in
-    subst (λ (r : Reading). Steps r piece (added line c.settle_line.new.line ++ take whole piece) (data_in r piece) c.pass_on-far.result.used (after c)) same
-    (subst (λ (w : List ℕ). Steps old piece w (data_in old piece) c.pass_on-far.result.used (after c)) (sym put)
+    subst (λ (r : Reading). ReaderSteps r piece (added line c.settle_line.new.line ++ take whole piece) (data_in r piece) c.pass_on-far.result.used (after c)) same
+    (subst (λ (w : List ℕ). ReaderSteps old piece w (data_in old piece) c.pass_on-far.result.used (after c)) (sym put)
     (steps-passed old (after c) piece (settled kept piece whole) c.pass_on-far.result.used c.pass_on-far.ensures.passes (settled-after c)))
 
 pub returns-clause-after : goal.returns-clause-after

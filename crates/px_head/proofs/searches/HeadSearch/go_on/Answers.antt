@@ -1,5 +1,5 @@
 use Rattle.std.proofs.Common.{◌≡◌, ℕ, List, Option, length, ltb, refl, sym, ap, ◌∙◌, subst}
-use Rattle.px_head.specs.Blocks.{head_end, end_of, block_len}
+use Rattle.px_head.specs.Blocks.{head_end, head_block_end, block_len}
 use Rattle.px_head.specs.Searches.{HasPassed, SearchedOrAnew}
 use Rattle.px_head.specs.declared.blocks.HeadEnd.{HeadEnd}
 use Rattle.px_head.proofs.BlockLemmas.{head-end-is, head-end-block, head-end-within, head-end-found, head-end-stable}
@@ -13,7 +13,7 @@ pass_lines-requires c =
 -- what is computed is the definition
 is : (c : goal.After-end_of) → c.end_of.result ≡ head_end c.args.limit c.args.bytes.now
 is c =
-    c.end_of.ensures ∙ ap (λ (o : Option ℕ). end_of o (ltb (length c.args.bytes.now) c.args.limit)) (c.pass_lines.ensures.value ∙ ap block_len c.front.ensures) ∙ head-end-is c.args.limit c.args.bytes.now _ refl
+    c.end_of.ensures ∙ ap (λ (o : Option ℕ). head_block_end o (ltb (length c.args.bytes.now) c.args.limit)) (c.pass_lines.ensures.value ∙ ap block_len c.front.ensures) ∙ head-end-is c.args.limit c.args.bytes.now _ refl
 
 pub returns-clause-value : goal.returns-clause-value
 returns-clause-value c = is c

@@ -1,7 +1,7 @@
 use Rattle.std.proofs.Common.{◌≡◌, refl, ap, ◌∙◌, sym}
 use Rattle.px_link_pool.specs.Histories.{dials_of}
 use Rattle.px_link_pool.specs.Joins.{over}
-use Rattle.px_pool_ends.specs.Names.{so_far}
+use Rattle.px_pool_ends.specs.Names.{passed_so_far}
 use Rattle.px_pool_ends.specs.Incomings.{lent_source, outer_source, inner_source}
 use Rattle.px_pool_ends.specs.Outgoings.{outer_sink, inner_sink}
 use Rattle.px_link_pool.specs.Shelves.{items}
@@ -76,11 +76,11 @@ pub returns-in-Some-clause-told : goal.returns-in-Some-clause-told
 returns-in-Some-clause-told g c = λ t.
     let off : TakenOff g.D.In.Source.state g.D.Out.Sink.state (items c.args.self.now.kept) (items c.fill.new.slot) c.in-Some.kept = taken_by _ _ _ _ _ _ _ _ _ c.replace-shelf.ensures.value c.take_at-rest.ensures.taken c.take_at-rest.ensures.others c.fill.ensures c.in-Some.is in
     let parts = told_parts (kept_state g.D.In.Source.state g.D.Out.Sink.state c.in-Some.kept) (off.told (c.args.self.now.stands.told t)).0 in
-    told_by _ (over (record { ins = g.D.In.Source.state; outs = g.D.Out.Sink.state }) c.args.self.now.history) (dials_of inner_source inner_sink c.args.self.now.history) _ (g.D.In.Source.state c.in-Some.kept.source).tells (g.D.Out.Sink.state c.in-Some.kept.sink).tells (g.D.In.Source.state c.in-Some.kept.source).mark (g.D.Out.Sink.state c.in-Some.kept.sink).mark (so_far (g.D.In.Source.state c.in-Some.kept.source) (g.D.Out.Sink.state c.in-Some.kept.sink))
+    told_by _ (over (record { ins = g.D.In.Source.state; outs = g.D.Out.Sink.state }) c.args.self.now.history) (dials_of inner_source inner_sink c.args.self.now.history) _ (g.D.In.Source.state c.in-Some.kept.source).tells (g.D.Out.Sink.state c.in-Some.kept.sink).tells (g.D.In.Source.state c.in-Some.kept.source).mark (g.D.Out.Sink.state c.in-Some.kept.sink).mark (passed_so_far (g.D.In.Source.state c.in-Some.kept.source) (g.D.Out.Sink.state c.in-Some.kept.sink))
     (c.args.self.now.joins t).named (again_new g.D.In.Source.state g.D.Out.Sink.state _ _ _ _ c.in-Some.kept c.args.self.now.stands off t) parts.0 parts.1 parts.2 (rw c.lend.ensures.source refl) (rw c.lend.ensures.sink refl) (rw (c.lend.ensures.source, c.lend.ensures.begun, c.lend.ensures.begun_out) refl) (rw (c.lend.ensures.sink, c.lend.ensures.begun_in, c.lend.ensures.also_begun) refl)
 
 pub returns-in-Ok-clause-told : goal.returns-in-Ok-clause-told
 returns-in-Ok-clause-told g c = λ t.
     let told = (rw c.in-Ok.is at c.dial-asked.ensures.told) t in
-    told_by _ (over (record { ins = g.D.In.Source.state; outs = g.D.Out.Sink.state }) c.args.self.now.history) (dials_of inner_source inner_sink c.args.self.now.history) _ (g.D.In.Source.state c.in-Ok.source).tells (g.D.Out.Sink.state c.in-Ok.sink).tells (g.D.In.Source.state c.in-Ok.source).mark (g.D.Out.Sink.state c.in-Ok.sink).mark (so_far (g.D.In.Source.state c.in-Ok.source) (g.D.Out.Sink.state c.in-Ok.sink))
+    told_by _ (over (record { ins = g.D.In.Source.state; outs = g.D.Out.Sink.state }) c.args.self.now.history) (dials_of inner_source inner_sink c.args.self.now.history) _ (g.D.In.Source.state c.in-Ok.source).tells (g.D.Out.Sink.state c.in-Ok.sink).tells (g.D.In.Source.state c.in-Ok.source).mark (g.D.Out.Sink.state c.in-Ok.sink).mark (passed_so_far (g.D.In.Source.state c.in-Ok.source) (g.D.Out.Sink.state c.in-Ok.sink))
     (c.args.self.now.joins t).named (unknown _ _ _ _ c.args.self.now.stands t told.new_mark).0 told.in_tells told.out_tells told.one_mark (rw c.lend-in-Ok.ensures.source refl) (rw c.lend-in-Ok.ensures.sink refl) (rw (c.lend-in-Ok.ensures.source, c.lend-in-Ok.ensures.begun, c.lend-in-Ok.ensures.begun_out) refl) (rw (c.lend-in-Ok.ensures.sink, c.lend-in-Ok.ensures.begun_in, c.lend-in-Ok.ensures.also_begun) refl)

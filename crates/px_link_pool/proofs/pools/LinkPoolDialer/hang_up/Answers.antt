@@ -4,7 +4,7 @@ use Rattle.px_base.specs.Dials.{traffic}
 use Rattle.px_pool_ends.specs.Answers.{is_lost}
 use Rattle.px_pool_ends.specs.Incomings.{outer_source, inner_source}
 use Rattle.px_pool_ends.specs.Outgoings.{outer_sink, inner_sink}
-use Rattle.px_link_pool.specs.Histories.{dials_of, counted, wanted}
+use Rattle.px_link_pool.specs.Histories.{dials_of, counted_up, wanting_count}
 use Rattle.px_link_pool.specs.Joins.{over}
 use Rattle.px_link_pool.specs.Standing.{kept_state}
 use Rattle.px_link_pool.proofs.MarkLemmas.{IsLent, lent_by}
@@ -28,7 +28,7 @@ invariant_of-self-in-None g c =
           c.handed-link.ensures.source c.handed-link.ensures.sink (lent t) (c.handed-link.ensures.later (lent t).in_tells) (c.handed-link.ensures.judged (lent t).in_tells (lent t).out_tells).sent
           (rw (c.of-noted_in.ensures, c.of-noted_out.ensures) at (c.hung_up.ensures.over (record { ins = g.D.In.Source.state; outs = g.D.Out.Sink.state }))) (c.hung_up.ensures.joined _ (record { ins = g.D.In.Source.state; outs = g.D.Out.Sink.state })) (closes_none g.D.In.Source.state g.D.Out.Sink.state _ _ c.in-None.is)
           (rw (c.of-noted_in.ensures, c.of-noted_out.ensures) at (c.hung_up.ensures.dials outer_source outer_sink)) (rw (c.of-noted_in.ensures, c.of-noted_out.ensures) at (c.hung_up.ensures.dials inner_source inner_sink)) (rw (c.of-noted_in.ensures, c.of-noted_out.ensures) at (c.hung_up.ensures.lent (record { ins = g.D.In.Source.state; outs = g.D.Out.Sink.state })));
-      counts = c.raised-self-3.ensures.counted ∙ ap (λ b. counted b c.args.self.now.wanting) c.has_lost.ensures ∙ ap (counted (is_lost c.args.link_in.following)) c.args.self.now.counts ∙ sym (c.hung_up.ensures.wanted ∙ ap (λ h. counted (is_lost h.following) (wanted c.args.self.now.history)) c.of-noted_in.ensures);
+      counts = c.raised-self-3.ensures.counted ∙ ap (λ b. counted_up b c.args.self.now.wanting) c.has_lost.ensures ∙ ap (counted_up (is_lost c.args.link_in.following)) c.args.self.now.counts ∙ sym (c.hung_up.ensures.wanted ∙ ap (λ h. counted_up (is_lost h.following) (wanting_count c.args.self.now.history)) c.of-noted_in.ensures);
       judged = λ t. ∥∥₁_map (c.args.self.now.judged t) (c.hung_up.ensures.judged (rw (c.of-noted_in.ensures, c.of-noted_out.ensures) (c.handed-link.ensures.judged (lent t).in_tells (lent t).out_tells)));
     }
 
@@ -65,6 +65,6 @@ invariant_of-self g c =
           c.handed-link.ensures.source c.handed-link.ensures.sink (lent was) (c.handed-link.ensures.later (lent was).in_tells) (c.handed-link.ensures.judged (lent was).in_tells (lent was).out_tells).sent
           (rw (c.of-noted_in.ensures, c.of-noted_out.ensures) at (c.hung_up.ensures.over (record { ins = g.D.In.Source.state; outs = g.D.Out.Sink.state }))) (c.hung_up.ensures.joined _ (record { ins = g.D.In.Source.state; outs = g.D.Out.Sink.state })) (closes_some g.D.In.Source.state g.D.Out.Sink.state _ c.in-Some.closing _ _ c.in-Some.is (c.hang_up.ensures.hung_up.dials was))
           (rw (c.of-noted_in.ensures, c.of-noted_out.ensures) at (c.hung_up.ensures.dials outer_source outer_sink)) (rw (c.of-noted_in.ensures, c.of-noted_out.ensures) at (c.hung_up.ensures.dials inner_source inner_sink)) (rw (c.of-noted_in.ensures, c.of-noted_out.ensures) at (c.hung_up.ensures.lent (record { ins = g.D.In.Source.state; outs = g.D.Out.Sink.state })));
-      counts = c.raised-self-3.ensures.counted ∙ ap (λ b. counted b c.args.self.now.wanting) c.has_lost.ensures ∙ ap (counted (is_lost c.args.link_in.following)) c.args.self.now.counts ∙ sym (c.hung_up.ensures.wanted ∙ ap (λ h. counted (is_lost h.following) (wanted c.args.self.now.history)) c.of-noted_in.ensures);
+      counts = c.raised-self-3.ensures.counted ∙ ap (λ b. counted_up b c.args.self.now.wanting) c.has_lost.ensures ∙ ap (counted_up (is_lost c.args.link_in.following)) c.args.self.now.counts ∙ sym (c.hung_up.ensures.wanted ∙ ap (λ h. counted_up (is_lost h.following) (wanting_count c.args.self.now.history)) c.of-noted_in.ensures);
       judged = λ t. let was = sym c.hang_up.ensures.goes_on.tells_same ∙ t in ∥∥₁_map (c.args.self.now.judged was) (c.hung_up.ensures.judged (rw (c.of-noted_in.ensures, c.of-noted_out.ensures) (c.handed-link.ensures.judged (lent was).in_tells (lent was).out_tells)));
     }

@@ -1,7 +1,7 @@
 use Rattle.std.proofs.Common.{◌++◌, sym}
-use Rattle.px_pumps.specs.Pumps.{added}
 use Rattle.px_pumps.proofs.PumpLemmas.{pumped, so_far_at}
 use Rattle.px_pumps.proofs.pumps.Pump.feed.Goals as goal
+use Rattle.px_framing.specs.Reading.{added}
 
 pub returns-in_err-next-clause-so_far : goal.returns-in_err-next-clause-so_far
 returns-in_err-next-clause-so_far c ask fed put h = so_far_at c.passage_tells.ensures ask fed put c.args.self.now.config c.args.self.now.stage h

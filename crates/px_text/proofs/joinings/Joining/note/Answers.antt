@@ -1,6 +1,6 @@
 use Rattle.std.proofs.Common.{◌+◌, ◌∙◌, sym, ap, subst, refl, Option, ℕ}
 use Rattle.px_text.specs.declared.joinings.Joining.{Joining}
-use Rattle.px_text.specs.Joinings.{IsLater}
+use Rattle.px_text.specs.Joinings.{IsLaterLine}
 use Rattle.px_text.proofs.StepLemmas.{first_noted, later_kept, later_noted, none_noted, with_note-other, with_note-text}
 use Rattle.px_text.proofs.joinings.Joining.note.Goals as goal
 
@@ -14,7 +14,7 @@ returns-then-is_text-clause-noted c =
 pub returns-then-is_text-clause-later : goal.returns-then-is_text-clause-later
 returns-then-is_text-clause-later c =
     let j = c.args.self.now in
-    subst (IsLater j.number (j.next + 1)) (sym (with_note-text j c.args.line.now (sym c.is_text.ensures ∙ c.if-is_text.true))) (later_kept j.number j.next j.not_text c.requires.joining.later)
+    subst (IsLaterLine j.number (j.next + 1)) (sym (with_note-text j c.args.line.now (sym c.is_text.ensures ∙ c.if-is_text.true))) (later_kept j.number j.next j.not_text c.requires.joining.later)
 
 pub returns-then-self-clause-refused : goal.returns-then-self-clause-refused
 returns-then-self-clause-refused c =
@@ -30,5 +30,5 @@ returns-then-is_none-clause-noted c =
 pub returns-then-is_none-clause-later : goal.returns-then-is_none-clause-later
 returns-then-is_none-clause-later c =
     let j = c.args.self.now in
-    subst (IsLater j.number (j.next + 1)) (sym (with_note-other j c.args.line.now (sym c.is_text.ensures ∙ c.if-is_text.false)))
+    subst (IsLaterLine j.number (j.next + 1)) (sym (with_note-other j c.args.line.now (sym c.is_text.ensures ∙ c.if-is_text.false)))
     (later_noted j.number j.next j.not_text c.requires.joining.ordered c.if-self.false c.requires.joining.later)
