@@ -3,9 +3,9 @@ use Rattle.std.proofs.Common.{◌≡◌, ℕ, true, false, List, Option, Some, N
 use Rattle.std.specs.Prelude.{IsTrue}
 use Rattle.std.specs.Str.{is_utf8}
 use Rattle.px_base.specs.Numbers.{decimal}
-use Rattle.px_head.specs.FieldLines.{read_field}
-use Rattle.px_head.specs.Names.{is_held_back_of_request}
-use Rattle.px_head.specs.declared.fields.Field.{Field}
+use Rattle.px_fields.specs.FieldLines.{read_field}
+use Rattle.px_fields.specs.Names.{is_held_back_of_request}
+use Rattle.px_fields.specs.declared.fields.Field.{Field}
 use Rattle.px_actions.specs.Kinds.{entry_of}
 use Rattle.px_actions.specs.Rules.{is_plain_text, override_hop, may_add, meets, keeps_rule}
 use Rattle.px_actions.specs.declared.kinds.Kind.TheVariants as kind

@@ -5,9 +5,9 @@ use Rattle.std.specs.Str.{bytes_eq, is_utf8}
 use Rattle.px_base.specs.Blanks.{is_blank, trim_front}
 use Rattle.px_base.specs.Numbers.{decimal}
 use Rattle.px_base.specs.Ports.{port_list}
-use Rattle.px_head.specs.FieldLines.{read_field}
-use Rattle.px_head.specs.Names.{is_held_back_of_request}
-use Rattle.px_head.specs.declared.fields.Field.{Field}
+use Rattle.px_fields.specs.FieldLines.{read_field}
+use Rattle.px_fields.specs.Names.{is_held_back_of_request}
+use Rattle.px_fields.specs.declared.fields.Field.{Field}
 use Rattle.px_actions.specs.Hops.{NextHop, next_hop}
 use Rattle.px_actions.specs.declared.kinds.Rule.{Rule}
 use Rattle.px_actions.specs.declared.kinds.Rule.TheVariants as rule

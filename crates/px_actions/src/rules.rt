@@ -5,14 +5,14 @@ ghost use Rattle.std.specs.Str.{bytes_eq};
 ghost use Rattle.px_base.specs.Numbers.{decimal};
 ghost use Rattle.px_base.specs.Ports.{port_list};
 ghost use Rattle.px_actions.specs.Rules.{is_control, is_plain_text, override_hop, hop_behind, meets, keeps_rule, may_add};
-ghost use Rattle.px_head.specs.FieldLines.{read_field};
+ghost use Rattle.px_fields.specs.FieldLines.{read_field};
 ghost use Rattle.px_actions.specs.Hops.{seen_hop};
 
 use crate::braces::without_front;
 use crate::hops::{Hop, read_hop};
 use crate::kinds::Rule;
 use px_base::{Mem, Ports, PortsFault, as_text, is_blank, read_decimal};
-use px_head::{is_held_back_of_request, read_field_line};
+use px_fields::{is_held_back_of_request, read_field_line};
 use std::alloc::Global;
 
 /// The word before the next hop in the parameter of `forward-override`.

@@ -2,8 +2,8 @@
 ghost use Rattle.std.specs.Prelude.{◌≡◌, ◌≤◌, false, IfOk, IsTrue, Some};
 ghost use Rattle.px_base.specs.Numbers.{decimal};
 ghost use Rattle.px_base.specs.Ports.{port_list};
-ghost use Rattle.px_head.specs.FieldLines.{read_field};
-ghost use Rattle.px_head.specs.Names.{is_held_back_of_request};
+ghost use Rattle.px_fields.specs.FieldLines.{read_field};
+ghost use Rattle.px_fields.specs.Names.{is_held_back_of_request};
 ghost use Rattle.px_actions.specs.Hops.{seen_hop};
 ghost use Rattle.px_actions.specs.Kinds.{entry_of};
 ghost use Rattle.px_actions.specs.Rules.{keeps_rule, override_hop};
@@ -12,7 +12,7 @@ use crate::hops::Hop;
 use crate::kinds::Kind;
 use crate::rules::{MOST_MINUTES, read_override};
 use px_base::{Mem, Ports, PortsFault, as_text, read_decimal};
-use px_head::{FieldLine, read_field_line};
+use px_fields::{FieldLine, read_field_line};
 use std::alloc::Global;
 
 /// A value as a text.

@@ -3,8 +3,9 @@ use Rattle.std.proofs.Common.{◌≡◌, ℕ, ◌-◌, List, [], ◌∷◌, ◌+
 use Rattle.std.proofs.lemmas.Grind.{flat_map-append}
 use Rattle.std.proofs.lemmas.List.{append-nil}
 use Rattle.std.proofs.Math.Seq.{take-append_seam}
-use Rattle.px_head.specs.declared.fields.Field.{Field}
-use Rattle.px_head.specs.Prints.{crlf, field_line, field_lines, printed_head}
+use Rattle.px_fields.specs.declared.fields.Field.{Field}
+use Rattle.px_fields.specs.FieldLines.{field_line}
+use Rattle.px_head.specs.Prints.{crlf, field_lines, printed_head}
 use Rattle.px_answers.specs.declared.forms.Framed.{Framed}
 use Rattle.px_answers.specs.Forms.{connection_field, head_with}
 use Rattle.px_answers.specs.Heads.{head_front}

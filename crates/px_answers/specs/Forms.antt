@@ -1,7 +1,7 @@
 -- The forms in which an answer's body is returned, and the head before it.
 use Rattle.std.specs.Prelude.{ℕ, Bool, true, false, ◌&&◌, nat_le, List, [], ◌∷◌, ◌++◌, Option, Some, None, codes, if◌then◌else◌}
 use Rattle.std.specs.Fmt.{decimal}
-use Rattle.px_head.specs.declared.fields.Field.{Field}
+use Rattle.px_fields.specs.declared.fields.Field.{Field}
 use Rattle.px_head.specs.Prints.{printed_head}
 use Rattle.px_framing.specs.Body.{Part, at_end}
 use Rattle.px_framing.specs.Reading.{goes_on, first}

@@ -3,8 +3,8 @@ use Rattle.std.specs.Prelude.{ℕ, Bool, true, false, not, ◌&&◌, ◌||◌, �
 use Rattle.std.specs.List.{list_all, list_any}
 use Rattle.std.specs.Str.{str_eq_ignore_ascii_case}
 use Rattle.px_base.specs.Numbers.{decimal}
-use Rattle.px_head.specs.Names.{has_name}
-use Rattle.px_head.specs.declared.fields.Field.{Field}
+use Rattle.px_fields.specs.Names.{has_name}
+use Rattle.px_fields.specs.declared.fields.Field.{Field}
 use Rattle.px_head.specs.declared.responses.ResponseHead.{ResponseHead}
 use Rattle.px_framing.specs.Rules.{codings_of, are_chunked}
 use Rattle.px_framing.specs.declared.rules.BodyRule.{BodyRule}

@@ -5,7 +5,7 @@ ghost use Rattle.px_answers.specs.Forms.{length_field};
 
 use itoa::Buffer;
 use px_base::{List, Mem, Text};
-use px_head::Field;
+use px_fields::Field;
 use std::alloc::Global;
 
 /// Adds a field of that name and value at the end.

@@ -1,7 +1,7 @@
 // What an answer's head settles.
 use px_base::{List, Text};
+use px_fields::Field;
 use px_framing::BodyRule;
-use px_head::Field;
 
 /// Which bytes of a body are returned.
 #[derive(Clone, Copy, Debug, PartialEq, Eq)]

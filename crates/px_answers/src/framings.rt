@@ -8,9 +8,10 @@ ghost use Rattle.px_answers.specs.Forms.{length_field};
 use crate::fields::{push_field, push_length};
 use crate::forms::{Form, Framed};
 use px_base::{List, Mem, Text, read_decimal, same_without_case};
+use px_fields::{Field, has_name};
 use px_filter_files::{FilterKind, Filters};
 use px_framing::{BODY_LIMIT, BodyRule, is_chunked_alone, transfer_codings};
-use px_head::{Field, ResponseHead, has_name};
+use px_head::ResponseHead;
 use std::alloc::Global;
 
 const CONTENT_ENCODING: &[u8] = b"Content-Encoding";

@@ -1,15 +1,17 @@
 // The head of an answer that is returned: the status line, the fields behind the header actions, those that frame the body, and
 // Connection. No field is copied.
 ghost use Rattle.std.specs.Prelude.{◌≡◌, ◌++◌, ◌∷◌, [], OnOk, length};
-ghost use Rattle.px_head.specs.Prints.{crlf, field_line, field_lines};
+ghost use Rattle.px_fields.specs.FieldLines.{field_line};
+ghost use Rattle.px_head.specs.Prints.{crlf, field_lines};
 ghost use Rattle.px_answers.specs.Forms.{connection_field, ends_by, has_end, head_with, keeps_behind_answer, length_field, passed_head};
 ghost use Rattle.px_answers.specs.Heads.{head_front};
 
 use crate::forms::{Form, Framed};
 use itoa::Buffer;
 use px_base::{Mem, Text};
+use px_fields::Field;
 use px_framing::BodyRule;
-use px_head::{Field, print_head};
+use px_head::print_head;
 
 /// What ends a printed line, and is the empty line at the end of a head.
 const LINE_END: &[u8] = b"\r\n";

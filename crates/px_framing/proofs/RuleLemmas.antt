@@ -6,8 +6,8 @@ use Rattle.std.proofs.lemmas.List.{drop_all}
 use Rattle.px_base.specs.Blanks.{trimmed}
 use Rattle.px_base.specs.Cuts.{parts_of}
 use Rattle.px_base.specs.Numbers.{decimal}
-use Rattle.px_head.specs.Names.{has_name}
-use Rattle.px_head.specs.declared.fields.Field.{Field}
+use Rattle.px_fields.specs.Names.{has_name}
+use Rattle.px_fields.specs.declared.fields.Field.{Field}
 use Rattle.px_framing.specs.Body.{body_limit}
 use Rattle.px_framing.specs.declared.rules.CodingsSeen.{CodingsSeen}
 use Rattle.px_framing.specs.declared.rules.Lengths.{Lengths}

@@ -4,8 +4,8 @@ use Rattle.std.specs.List.{slice_split, list_all}
 use Rattle.std.specs.Str.{bytes_eq, str_eq_ignore_ascii_case}
 use Rattle.px_base.specs.Blanks.{trimmed}
 use Rattle.px_base.specs.Numbers.{decimal}
-use Rattle.px_head.specs.Names.{has_name}
-use Rattle.px_head.specs.declared.fields.Field.{Field}
+use Rattle.px_fields.specs.Names.{has_name}
+use Rattle.px_fields.specs.declared.fields.Field.{Field}
 use Rattle.px_head.specs.declared.responses.ResponseHead.{ResponseHead}
 use Rattle.px_framing.specs.Body.{body_limit}
 use Rattle.px_framing.specs.declared.rules.BodyRule.{BodyRule}

@@ -7,8 +7,8 @@ use Rattle.px_framing.specs.declared.rules.BodyRule.TheVariants.{Length}
 use Rattle.px_framing.specs.declared.rules.BodyFault.{BodyFault}
 use Rattle.px_framing.specs.declared.rules.BodyFault.TheVariants.{TwoLengths}
 use Rattle.px_base.specs.Numbers.{decimal}
-use Rattle.px_head.specs.Names.{has_name}
-use Rattle.px_head.specs.declared.fields.Field.{Field}
+use Rattle.px_fields.specs.Names.{has_name}
+use Rattle.px_fields.specs.declared.fields.Field.{Field}
 use Rattle.px_framing.specs.Body.{body_limit}
 use Rattle.px_framing.specs.Rules.{is_chunked, items_of, codings_name, lengths_name}
 

@@ -1,11 +1,11 @@
 // The codings of a head's Transfer-Encoding fields.
 ghost use Rattle.std.specs.Prelude.{◌≡◌, ◌++◌, [], if◌then◌else◌, OnOk, IfOk};
-ghost use Rattle.px_head.specs.Names.{has_name as has_name_spec};
+ghost use Rattle.px_fields.specs.Names.{has_name as has_name_spec};
 ghost use Rattle.px_framing.specs.Rules.{are_chunked, codings_name, codings_of, items_of};
 
 use crate::rules::read_codings;
 use px_base::{List, Mem, Text, cut, trim};
-use px_head::{Field, has_name};
+use px_fields::{Field, has_name};
 use std::alloc::Global;
 
 /// Whether the codings of all Transfer-Encoding fields are `chunked` alone, without case (RFC 9112, section 6.1). It takes no

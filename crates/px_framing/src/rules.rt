@@ -5,7 +5,8 @@ ghost use Rattle.px_framing.specs.Seen.{by_lengths as by_lengths_spec, field_see
 
 use crate::BODY_LIMIT;
 use px_base::{cut, read_decimal, same_without_case, trim};
-use px_head::{Field, ResponseHead, has_name};
+use px_fields::{Field, has_name};
+use px_head::ResponseHead;
 use std::error::Error;
 use std::fmt;
 

@@ -9,7 +9,7 @@ use Rattle.httparse.specs.declared.spans.ResponseSpans.{ResponseSpans}
 use Rattle.httparse.proofs.GrammarLemmas.{request_unique, response_unique}
 use Rattle.px_head.specs.Fields.{field_at, field_of}
 use Rattle.px_head.specs.Heads.{request_of, response_of, IsRequest, IsResponse}
-use Rattle.px_head.specs.declared.fields.Field.{Field}
+use Rattle.px_fields.specs.declared.fields.Field.{Field}
 use Rattle.px_head.specs.declared.requests.RequestHead.{RequestHead}
 use Rattle.px_head.specs.declared.responses.ResponseHead.{ResponseHead}
 

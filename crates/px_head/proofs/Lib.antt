@@ -1,5 +1,4 @@
 mod Cutting
-mod NameLemmas
 pub mod LineLemmas
 mod PrintLemmas
 pub mod BlockLemmas

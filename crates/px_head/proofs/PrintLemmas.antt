@@ -2,8 +2,9 @@
 use Rattle.std.proofs.Common.{◌≡◌, ℕ, suc, ◌+◌, ◌<◌, List, [], ◌∷◌, ◌++◌, length, take, get_or, sym, ◌∙◌, ap, arith, length-append}
 use Rattle.std.proofs.Math.Seq.{take-suc}
 use Rattle.std.proofs.lemmas.Grind.{flat_map-append}
-use Rattle.px_head.specs.declared.fields.Field.{Field}
-use Rattle.px_head.specs.Prints.{crlf, field_line, field_lines}
+use Rattle.px_fields.specs.declared.fields.Field.{Field}
+use Rattle.px_fields.specs.FieldLines.{field_line}
+use Rattle.px_head.specs.Prints.{crlf, field_lines}
 
 -- one more field
 pub lines-next : (fields : List Field) (i : ℕ) (f : Field) → i < length fields → f ≡ get_or fields i f

@@ -13,12 +13,11 @@ use Rattle.httparse.proofs.PieceLemmas.{colon_ends_token}
 use Rattle.httparse.proofs.TrimLemmas.{AllPass-trim_ows}
 use Rattle.px_base.specs.Blanks.{is_blank, all_blank, trim_front, trim_end, trimmed}
 use Rattle.px_base.proofs.BlankLemmas.{trim_end-blank, trim_end-other}
-use Rattle.px_head.specs.FieldLines.{is_value_byte, field_from, read_field}
+use Rattle.px_fields.specs.FieldLines.{is_value_byte, field_from, read_field, field_line}
 use Rattle.px_head.specs.Fields.{field_of}
 use Rattle.px_head.specs.Heads.{IsRequest, IsResponse}
-use Rattle.px_head.specs.Prints.{field_line}
 use Rattle.px_head.specs.ReadBack.{ReadsBack}
-use Rattle.px_head.specs.declared.fields.Field.{Field}
+use Rattle.px_fields.specs.declared.fields.Field.{Field}
 use Rattle.px_head.specs.declared.requests.RequestHead.{RequestHead}
 use Rattle.px_head.specs.declared.responses.ResponseHead.{ResponseHead}
 use Rattle.px_head.proofs.GrammarBlocks.{differs}

@@ -3,7 +3,7 @@ use Rattle.std.specs.Prelude.{ℕ, List}
 use Rattle.httparse.specs.Grammar as grammar
 use Rattle.httparse.specs.Spans.{span_bytes}
 use Rattle.httparse.specs.declared.spans.HeaderSpan.{HeaderSpan}
-use Rattle.px_head.specs.declared.fields.Field.{Field}
+use Rattle.px_fields.specs.declared.fields.Field.{Field}
 
 -- a field line of the grammar as a field: its name, and its value without the white space around it
 abbrev pub field_of : grammar.Field → Field

@@ -1,7 +1,8 @@
 -- The printed form of a head (RFC 9112, sections 3, 4 and 5). Printed lines have no line end; a head ends each with CR LF.
-use Rattle.std.specs.Prelude.{◌≡◌, ℕ, ◌-◌, List, [], ◌∷◌, ◌++◌, length, take, codes, flat_map}
+use Rattle.std.specs.Prelude.{ℕ, ◌-◌, List, [], ◌∷◌, ◌++◌, length, take, codes, flat_map}
 use Rattle.std.specs.Fmt.{decimal}
-use Rattle.px_head.specs.declared.fields.Field.{Field}
+use Rattle.px_fields.specs.FieldLines.{field_line}
+use Rattle.px_fields.specs.declared.fields.Field.{Field}
 use Rattle.px_head.specs.declared.requests.RequestHead.{RequestHead}
 use Rattle.px_head.specs.declared.responses.ResponseHead.{ResponseHead}
 
@@ -29,10 +30,6 @@ reason_part (b ∷ bs) = codes " " ++ b ∷ bs
 unfoldable pub status_line : ResponseHead → List ℕ
 status_line head = version_text head.minor ++ codes " " ++ status_text head.status ++ reason_part head.reason
 
--- the field's line
-abbrev pub field_line : Field → List ℕ
-field_line f = f.name ++ codes ": " ++ f.value
-
 -- the lines of the fields, each with its end
 unfoldable pub field_lines : List Field → List ℕ
 field_lines fields = flat_map (λ f. field_line f ++ crlf) fields
@@ -40,8 +37,3 @@ field_lines fields = flat_map (λ f. field_line f ++ crlf) fields
 -- the first line, the fields' lines and an empty line
 unfoldable pub printed_head : List ℕ → List Field → List ℕ
 printed_head first_line fields = first_line ++ crlf ++ field_lines fields ++ crlf
-
--- the bytes begin with the others
-pub record IsFrontOf (front bytes : List ℕ) : Type 0 where
-  pub more : List ℕ
-  pub is : bytes ≡ front ++ more

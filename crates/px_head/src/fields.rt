@@ -1,32 +1,12 @@
-// Fields of a head.
+// The fields that a parser found in a head.
 ghost use Rattle.std.specs.Prelude.{◌≡◌, ◌≤◌, ◌==◌, length, map, count_by, vec_len, All, IfOk};
 ghost use Rattle.httparse.specs.Spans.{IsHeaderWithin};
 ghost use Rattle.px_head.specs.Fields.{field_at};
-ghost use Rattle.px_head.specs.Prints.{field_line};
 
-use crate::prints::{FIELD_SEPARATOR, push_field};
 use httparse::spans::{EMPTY_HEADER_SPAN, HeaderSpan};
 use px_base::{List, Mem, Text};
+use px_fields::Field;
 use std::alloc::{AllocError, Global};
-
-/// A field of a head: its name, and its value without the white space around it.
-#[derive(Drop)]
-pub struct Field {
-    pub name: Text,
-    pub value: Text,
-}
-
-impl Field {
-    /// The field's line without its end: the name, a colon, a space and the value (RFC 9112, section 5).
-    pub fn line(&self, alloc: Global) -> Result<Text, Mem>
-        ensures { IfOk result (λ line. line ≡ field_line self.now) }
-    {
-        let room = self.name.len().saturating_add(self.value.len());
-        let mut line = Text::with_capacity(alloc, room.saturating_add(FIELD_SEPARATOR.len()))?;
-        push_field(&mut line, self)?;
-        Ok(line)
-    }
-}
 
 /// The fields that spans cover.
 pub fn copy_fields(alloc: Global, block: &[u8], spans: &[HeaderSpan]) -> Result<List<Field>, Mem>

@@ -1,10 +1,10 @@
 // Laws of heads, and what their constants are.
 ghost use Rattle.std.specs.Prelude.{◌≡◌, ℕ, List, All, Some};
 ghost use Rattle.px_head.specs.Faults.{too_long_number, too_long_name};
-ghost use Rattle.px_head.specs.FieldLines.{read_field};
+ghost use Rattle.px_fields.specs.FieldLines.{read_field};
 ghost use Rattle.px_head.specs.Heads.{IsRequest, IsResponse};
 ghost use Rattle.px_head.specs.ReadBack.{ReadsBack};
-ghost use Rattle.px_head.specs.declared.fields.Field.{Field};
+ghost use Rattle.px_fields.specs.declared.fields.Field.{Field};
 ghost use Rattle.px_head.specs.declared.requests.RequestHead.{RequestHead};
 ghost use Rattle.px_head.specs.declared.responses.ResponseHead.{ResponseHead};
 

@@ -3,10 +3,8 @@
 
 mod blocks;
 mod faults;
-mod field_lines;
 mod fields;
 mod laws;
-mod names;
 mod prints;
 mod requests;
 mod responses;
@@ -14,13 +12,7 @@ mod searches;
 
 pub use blocks::{HeadEnd, find_head};
 pub use faults::{HeadFault, TOO_LONG_NAME, TOO_LONG_NUMBER};
-pub use field_lines::{FieldLine, is_token, read_field_line};
-pub use fields::Field;
 pub use laws::{constants, fields_read_back, readings_are_one};
-pub use names::{
-    first_field, has_field, has_name, is_connection_word, is_held_back_of_request,
-    is_held_back_of_response, lists_word,
-};
 pub use prints::print_head;
 pub use requests::RequestHead;
 pub use responses::{ResponseHead, is_interim};

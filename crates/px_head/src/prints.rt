@@ -1,16 +1,14 @@
 // The printed form of a head.
 ghost use Rattle.std.specs.Prelude.{◌≡◌, ◌-◌, ◌^◌, ◌++◌, length, min, OnOk, OnErr};
-ghost use Rattle.px_head.specs.Prints.{field_line, field_lines, printed_head, reason_part, status_text, version_text, IsFrontOf};
+ghost use Rattle.px_fields.specs.FieldLines.{field_line, IsFrontOf};
+ghost use Rattle.px_head.specs.Prints.{field_lines, printed_head, reason_part, status_text, version_text};
 
-use crate::fields::Field;
 use itoa::Buffer;
 use px_base::{Mem, Text};
+use px_fields::{FIELD_SEPARATOR, Field, push_field};
 
 /// What ends a printed line, and is the empty line at the end of a head.
 const LINE_END: &[u8] = b"\r\n";
-
-/// What stands between a field's name and its value.
-pub const FIELD_SEPARATOR: &[u8] = b": ";
 
 /// Adds a head to `out`: the first line, the fields' lines and the empty line, each ended by CR LF (RFC 9112, section 2.1).
 /// It takes its room first, in one allocation at most. After `Mem`, `out` is as it was.
@@ -67,16 +65,6 @@ fn push_fields(out: &mut Text, fields: &[Field]) -> Result<(), Mem>
         out.push_all(LINE_END)?;
     }
     Ok(())
-}
-
-/// Adds the field's line without its end.
-pub fn push_field(out: &mut Text, field: &Field) -> Result<(), Mem>
-    ensures ok { OnOk result (out.new ≡ out.old ++ field_line field.now) }
-    ensures err { OnErr result (IsFrontOf out.old out.new) }
-{
-    out.push_all(field.name.as_bytes())?;
-    out.push_all(FIELD_SEPARATOR)?;
-    out.push_all(field.value.as_bytes())
 }
 
 /// Adds the version HTTP/1 with that minor number.

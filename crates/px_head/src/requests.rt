@@ -7,11 +7,12 @@ ghost use Rattle.px_head.specs.Heads.{IsNoRequest};
 
 use crate::FIELD_LIMIT;
 use crate::faults::HeadFault;
-use crate::fields::{Field, copy_fields, room_for};
+use crate::fields::{copy_fields, room_for};
 use crate::prints::push_version;
 use httparse::Status;
 use httparse::spans::{HeaderSpan, RequestSpans, parse_request};
 use px_base::{List, Mem, Text};
+use px_fields::Field;
 use std::alloc::Global;
 
 /// Room for two spaces and the version in a request line.

@@ -7,11 +7,12 @@ ghost use Rattle.px_head.specs.Heads.{IsNoResponse, is_interim};
 
 use crate::FIELD_LIMIT;
 use crate::faults::HeadFault;
-use crate::fields::{Field, copy_fields, room_for};
+use crate::fields::{copy_fields, room_for};
 use crate::prints::{push_reason, push_status, push_version};
 use httparse::Status;
 use httparse::spans::{HeaderSpan, ResponseSpans, parse_response};
 use px_base::{List, Mem, Text};
+use px_fields::Field;
 use std::alloc::Global;
 
 /// Room for the version, the status and two spaces in a status line.

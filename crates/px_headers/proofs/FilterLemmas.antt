@@ -1,7 +1,7 @@
 -- Header filters by what is kept of a message.
 use Rattle.std.proofs.Common.{◌≡◌, ℕ, Bool, true, false, List, Result, Ok, Err, IfOk, ap, sym, ◌∙◌}
 use Rattle.std.specs.Prelude.{if◌then◌else◌, not}
-use Rattle.px_head.specs.declared.fields.Field.{Field}
+use Rattle.px_fields.specs.declared.fields.Field.{Field}
 use Rattle.px_actions.specs.declared.settings.Setting.{Setting}
 use Rattle.px_subst.specs.declared.words.Vars.{Vars}
 use Rattle.px_filter_files.specs.FilterFiles.{FiltersOfFiles}

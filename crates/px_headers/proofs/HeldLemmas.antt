@@ -7,8 +7,8 @@ use Rattle.std.specs.List.{flat_map, list_any, slice_split}
 use Rattle.std.specs.Str.{str_eq_ignore_ascii_case, str_to_ascii_lowercase}
 use Rattle.std.proofs.lemmas.Slice.Eq.{bytes_eq-Decides}
 use Rattle.px_base.specs.Blanks.{trimmed}
-use Rattle.px_head.specs.declared.fields.Field.{Field}
-use Rattle.px_head.specs.Names.{has_name, connection_names, is_among_names, is_connection_word, is_held_back_of_request, is_held_back_of_response, lists_word, request_names}
+use Rattle.px_fields.specs.declared.fields.Field.{Field}
+use Rattle.px_fields.specs.Names.{has_name, connection_names, is_among_names, is_connection_word, is_held_back_of_request, is_held_back_of_response, lists_word, request_names}
 use Rattle.px_headers.specs.declared.held_back.MessageKind.{MessageKind}
 use Rattle.px_headers.specs.declared.held_back.MessageKind.TheVariants.{Request, Response}
 use Rattle.px_headers.specs.declared.held_back.HeldBack.{HeldBack}

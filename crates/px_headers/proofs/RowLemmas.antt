@@ -8,8 +8,8 @@ use Rattle.px_base.specs.Numbers.{decimal}
 use Rattle.px_actions.specs.Sets.{is_on, value}
 use Rattle.px_actions.specs.declared.kinds.Kind.TheVariants as kind
 use Rattle.px_actions.specs.declared.settings.Setting.{Setting}
-use Rattle.px_head.specs.declared.fields.Field.{Field}
-use Rattle.px_head.specs.Names.{has_field, has_name}
+use Rattle.px_fields.specs.declared.fields.Field.{Field}
+use Rattle.px_fields.specs.Names.{has_field, has_name}
 use Rattle.px_patterns.specs.declared.urls.Url.{Url}
 use Rattle.px_headers.specs.Cookies.{cap_of, capped_cookie, session_cookie}
 use Rattle.px_headers.specs.Referrers.{has_foreign_referrer, is_foreign, root_of, with_hidden_referrer}

@@ -2,9 +2,9 @@
 use Rattle.std.specs.Prelude.{◌≡◌, ℕ, List, None, ◌++◌, filter_map, codes, Option, option_map, if◌then◌else◌}
 use Rattle.std.specs.Option.{option_map_or}
 use Rattle.std.specs.Str.{bytes_eq}
-use Rattle.px_head.specs.declared.fields.Field.{Field}
+use Rattle.px_fields.specs.declared.fields.Field.{Field}
 use Rattle.px_head.specs.declared.requests.RequestHead.{RequestHead}
-use Rattle.px_head.specs.FieldLines.{read_field}
+use Rattle.px_fields.specs.FieldLines.{read_field}
 use Rattle.px_head.specs.Prints.{request_line}
 use Rattle.px_patterns.specs.declared.urls.Url.{Url}
 use Rattle.px_actions.specs.Sets.{is_on, value, set_values}

@@ -2,9 +2,8 @@
 use Rattle.std.specs.Prelude.{ℕ, Bool, List, filter_map, fold, Option, Some, None, is_some, if◌then◌else◌}
 use Rattle.std.specs.List.{list_any}
 use Rattle.std.specs.Str.{bytes_eq}
-use Rattle.px_head.specs.declared.fields.Field.{Field}
-use Rattle.px_head.specs.FieldLines.{read_field}
-use Rattle.px_head.specs.Prints.{field_line}
+use Rattle.px_fields.specs.declared.fields.Field.{Field}
+use Rattle.px_fields.specs.FieldLines.{read_field, field_line}
 use Rattle.px_actions.specs.Sets.{set_values}
 use Rattle.px_actions.specs.declared.kinds.Kind.TheVariants.{ClientHeaderFilter, ServerHeaderFilter}
 use Rattle.px_actions.specs.declared.settings.Setting.{Setting}

@@ -3,8 +3,8 @@ use Rattle.std.specs.Prelude.{◌≡◌, ℕ, Bool, ◌==◌, ◌||◌, not, Lis
 use Rattle.std.specs.List.{flat_map, slice_split}
 use Rattle.std.specs.Str.{str_eq_ignore_ascii_case}
 use Rattle.px_base.specs.Blanks.{trimmed}
-use Rattle.px_head.specs.declared.fields.Field.{Field}
-use Rattle.px_head.specs.Names.{has_name, is_among_names, is_connection_word, is_held_back_of_request, is_held_back_of_response}
+use Rattle.px_fields.specs.declared.fields.Field.{Field}
+use Rattle.px_fields.specs.Names.{has_name, is_among_names, is_connection_word, is_held_back_of_request, is_held_back_of_response}
 use Rattle.px_headers.specs.declared.held_back.MessageKind.{MessageKind}
 use Rattle.px_headers.specs.declared.held_back.MessageKind.TheVariants.{Request, Response}
 use Rattle.px_headers.specs.declared.held_back.HeldBack.{HeldBack}

@@ -2,8 +2,8 @@
 use Rattle.std.specs.Prelude.{ℕ, Bool, false, ◌&&◌, ◌||◌, not, List, [], ◌∷◌, length, take, codes}
 use Rattle.std.specs.Option.{option_map_or}
 use Rattle.std.specs.Str.{str_eq_ignore_ascii_case}
-use Rattle.px_head.specs.declared.fields.Field.{Field}
-use Rattle.px_head.specs.Names.{first_field}
+use Rattle.px_fields.specs.declared.fields.Field.{Field}
+use Rattle.px_fields.specs.Names.{first_field}
 use Rattle.px_actions.specs.Sets.{is_on}
 use Rattle.px_actions.specs.declared.kinds.Kind.TheVariants as kind
 use Rattle.px_actions.specs.declared.settings.Setting.{Setting}

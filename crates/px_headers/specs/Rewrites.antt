@@ -5,7 +5,7 @@ use Rattle.std.specs.Option.{option_map_or, option_or}
 use Rattle.std.specs.Result.{result_ok}
 use Rattle.std.specs.Str.{bytes_eq}
 use Rattle.px_base.specs.Numbers.{decimal}
-use Rattle.px_head.specs.FieldLines.{is_value_byte}
+use Rattle.px_fields.specs.FieldLines.{is_value_byte}
 use Rattle.px_head.specs.Prints.{status_line}
 use Rattle.px_head.specs.declared.responses.ResponseHead.{ResponseHead}
 use Rattle.px_patterns.specs.declared.urls.Url.{Url}

@@ -1,9 +1,9 @@
 -- What header actions do to the fields of a head. Names are compared without case (RFC 9110, section 5.1).
 use Rattle.std.specs.Prelude.{ℕ, Bool, not, List, [], ◌∷◌, ◌++◌, filter, map, is_some, if◌then◌else◌}
 use Rattle.memchr.specs.Find.{first_of, matches}
-use Rattle.px_head.specs.declared.fields.Field.{Field}
-use Rattle.px_head.specs.Names.{has_name}
-use Rattle.px_head.specs.Prints.{field_line}
+use Rattle.px_fields.specs.declared.fields.Field.{Field}
+use Rattle.px_fields.specs.Names.{has_name}
+use Rattle.px_fields.specs.FieldLines.{field_line}
 
 -- one step behind another
 infixl 10 ◌▷◌

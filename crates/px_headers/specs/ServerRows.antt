@@ -3,9 +3,9 @@ use Rattle.std.specs.Prelude.{ℕ, ◌==◌, List, codes, Option, None, unwrap_o
 use Rattle.std.specs.Option.{option_map_or}
 use Rattle.std.specs.Str.{bytes_eq}
 use Rattle.px_base.specs.Numbers.{decimal}
-use Rattle.px_head.specs.declared.fields.Field.{Field}
+use Rattle.px_fields.specs.declared.fields.Field.{Field}
 use Rattle.px_head.specs.declared.responses.ResponseHead.{ResponseHead}
-use Rattle.px_head.specs.Names.{has_name}
+use Rattle.px_fields.specs.Names.{has_name}
 use Rattle.px_actions.specs.Sets.{is_on, value}
 use Rattle.px_actions.specs.declared.kinds.Kind.TheVariants as kind
 use Rattle.px_actions.specs.declared.settings.Setting.{Setting}

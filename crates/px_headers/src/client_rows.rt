@@ -3,14 +3,14 @@ ghost use Rattle.std.specs.Prelude.{◌≡◌, ◌++◌, IfOk, IsTrue, filter_ma
 ghost use Rattle.std.specs.List.{list_all};
 ghost use Rattle.px_actions.specs.Kinds.{entry_of};
 ghost use Rattle.px_actions.specs.Rules.{keeps_rule};
-ghost use Rattle.px_head.specs.FieldLines.{read_field};
+ghost use Rattle.px_fields.specs.FieldLines.{read_field};
 ghost use Rattle.px_headers.specs.ClientRows.{add_headers, blocked_fields, blocked_or_set, change_forwarded_for, client_rows, crunch_client_header, crunch_if_none_match, crunch_outgoing_cookies, hide_accept_language, hide_from_header, hide_if_modified_since, hide_referrer, hide_user_agent, prevent_compression};
 
 use crate::referrers::with_hidden_referrer;
 use crate::rows::{push_field, with_more, with_value, without, without_holding};
 use px_actions::{ActionSet, Kind, added_field};
 use px_base::{List, Mem, Text};
-use px_head::Field;
+use px_fields::Field;
 use px_patterns::Url;
 use std::alloc::Global;
 

@@ -1,8 +1,7 @@
 // Header filters.
 ghost use Rattle.std.specs.Prelude.{◌≡◌, is_some, unwrap_or, IfOk};
 ghost use Rattle.std.specs.List.{list_any};
-ghost use Rattle.px_head.specs.FieldLines.{read_field};
-ghost use Rattle.px_head.specs.Prints.{field_line};
+ghost use Rattle.px_fields.specs.FieldLines.{read_field, field_line};
 ghost use Rattle.px_filter_files.specs.FilterFiles.{found};
 ghost use Rattle.px_headers.specs.HeldBack.{is_held, IsHeldBackOf};
 ghost use Rattle.px_headers.specs.Filtering.{filter_kind, filter_lines, header_filter_names, filtered_fields, made_field, made_fields, read_again, run_all, run_header_filter, some_found};
@@ -11,8 +10,8 @@ use crate::held_back::{HeldBack, MessageKind, pass_on};
 use crate::rows::write_line;
 use px_actions::{ActionSet, Kind};
 use px_base::{List, Mem, Text};
+use px_fields::{Field, read_field_line};
 use px_filter_files::{FilterKind, Filters, WarmFilters};
-use px_head::{Field, read_field_line};
 use px_subst::Vars;
 use std::alloc::Global;
 

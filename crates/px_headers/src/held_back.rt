@@ -1,11 +1,11 @@
 // The fields that a proxy doesn't pass on.
 ghost use Rattle.std.specs.Prelude.{◌≡◌, ◌++◌, IfOk, OnOk};
 ghost use Rattle.std.specs.Str.{str_eq_ignore_ascii_case};
-ghost use Rattle.px_head.specs.Names.{is_among_names};
+ghost use Rattle.px_fields.specs.Names.{is_among_names};
 ghost use Rattle.px_headers.specs.HeldBack.{is_fixed, is_held, names_more, passed_on, without_held, words_in, IsHeldBackOf};
 
 use px_base::{List, Mem, Text, cut, same_without_case, trim};
-use px_head::{Field, has_name, is_held_back_of_request, is_held_back_of_response};
+use px_fields::{Field, has_name, is_held_back_of_request, is_held_back_of_response};
 use std::alloc::Global;
 
 /// A field that is held back of every message, and that the Connection fields of most requests name.

@@ -5,7 +5,7 @@ ghost use Rattle.px_headers.specs.Kinds.{holds_without_case, is_text as is_text_
 
 use px_actions::{ActionSet, Kind};
 use px_base::same_without_case;
-use px_head::{Field, first_field};
+use px_fields::{Field, first_field};
 
 /// Whether a byte may be the first of the word, without case.
 fn may_begin(word: &[u8], byte: u8) -> bool

@@ -8,7 +8,7 @@ ghost use Rattle.px_headers.specs.Rows.{with_values, without_those};
 
 use crate::rows::{with_value, without};
 use px_base::{List, Mem, Text, same_without_case};
-use px_head::{Field, has_field, has_name};
+use px_fields::{Field, has_field, has_name};
 use px_patterns::Url;
 use std::alloc::Global;
 

@@ -2,7 +2,7 @@
 ghost use Rattle.std.specs.Prelude.{◌≡◌, IfOk, Some, option_map};
 ghost use Rattle.std.specs.List.{list_all};
 ghost use Rattle.std.specs.Result.{result_ok};
-ghost use Rattle.px_head.specs.FieldLines.{is_value_byte};
+ghost use Rattle.px_fields.specs.FieldLines.{is_value_byte};
 ghost use Rattle.px_patterns.specs.Urls.{url_of};
 ghost use Rattle.px_headers.specs.Rewrites.{before_version, behind_prefix, behind_version, is_reason_part, is_status, is_status_line, is_status_part, kept_status_line, leads_to, rewritten, target_in};
 

@@ -1,11 +1,11 @@
 // What header actions do to the fields of a head.
 ghost use Rattle.std.specs.Prelude.{◌≡◌, ◌++◌, ◌∷◌, [], IfOk, OnOk};
-ghost use Rattle.px_head.specs.Prints.{field_line};
+ghost use Rattle.px_fields.specs.FieldLines.{field_line};
 ghost use Rattle.px_headers.specs.Rows.{holds_word, with_more, with_value, without_field, without_holding};
 
 use memchr::memmem::Finder;
 use px_base::{List, Mem, Text};
-use px_head::{Field, has_field, has_name};
+use px_fields::{Field, has_field, has_name};
 use std::alloc::Global;
 
 /// What stands between a field's name and its value.

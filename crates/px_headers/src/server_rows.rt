@@ -1,6 +1,6 @@
 // What actions do to the fields of an answer.
 ghost use Rattle.std.specs.Prelude.{◌≡◌, ◌≤◌, codes, IfOk, option_copied};
-ghost use Rattle.px_head.specs.Names.{has_name};
+ghost use Rattle.px_fields.specs.Names.{has_name};
 ghost use Rattle.px_headers.specs.Cookies.{capped_cookie};
 ghost use Rattle.px_headers.specs.Rows.{with_values};
 ghost use Rattle.px_headers.specs.ServerRows.{crunch_incoming_cookies, crunch_server_header, hide_content_disposition, limit_cookies, new_content_type, overwrite_content_type, overwrite_last_modified, reset_modified, server_rows, with_capped_cookies, with_limited_cookies, with_modified, with_session_cookies};
@@ -12,7 +12,7 @@ use crate::kinds::is_text;
 use crate::rows::{with_value, without, without_holding};
 use px_actions::{ActionSet, Kind, lifetime_minutes};
 use px_base::{List, Mem};
-use px_head::{Field, has_field, has_name};
+use px_fields::{Field, has_field, has_name};
 use std::alloc::Global;
 
 const COOKIE: &[u8] = b"Set-Cookie";

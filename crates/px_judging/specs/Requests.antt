@@ -1,9 +1,10 @@
 -- What is known of a request: its head, its URL, by which rule its body is read, and its tags.
 use Rattle.std.specs.Prelude.{ℕ, Bool, not, ◌&&◌, ◌==◌, if◌then◌else◌, List, [], ◌∷◌, map, codes, Result, Ok}
 use Rattle.std.specs.Str.{bytes_eq}
-use Rattle.px_head.specs.Names.{is_connection_word}
-use Rattle.px_head.specs.Prints.{request_line, field_line}
-use Rattle.px_head.specs.declared.fields.Field.{Field}
+use Rattle.px_fields.specs.Names.{is_connection_word}
+use Rattle.px_fields.specs.FieldLines.{field_line}
+use Rattle.px_head.specs.Prints.{request_line}
+use Rattle.px_fields.specs.declared.fields.Field.{Field}
 use Rattle.px_head.specs.declared.requests.RequestHead.{RequestHead}
 use Rattle.px_patterns.specs.Urls.{url_of, authority_of, shown_url}
 use Rattle.px_patterns.specs.declared.faults.UrlFault.{UrlFault}

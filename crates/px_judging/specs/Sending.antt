@@ -2,7 +2,7 @@
 use Rattle.std.specs.Prelude.{ℕ, Bool, true, false, List, [], ◌∷◌, ◌++◌, if◌then◌else◌, codes}
 use Rattle.std.specs.Fmt.{decimal}
 use Rattle.px_head.specs.Prints.{printed_head, crlf}
-use Rattle.px_head.specs.declared.fields.Field.{Field}
+use Rattle.px_fields.specs.declared.fields.Field.{Field}
 use Rattle.px_patterns.specs.Urls.{shown_url, shown_host, shown_host_port}
 use Rattle.px_patterns.specs.declared.urls.Url.{Url}
 use Rattle.px_framing.specs.declared.rules.BodyRule.{BodyRule}

@@ -4,7 +4,8 @@ ghost use Rattle.px_judging.specs.Sending.{authority_text, connect_head, tunnel_
 
 use itoa::Buffer;
 use px_base::{List, Mem, Text};
-use px_head::{Field, print_head};
+use px_fields::Field;
+use px_head::print_head;
 use px_patterns::Url;
 use std::alloc::Global;
 

@@ -1,6 +1,6 @@
 // What is set for a request, and its tags.
 ghost use Rattle.std.specs.Prelude.{◌≡◌, ◌<◌, IfOk, map};
-ghost use Rattle.px_head.specs.Prints.{field_line};
+ghost use Rattle.px_fields.specs.FieldLines.{field_line};
 ghost use Rattle.px_merge.specs.Merging.{url_actions};
 ghost use Rattle.px_merge.specs.declared.sides.Side.TheVariants as side;
 ghost use Rattle.px_taggers.specs.Tagging.{TagsLike};

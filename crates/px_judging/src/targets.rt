@@ -3,8 +3,9 @@ ghost use Rattle.std.specs.Prelude.{◌≡◌, ◌≢◌, Ok, Err, IfOk};
 ghost use Rattle.px_judging.specs.Requests.{is_connect, is_head, target_read, body_read, keeps_behind_request};
 
 use px_base::Mem;
+use px_fields::is_connection_word;
 use px_framing::{BodyFault, BodyRule, request_body};
-use px_head::{RequestHead, is_connection_word};
+use px_head::RequestHead;
 use px_patterns::{Url, UrlFault};
 use std::alloc::Global;
 

@@ -6,7 +6,7 @@ use Rattle.px_head.specs.Blocks.{head_end}
 use Rattle.px_head.specs.declared.blocks.HeadEnd.TheVariants.{NotYet}
 use Rattle.px_head.specs.Heads.{IsResponse, is_interim}
 use Rattle.px_head.specs.Searches.{Searched}
-use Rattle.px_head.specs.Names.{is_connection_word}
+use Rattle.px_fields.specs.Names.{is_connection_word}
 use Rattle.px_framing.specs.Body.{Body, Part}
 use Rattle.px_framing.specs.Rules.{response_rule}
 use Rattle.px_framing.specs.Reading as reading

@@ -2,8 +2,9 @@
 ghost use Rattle.std.specs.Prelude.{◌≤◌, length};
 ghost use Rattle.px_pool_ends.specs.Answers.{Judges, JudgedSays};
 
+use px_fields::is_connection_word;
 use px_framing::{BodyRule, response_body};
-use px_head::{HEAD_LIMIT, HeadFault, ResponseHead, is_connection_word, is_interim};
+use px_head::{HEAD_LIMIT, HeadFault, ResponseHead, is_interim};
 use std::alloc::Global;
 
 /// The status of an answer behind which the link speaks another protocol (RFC 9110, section 15.2.2).

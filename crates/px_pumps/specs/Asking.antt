@@ -1,8 +1,9 @@
 -- Asking: what an answer becomes by a configuration and by what was asked.
 use Rattle.std.specs.Prelude.{ℕ, List, ◌∷◌, ◌++◌, map, drop, codes, if◌then◌else◌}
-use Rattle.px_head.specs.declared.fields.Field.{Field}
+use Rattle.px_fields.specs.declared.fields.Field.{Field}
 use Rattle.px_head.specs.declared.responses.ResponseHead.{ResponseHead}
-use Rattle.px_head.specs.Prints.{status_line, field_line}
+use Rattle.px_fields.specs.FieldLines.{field_line}
+use Rattle.px_head.specs.Prints.{status_line}
 use Rattle.px_framing.specs.declared.rules.BodyRule.{BodyRule}
 use Rattle.px_actions.specs.Sets.{set_values}
 use Rattle.px_actions.specs.declared.kinds.Kind.TheVariants as kind

@@ -1,7 +1,7 @@
 -- Values that stand in rows: lines, fields, URLs, heads and symbols.
 use Rattle.std.specs.Prelude.{ℕ, List}
 use Rattle.px_text.specs.declared.lines.Line.{Line}
-use Rattle.px_head.specs.declared.fields.Field.{Field}
+use Rattle.px_fields.specs.declared.fields.Field.{Field}
 use Rattle.px_head.specs.declared.requests.RequestHead.{RequestHead}
 use Rattle.px_head.specs.declared.responses.ResponseHead.{ResponseHead}
 use Rattle.px_patterns.specs.declared.urls.Url.{Url}

@@ -1,10 +1,10 @@
 //! Heads of messages (RFC 9110 and RFC 9112).
-#![tactic(auto, unfolding(core::specs::Fmt::digits, px_base::specs::Blanks::trimmed, px_head::specs::Blocks::block_len, px_head::specs::Blocks::block_of, px_head::specs::Blocks::head_end, px_head::specs::Blocks::whole_lines, px_head::specs::Blocks::up_to_empty, px_head::specs::Names::is_held_back_of_request, px_head::specs::Names::is_held_back_of_response, px_head::specs::Names::lists_word, px_head::specs::Prints::field_lines, px_head::specs::Prints::printed_head, px_head::specs::Prints::request_line, px_head::specs::Prints::status_line, px_head::specs::Prints::status_text))]
+#![tactic(auto, unfolding(core::specs::Fmt::digits, px_base::specs::Blanks::trimmed, px_head::specs::Blocks::block_len, px_head::specs::Blocks::block_of, px_head::specs::Blocks::head_end, px_head::specs::Blocks::whole_lines, px_head::specs::Blocks::up_to_empty, px_fields::specs::Names::is_held_back_of_request, px_fields::specs::Names::is_held_back_of_response, px_fields::specs::Names::lists_word, px_head::specs::Prints::field_lines, px_head::specs::Prints::printed_head, px_head::specs::Prints::request_line, px_head::specs::Prints::status_line, px_head::specs::Prints::status_text))]
 
 ghost use Rattle.std.specs.Prelude.{◌≡◌, ◌∷◌, [], Some, None, true, false, codes};
 ghost use Rattle.px_head.specs.Blocks.{block_len, head_end};
 ghost use Rattle.px_head.specs.Faults.{head_fault_name, head_fault_number, too_long_name, too_long_number};
-ghost use Rattle.px_head.specs.Names.{has_field, is_connection_word, is_held_back_of_request, is_held_back_of_response, lists_word};
+ghost use Rattle.px_fields.specs.Names.{has_field, is_connection_word, is_held_back_of_request, is_held_back_of_response, lists_word};
 ghost use Rattle.px_head.specs.Prints.{printed_head, request_line, status_line, status_text};
 ghost use Rattle.px_head.specs.declared.blocks.HeadEnd.TheVariants.{At, NotYet, Over};
 ghost use Rattle.px_head.specs.declared.faults.HeadFault.TheVariants.{Malformed, TooManyFields};

@@ -1,5 +1,5 @@
 //! Requests and how sessions end (RFC 9112, sections 3.2 and 9.3; RFC 9110, section 9.3.6).
-#![tactic(auto, unfolding(core::specs::Fmt::digits, core::specs::Str::chars, core::specs::Str::is_utf8, px_base::specs::Blanks::trimmed, px_base::specs::Numbers::decimal, px_base::specs::Ports::port, px_framing::specs::Rules::request_rule, px_head::specs::Names::lists_word, px_judging::specs::Replies::url_symbols, px_judging::specs::Requests::keeps_behind_request, px_patterns::specs::Urls::authority_of, px_patterns::specs::Urls::host_of, px_patterns::specs::Urls::port_of, px_patterns::specs::Urls::shown_url, px_patterns::specs::Urls::url_of))]
+#![tactic(auto, unfolding(core::specs::Fmt::digits, core::specs::Str::chars, core::specs::Str::is_utf8, px_base::specs::Blanks::trimmed, px_base::specs::Numbers::decimal, px_base::specs::Ports::port, px_framing::specs::Rules::request_rule, px_fields::specs::Names::lists_word, px_judging::specs::Replies::url_symbols, px_judging::specs::Requests::keeps_behind_request, px_patterns::specs::Urls::authority_of, px_patterns::specs::Urls::host_of, px_patterns::specs::Urls::port_of, px_patterns::specs::Urls::shown_url, px_patterns::specs::Urls::url_of))]
 
 ghost use Rattle.std.specs.Prelude.{◌≡◌, ◌∷◌, [], Some, None, Ok, Err, true, false, codes};
 ghost use Rattle.px_framing.specs.declared.rules.BodyRule.TheVariants as rule;

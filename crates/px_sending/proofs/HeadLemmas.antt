@@ -2,8 +2,9 @@
 use Rattle.std.proofs.Common.{◌≡◌, ℕ, List, [], ◌∷◌, ◌++◌, codes, ap, ◌∙◌, append_assoc, refl}
 use Rattle.std.proofs.lemmas.List.{append-nil}
 use Rattle.std.proofs.lemmas.Grind.{flat_map-append}
-use Rattle.px_head.specs.declared.fields.Field.{Field}
-use Rattle.px_head.specs.Prints.{crlf, field_line, field_lines, printed_head}
+use Rattle.px_fields.specs.declared.fields.Field.{Field}
+use Rattle.px_fields.specs.FieldLines.{field_line}
+use Rattle.px_head.specs.Prints.{crlf, field_lines, printed_head}
 use Rattle.px_sending.specs.Heads.{Next, framing_fields, field_line_of, next_fields, next_head, next_line, plain_field}
 
 -- the line of one field

@@ -6,8 +6,8 @@ ghost use Rattle.px_sending.specs.Heads.{asks_continue, expects_continue as expe
 
 use itoa::Buffer;
 use px_base::{Mem, Text, same_without_case};
+use px_fields::{Field, has_name};
 use px_framing::BodyRule;
-use px_head::{Field, has_name};
 use std::alloc::Global;
 use std::marker::Model;
 

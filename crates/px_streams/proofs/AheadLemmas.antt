@@ -1,7 +1,7 @@
 -- Bytes that are read ahead, one piece more.
 use Rattle.std.proofs.Common.{◌≡◌, ℕ, ◌≤◌, List, ◌++◌, length, drop, sym, ap, ◌∙◌, arith, length-append}
 use Rattle.std.proofs.lemmas.List.{drop-append-le}
-use Rattle.px_head.specs.Prints.{IsFrontOf}
+use Rattle.px_fields.specs.FieldLines.{IsFrontOf}
 
 -- what is read moves from what is left to the end of the bytes, also behind those that were used
 pub read_on : (at : ℕ) (old new left left' : List ℕ) → at ≤ length old → IsFrontOf old new → new ++ left' ≡ old ++ left → drop at old ++ left ≡ drop at new ++ left'

@@ -1,7 +1,7 @@
 // Bytes that were read ahead of a source.
 ghost use Rattle.std.specs.Prelude.{◌≡◌, ◌<◌, ◌≤◌, ◌+◌, ◌++◌, [], length, drop, IsTrue, IfOk, IfErr, true, false};
 ghost use Rattle.px_base.specs.Sources.{SourceGoesOn};
-ghost use Rattle.px_head.specs.Prints.{IsFrontOf};
+ghost use Rattle.px_fields.specs.FieldLines.{IsFrontOf};
 ghost use Rattle.px_streams.specs.Streams.{KeepsBytes, ReadCause};
 
 use px_base::{Failed, Mem, Source};

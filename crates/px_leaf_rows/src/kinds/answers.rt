@@ -5,9 +5,10 @@ use crate::kinds::made::{filters_of, head_of, push_fields, said, set_of, vars_of
 use crate::leaves::Row;
 use px_answers::{AnswerOutcome, BodyPlan, Framed, HeaderLines, Passage, Terms};
 use px_base::{List, Text};
+use px_fields::{Field, is_held_back_of_response};
 use px_filter_files::Filters;
 use px_framing::response_body;
-use px_head::{Field, ResponseHead, is_held_back_of_response};
+use px_head::ResponseHead;
 use px_headers::{ServerOut, is_text, server_headers};
 use std::alloc::Global;
 

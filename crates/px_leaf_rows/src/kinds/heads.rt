@@ -3,9 +3,9 @@ use crate::faults::Fault;
 use crate::kinds::made::{push_item, said};
 use crate::leaves::Row;
 use px_base::Text;
+use px_fields::{is_held_back_of_request, is_held_back_of_response, read_field_line};
 use px_head::{
-    HeadEnd, RequestHead, ResponseHead, TOO_LONG_NAME, TOO_LONG_NUMBER, find_head,
-    is_held_back_of_request, is_held_back_of_response, print_head, read_field_line,
+    HeadEnd, RequestHead, ResponseHead, TOO_LONG_NAME, TOO_LONG_NUMBER, find_head, print_head,
 };
 use std::alloc::Global;
 

@@ -1,7 +1,7 @@
 use Rattle.std.proofs.Common.{◌≡◌, ◌++◌, length}
 use Rattle.std.specs.Prelude.{IsTrue, filter_map}
 use Rattle.std.specs.List.{list_all}
-use Rattle.px_head.specs.FieldLines.{read_field}
+use Rattle.px_fields.specs.FieldLines.{read_field}
 use Rattle.px_actions.specs.Kinds.{entry_of}
 use Rattle.px_actions.specs.Rules.{keeps_rule}
 use Rattle.px_actions.specs.declared.kinds.Kind.TheVariants.{AddHeader}

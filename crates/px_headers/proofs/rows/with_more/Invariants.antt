@@ -1,7 +1,7 @@
 use Rattle.std.proofs.Common.{◌≡◌, ◌++◌, false, true, length}
 use Rattle.std.specs.Prelude.{if◌then◌else◌}
 use Rattle.std.specs.Vec.Iter.{into_iter_items}
-use Rattle.px_head.specs.Names.{has_field}
+use Rattle.px_fields.specs.Names.{has_field}
 use Rattle.px_headers.specs.Rows.{with_more}
 use Rattle.px_headers.proofs.rows.with_more.Given as goal
 

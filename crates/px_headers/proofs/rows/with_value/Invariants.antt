@@ -1,6 +1,6 @@
 use Rattle.std.proofs.Common.{◌≡◌, ◌++◌, length}
 use Rattle.std.specs.Vec.Iter.{into_iter_items}
-use Rattle.px_head.specs.Names.{has_name}
+use Rattle.px_fields.specs.Names.{has_name}
 use Rattle.px_headers.specs.Rows.{with_values}
 use Rattle.px_headers.proofs.rows.with_value.Given as goal
 

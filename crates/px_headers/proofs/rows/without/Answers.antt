@@ -1,7 +1,7 @@
 use Rattle.std.proofs.Common.{◌≡◌, ◌∙◌, ap, rules}
 use Rattle.std.specs.Prelude.{not}
 use Rattle.std.proofs.lemmas.Fn.{filter_same}
-use Rattle.px_head.specs.Names.{has_name}
+use Rattle.px_fields.specs.Names.{has_name}
 use Rattle.px_headers.specs.Rows.{without_field}
 use Rattle.px_headers.proofs.rows.without.Goals as goal
 

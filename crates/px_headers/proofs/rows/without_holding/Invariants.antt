@@ -1,6 +1,6 @@
 use Rattle.std.proofs.Common.{◌≡◌, ◌++◌, length}
 use Rattle.std.specs.Vec.Iter.{into_iter_items}
-use Rattle.px_head.specs.Prints.{field_line}
+use Rattle.px_fields.specs.FieldLines.{field_line}
 use Rattle.px_headers.specs.Rows.{holds_word, without_those}
 use Rattle.px_headers.proofs.rows.without_holding.Given as goal
 

@@ -1,7 +1,7 @@
 use Rattle.std.proofs.Common.{◌≡◌, ◌++◌, length}
 use Rattle.std.specs.Prelude.{codes}
 use Rattle.std.specs.Vec.Iter.{into_iter_items}
-use Rattle.px_head.specs.Names.{has_name}
+use Rattle.px_fields.specs.Names.{has_name}
 use Rattle.px_headers.specs.Cookies.{session_cookie}
 use Rattle.px_headers.specs.Rows.{with_values}
 use Rattle.px_headers.proofs.server_rows.with_session_cookies.Given as goal

@@ -1,7 +1,7 @@
 use Rattle.std.proofs.Common.{arith, sym}
-use Rattle.px_head.specs.Names.{connection_names}
-use Rattle.px_head.proofs.NameLemmas.{of-length, of-none, alone, second}
-use Rattle.px_head.proofs.names.is_connection_name.Goals as goal
+use Rattle.px_fields.specs.Names.{connection_names}
+use Rattle.px_fields.proofs.NameLemmas.{of-length, of-none, alone, second}
+use Rattle.px_fields.proofs.names.is_connection_name.Goals as goal
 
 pub returns-in-2 : goal.returns-in-2
 returns-in-2 c = alone _ _ _ c.is_name.ensures (of-length connection_names c.args.name.now 2 c.in-2.is)

@@ -6,7 +6,7 @@ use Rattle.std.specs.Prelude.{◌==◌, ◌&&◌, ◌||◌, ◌≢◌, filter, s
 use Rattle.std.specs.Char.{eq_ignore_ascii_case, to_ascii_lowercase}
 use Rattle.std.specs.List.{list_any}
 use Rattle.std.specs.Str.{str_eq_ignore_ascii_case}
-use Rattle.px_head.specs.Names.{begins_with_letter, connection_names, is_among_names, is_held_back_of_request, is_held_back_of_response, request_names}
+use Rattle.px_fields.specs.Names.{begins_with_letter, connection_names, is_among_names, is_held_back_of_request, is_held_back_of_response, request_names}
 
 and-false : (b : Bool) → (b && false) ≡ false
 and-false true = refl

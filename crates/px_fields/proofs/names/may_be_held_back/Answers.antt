@@ -1,7 +1,7 @@
 use Rattle.std.proofs.Common.{arith, refl}
 use Rattle.std.proofs.lemmas.Bool.{or_from}
-use Rattle.px_head.proofs.NameLemmas.{passed-by, passed-whole}
-use Rattle.px_head.proofs.names.may_be_held_back.Goals as goal
+use Rattle.px_fields.proofs.NameLemmas.{passed-by, passed-whole}
+use Rattle.px_fields.proofs.names.may_be_held_back.Goals as goal
 
 pub returns-in-2 : goal.returns-in-2
 returns-in-2 c other = passed-by c.args.name.now 2 c.in-2.is (or_from _ _ (c.begins_with.ensures other) refl) refl

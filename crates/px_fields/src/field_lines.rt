@@ -2,7 +2,7 @@
 ghost use Rattle.std.specs.Prelude.{◌≡◌, MatchOption, Some, None};
 ghost use Rattle.std.specs.List.{list_all};
 ghost use Rattle.httparse.specs.Grammar.{is_token_byte as is_token_byte_spec, is_token as is_token_spec};
-ghost use Rattle.px_head.specs.FieldLines.{is_value_byte, field_from as field_from_spec, read_field};
+ghost use Rattle.px_fields.specs.FieldLines.{is_value_byte, field_from as field_from_spec, read_field};
 
 use px_base::{place, trim};
 

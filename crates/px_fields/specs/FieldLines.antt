@@ -1,9 +1,9 @@
--- Field lines that are read (RFC 9110, section 5).
-use Rattle.std.specs.Prelude.{ℕ, ◌+◌, ◌==◌, ◌&&◌, Bool, not, if◌then◌else◌, List, take, drop, Option, Some, None, option_and_then}
+-- Field lines as they are read and printed (RFC 9110, section 5; RFC 9112, section 5).
+use Rattle.std.specs.Prelude.{◌≡◌, ℕ, ◌+◌, ◌==◌, ◌&&◌, Bool, not, if◌then◌else◌, List, ◌++◌, take, drop, codes, Option, Some, None, option_and_then}
 use Rattle.std.specs.List.{position, list_all}
 use Rattle.httparse.specs.Grammar.{is_token}
 use Rattle.px_base.specs.Blanks.{trimmed}
-use Rattle.px_head.specs.declared.fields.Field.{Field}
+use Rattle.px_fields.specs.declared.fields.Field.{Field}
 
 -- a byte of a value: not NUL, LF or CR
 abbrev pub is_value_byte : ℕ → Bool
@@ -17,3 +17,12 @@ field_from name value =
 -- a token, a colon (58) and a value
 unfoldable pub read_field : List ℕ → Option Field
 read_field text = option_and_then (λ at. field_from (take at text) (drop (at + 1) text)) (position (λ b. b == 58) text)
+
+-- the field's line: its name, a colon, a space and its value
+abbrev pub field_line : Field → List ℕ
+field_line f = f.name ++ codes ": " ++ f.value
+
+-- the bytes begin with the others
+pub record IsFrontOf (front bytes : List ℕ) : Type 0 where
+  pub more : List ℕ
+  pub is : bytes ≡ front ++ more

@@ -5,7 +5,7 @@ use Rattle.std.specs.Char.{to_ascii_lowercase}
 use Rattle.std.specs.List.{find, list_any, slice_split}
 use Rattle.std.specs.Str.{str_eq_ignore_ascii_case}
 use Rattle.px_base.specs.Blanks.{trimmed}
-use Rattle.px_head.specs.declared.fields.Field.{Field}
+use Rattle.px_fields.specs.declared.fields.Field.{Field}
 
 -- the field has that name
 abbrev pub has_name : List ℕ → Field → Bool

@@ -1,7 +1,7 @@
 use Rattle.std.proofs.Common.{arith, sym}
-use Rattle.px_head.specs.Names.{request_names}
-use Rattle.px_head.proofs.NameLemmas.{of-length, of-none, alone}
-use Rattle.px_head.proofs.names.is_request_name.Goals as goal
+use Rattle.px_fields.specs.Names.{request_names}
+use Rattle.px_fields.proofs.NameLemmas.{of-length, of-none, alone}
+use Rattle.px_fields.proofs.names.is_request_name.Goals as goal
 
 pub returns-in-19 : goal.returns-in-19
 returns-in-19 c = alone _ _ _ c.is_name-in-19.ensures (of-length request_names c.args.name.now 19 c.in-19.is)
