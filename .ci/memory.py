@@ -33,7 +33,8 @@ def wanting_types(texts):
     for text in texts:
         for name, body in TYPE.findall(text):
             body = re.sub(r"^ *(?:///?|pub ghost|ghost).*$", "", body, flags=re.M)
-            parts[name] = {"Mem"} if WANT.search(body) else set(re.findall(r"\b[A-Z]\w+", body))
+            held = re.sub(r"^    [A-Z]\w*", "", body, flags=re.M)  # without the names of variants
+            parts[name] = {"Mem"} if WANT.search(body) else set(re.findall(r"\b[A-Z]\w+", held))
     wanting = {"Mem"}
     while True:
         more = {name for name, words in parts.items() if words & wanting} - wanting
