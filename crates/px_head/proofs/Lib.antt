@@ -1,4 +1,3 @@
-mod Cutting
 pub mod LineLemmas
 mod PrintLemmas
 pub mod BlockLemmas

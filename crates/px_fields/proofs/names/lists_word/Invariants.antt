@@ -5,7 +5,7 @@ use Rattle.std.specs.Str.{str_eq_ignore_ascii_case}
 use Rattle.px_base.specs.Blanks.{trimmed}
 use Rattle.px_base.specs.Cuts.{parts_of}
 use Rattle.px_fields.specs.Names.{lists_word}
-use Rattle.px_head.proofs.Cutting.{left}
+use Rattle.px_fields.proofs.Cutting.{left}
 use Rattle.px_fields.proofs.names.lists_word.Given as goal
 
 abbrev pub invariant-words : goal.invariant-words
