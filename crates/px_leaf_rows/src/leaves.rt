@@ -1,4 +1,6 @@
 //! Files of leaf rows: a heading that names the columns, and a row a line, whose columns are parted by tabs.
+ghost use Rattle.std.specs.Prelude.{◌≤◌};
+
 use crate::escapes::decoded;
 use crate::faults::{Fault, Misread};
 use crate::kinds::gives;
@@ -126,7 +128,9 @@ fn columns<'a>(alloc: Global, line: &'a str) -> Result<Vec<&'a str>, Fault> {
 }
 
 /// Runs a row of a kind.
-fn run_row(kind: &str, row: &Row<'_>, line: usize, report: &mut Report) -> Result<(), Fault> {
+fn run_row(kind: &str, row: &Row<'_>, line: usize, report: &mut Report) -> Result<(), Fault>
+    ensures { report.old.rows ≤ report.new.rows }
+{
     let want = row.bytes("gives")?;
     match gives(kind, row) {
         Ok(got) => report.add(line, want.as_slice(), got.as_bytes()),
@@ -134,8 +138,11 @@ fn run_row(kind: &str, row: &Row<'_>, line: usize, report: &mut Report) -> Resul
     }
 }
 
-/// Runs the rows of a file that is named for a kind. A line that begins with `#` is a remark.
-pub fn run(alloc: Global, kind: &str, text: &str, report: &mut Report) -> Result<(), Misread> {
+/// Runs the rows of a file that is named for a kind. A line that begins with `#` is a remark. The report counts them behind those
+/// that it has counted before.
+pub fn run(alloc: Global, kind: &str, text: &str, report: &mut Report) -> Result<(), Misread>
+    ensures { report.old.rows ≤ report.new.rows }
+{
     let mut names = Vec::new(alloc);
     for (place, line) in text.lines().enumerate() {
         let number = place.saturating_add(1);

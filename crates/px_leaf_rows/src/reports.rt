@@ -34,7 +34,9 @@ impl Report {
     }
 
     /// Counts a row, and keeps it where it gave something else than it wants.
-    pub(crate) fn add(&mut self, line: usize, want: &[u8], got: &[u8]) -> Result<(), Fault> {
+    pub(crate) fn add(&mut self, line: usize, want: &[u8], got: &[u8]) -> Result<(), Fault>
+        ensures { self.old.rows ≤ self.new.rows }
+    {
         self.count();
         if want != got {
             self.differ(line, want, got, "")?;
