@@ -2,6 +2,9 @@
 //!
 //! `\n`, `\r`, `\t` and `\\` are those bytes, `\xNN` is the byte of two hexadecimal digits, and `\{N TEXT}` is TEXT N times, in
 //! which `\#` is the number of the time, from 1.
+ghost use Rattle.std.specs.Prelude.{◌≡◌, ◌≢◌, ◌∷◌, ◌++◌, [], All, IfOk, None, OnOk};
+ghost use Rattle.px_leaf_rows.specs.declared.escapes.Place.TheVariants as place;
+
 use crate::faults::Fault;
 use std::alloc::{AllocError, Global};
 use std::mem;
@@ -51,7 +54,11 @@ struct Decoder {
 }
 
 impl Decoder {
-    fn put(&mut self, byte: u8) -> Result<Place, Fault> {
+    fn put(&mut self, byte: u8) -> Result<Place, Fault>
+        ensures place { IfOk result (λ next. next ≡ place.Plain) }
+        ensures bytes { OnOk result (self.new.bytes.items ≡ self.old.bytes.items ++ byte ∷ []) }
+        ensures repeat { self.new.repeat ≡ self.old.repeat }
+    {
         self.bytes.push(byte)?;
         Ok(Place::Plain)
     }
@@ -119,7 +126,11 @@ impl Decoder {
         Ok(Place::Plain)
     }
 
-    fn plain(&mut self, byte: u8) -> Result<Place, Fault> {
+    fn plain(&mut self, byte: u8) -> Result<Place, Fault>
+        ensures place { self.old.repeat ≡ None → byte ≢ 92 → IfOk result (λ next. next ≡ place.Plain) }
+        ensures bytes { self.old.repeat ≡ None → byte ≢ 92 → OnOk result (self.new.bytes.items ≡ self.old.bytes.items ++ byte ∷ []) }
+        ensures repeat { self.old.repeat ≡ None → OnOk result (self.new.repeat ≡ None) }
+    {
         match (byte, self.repeat) {
             (b'\\', _) => Ok(Place::Begun),
             (b'}', Some(repeat)) => self.close(repeat),
@@ -154,7 +165,11 @@ impl Decoder {
         }
     }
 
-    fn feed(&mut self, byte: u8) -> Result<(), Fault> {
+    fn feed(&mut self, byte: u8) -> Result<(), Fault>
+        ensures place { self.old.place ≡ place.Plain → self.old.repeat ≡ None → byte ≢ 92 → OnOk result (self.new.place ≡ place.Plain) }
+        ensures bytes { self.old.place ≡ place.Plain → self.old.repeat ≡ None → byte ≢ 92 → OnOk result (self.new.bytes.items ≡ self.old.bytes.items ++ byte ∷ []) }
+        ensures repeat { self.old.place ≡ place.Plain → self.old.repeat ≡ None → byte ≢ 92 → OnOk result (self.new.repeat ≡ None) }
+    {
         self.place = match self.place {
             Place::Plain => self.plain(byte)?,
             Place::Begun => self.begun(byte)?,
@@ -168,7 +183,9 @@ impl Decoder {
         Ok(())
     }
 
-    fn end(self) -> Result<Vec<u8>, Fault> {
+    fn end(self) -> Result<Vec<u8>, Fault>
+        ensures { IfOk result (λ bytes. bytes ≡ self.bytes) }
+    {
         match (self.place, self.repeat) {
             (Place::Plain, None) => Ok(self.bytes),
             _ => Err(Fault::Form("an escape isn't ended")),
@@ -186,8 +203,10 @@ fn digit(byte: u8) -> Result<u8, Fault> {
     }
 }
 
-/// The bytes that a text with escapes stands for.
-pub fn decoded(alloc: Global, text: &str) -> Result<Vec<u8>, Fault> {
+/// The bytes that a text with escapes stands for. One without a backslash stands for its own.
+pub fn decoded(alloc: Global, text: &str) -> Result<Vec<u8>, Fault>
+    ensures plain { All (λ byte. byte ≢ 92) text.now → IfOk result (λ bytes. bytes.items ≡ text.now) }
+{
     let mut decoder = Decoder {
         alloc,
         bytes: Vec::new(alloc),
@@ -195,8 +214,8 @@ pub fn decoded(alloc: Global, text: &str) -> Result<Vec<u8>, Fault> {
         repeat: None,
         parts: Vec::new(alloc),
     };
-    for byte in text.bytes() {
-        decoder.feed(byte)?;
+    for byte in text.as_bytes() {
+        decoder.feed(*byte)?;
     }
     decoder.end()
 }
