@@ -9,8 +9,8 @@ use Rattle.px_filter_files.proofs.Crossing.{filters_send, filters_sync}
 use Rattle.px_merge.proofs.Crossing.{sections_send, sections_sync}
 use Rattle.px_templates.specs.contracts.conditions.Condition as condition
 use Rattle.px_templates.specs.contracts.symbols.Symbol as symbol
-use Rattle.px_templates.specs.contracts.runs.Content as content
-use Rattle.px_templates.specs.contracts.runs.Run as run
+use Rattle.px_templates.specs.contracts.runs.RunContent as content
+use Rattle.px_templates.specs.contracts.runs.TemplateRun as run
 use Rattle.px_templates.specs.contracts.templates.Template as template
 use Rattle.px_templates.specs.contracts.templates.Template.TheInside as template_inside
 use Rattle.px_config.specs.contracts.settings.Note as note

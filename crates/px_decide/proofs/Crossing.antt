@@ -5,7 +5,7 @@ use Rattle.std.proofs.Crossing.{crosses}
 use Rattle.px_base.proofs.lists.List.TheSendSync as list
 use Rattle.px_base.proofs.texts.Text.TheSendSync as text
 use Rattle.px_patterns.proofs.Crossing.{url_send, url_sync}
-use Rattle.px_decide.specs.contracts.forwards.Next as next
+use Rattle.px_decide.specs.contracts.forwards.ForwardNext as next
 use Rattle.px_decide.specs.contracts.forwards.ForwardLine as line
 use Rattle.px_decide.specs.contracts.servers.KeptServer as server
 use Rattle.px_decide.specs.contracts.forwards.Forwards as forwards

@@ -7,17 +7,17 @@ use Rattle.px_base.proofs.lists.List.TheSendSync as list
 use Rattle.px_base.proofs.texts.Text.TheSendSync as text
 use Rattle.px_patterns.proofs.Crossing.{kept_pattern_send, kept_union_send, union_send, union_sync}
 use Rattle.px_action_files.proofs.Crossing.{section_send, section_sync}
-use Rattle.px_merge.specs.contracts.places.Place as place
+use Rattle.px_merge.specs.contracts.places.PatternPlace as place
 use Rattle.px_merge.specs.contracts.places.Placed as placed
 use Rattle.px_merge.specs.contracts.places.SectionCounts as counts
-use Rattle.px_merge.specs.contracts.indexes.Index as index
+use Rattle.px_merge.specs.contracts.indexes.PlaceIndex as index
 use Rattle.px_merge.specs.contracts.finders.Finder as finder
 use Rattle.px_merge.specs.contracts.sections.Sections as sections
 use Rattle.px_merge.specs.contracts.sections.Sections.TheInside as sections_inside
 use Rattle.px_merge.specs.contracts.matchers.Matchers as matchers
 use Rattle.px_merge.specs.contracts.matchers.Matchers.TheInside as matchers_inside
-use Rattle.px_merge.specs.contracts.warm.Warm as warm
-use Rattle.px_merge.specs.contracts.warm.Warm.TheInside as warm_inside
+use Rattle.px_merge.specs.contracts.warm.WarmSections as warm
+use Rattle.px_merge.specs.contracts.warm.WarmSections.TheInside as warm_inside
 
 -- ---- sections
 

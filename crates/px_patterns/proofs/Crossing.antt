@@ -18,10 +18,10 @@ use Rattle.regex.specs.contracts.pattern.Pattern as pattern
 use Rattle.regex.specs.contracts.bytes.regex.Regex as regex
 use Rattle.px_patterns.specs.contracts.expressions.Expression as expression
 use Rattle.px_patterns.specs.contracts.expressions.Expression.TheInside as expression_inside
-use Rattle.px_patterns.specs.contracts.expressions.Search as searched
+use Rattle.px_patterns.specs.contracts.expressions.ExpressionSearch as searched
 use Rattle.px_patterns.specs.contracts.hosts.HostPart as host
-use Rattle.px_patterns.specs.contracts.kept.Kept as kept
-use Rattle.px_patterns.specs.contracts.kept.Kept.TheInside as kept_inside
+use Rattle.px_patterns.specs.contracts.kept.KeptExpression as kept
+use Rattle.px_patterns.specs.contracts.kept.KeptExpression.TheInside as kept_inside
 use Rattle.px_patterns.specs.contracts.kept.KeptPattern as kept_pattern
 use Rattle.px_patterns.specs.contracts.patterns.TagPattern as tag
 use Rattle.px_patterns.specs.contracts.patterns.UrlPattern as url

@@ -9,7 +9,7 @@ use Rattle.regex.specs.contracts.bytes.regex.Regex as regex
 use Rattle.px_subst.specs.contracts.replacers.Replacer as replacer
 use Rattle.px_subst.specs.contracts.replacers.Replacer.TheInside as replacer_inside
 use Rattle.px_subst.specs.contracts.worded.WordedJob as worded
-use Rattle.px_subst.specs.contracts.jobs.Form as form
+use Rattle.px_subst.specs.contracts.jobs.JobForm as form
 use Rattle.px_subst.specs.contracts.jobs.Job as job
 use Rattle.px_subst.specs.contracts.filters.Filter as filter
 use Rattle.px_subst.specs.contracts.jobs.Job.TheInside as job_inside

@@ -12,7 +12,7 @@ use Rattle.std.proofs.sync.ledger.Share.TheSendSync as share
 use Rattle.std.specs.declared.sync.ledger.Ledger as ledger
 use Rattle.px_tag_board.specs.declared.names.BoardName as naming
 use Rattle.px_tag_board.specs.contracts.changes.TagChange as change
-use Rattle.px_tag_board.specs.contracts.entries.Entry as entry
+use Rattle.px_tag_board.specs.contracts.entries.BoardEntry as entry
 use Rattle.px_tag_board.specs.contracts.entries.PublishedState as mark
 use Rattle.px_tag_board.specs.contracts.entries.PublishedState.TheInside as state_inside
 use Rattle.px_tag_board.specs.contracts.chains.Chain as chain

@@ -1,5 +1,5 @@
 -- Without a backslash, the bytes so far are those of the text.
-use Rattle.std.proofs.Common.{◌≡◌, ◌≢◌, ◌×◌, All, None, take}
+use Rattle.std.proofs.Common.{◌≡◌, ◌≢◌, All, None, take}
 use Rattle.px_leaf_rows.specs.declared.escapes.Place.TheVariants as place
 use Rattle.px_leaf_rows.proofs.escapes.decoded.Given as goal
 
