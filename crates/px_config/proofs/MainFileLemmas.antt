@@ -5,13 +5,13 @@ use Rattle.std.specs.Prelude.{codes, take, unwrap_or}
 use Rattle.px_text.specs.declared.lines.Line.{Line}
 use Rattle.px_config.specs.declared.main_files.Named.{Named}
 use Rattle.px_config.specs.declared.names.TheConstants.{FILES_OF_A_KIND}
-use Rattle.px_config.specs.Directives.{last_of, last_value, name_in, value_for, value_in, values_of, with_value}
+use Rattle.px_config.specs.Directives.{last_of, last_value, name_in, value_for, value_in, values_of, with_given_value}
 use Rattle.px_config.specs.MainFiles.{nothing_named, places_with, with_named}
 use Rattle.px_config.specs.Names.{action_names, confdir, filter_names, folder_of, joined_path, or_else, places_of, templdir}
 
 -- ---- values
 
-value_more : (values rest : List (List ℕ)) (value : Option (List ℕ)) → values ++ cons_option value rest ≡ with_value values value ++ rest
+value_more : (values rest : List (List ℕ)) (value : Option (List ℕ)) → values ++ cons_option value rest ≡ with_given_value values value ++ rest
 value_more values rest None = refl
 value_more values rest (Some value) = sym (append_assoc values (value ∷ []) rest)
 
@@ -20,7 +20,7 @@ last_more before None rest = refl
 last_more before (Some value) rest = refl
 
 values_more : (word : List ℕ) (lines others : List Line) (line : Line) (values : List (List ℕ)) →
-    values_of word lines ≡ values ++ values_of word (line ∷ others) → values_of word lines ≡ with_value values (value_for word line) ++ values_of word others
+    values_of word lines ≡ values ++ values_of word (line ∷ others) → values_of word lines ≡ with_given_value values (value_for word line) ++ values_of word others
 unfolding values_of
 values_more word lines others line values e = e ∙ value_more values (values_of word others) (value_for word line)
 

@@ -27,9 +27,9 @@ unfoldable pub values_of : List ℕ → List Line → List (List ℕ)
 values_of word lines = filter_map (value_for word) lines
 
 -- values with one more behind them, if there is one
-abbrev pub with_value : List (List ℕ) → Option (List ℕ) → List (List ℕ)
-with_value values None = values
-with_value values (Some value) = values ++ value ∷ []
+abbrev pub with_given_value : List (List ℕ) → Option (List ℕ) → List (List ℕ)
+with_given_value values None = values
+with_given_value values (Some value) = values ++ value ∷ []
 
 -- the last of some values, or the one before them
 abbrev pub last_of : Option (List ℕ) → List (List ℕ) → Option (List ℕ)

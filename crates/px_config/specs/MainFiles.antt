@@ -7,7 +7,7 @@ use Rattle.px_config.specs.declared.main_files.MainFile.{MainFile}
 use Rattle.px_config.specs.declared.main_files.Named.{Named}
 use Rattle.px_config.specs.declared.names.Places.{Places}
 use Rattle.px_config.specs.declared.names.TheConstants.{FILES_OF_A_KIND}
-use Rattle.px_config.specs.Directives.{value_given, with_value}
+use Rattle.px_config.specs.Directives.{value_given, with_given_value}
 use Rattle.px_config.specs.Names.{folder_of, joined_path, or_else, places_of}
 
 -- ---- the lines that name files and folders
@@ -19,8 +19,8 @@ nothing_named = record { action_files = []; filter_files = []; confdir = None; t
 -- with what a line of this name and value names; the last folder counts
 abbrev pub with_named : List ℕ → List ℕ → Named → Named
 with_named name value n = record {
-  action_files = with_value n.action_files (value_given (codes "actionsfile") name value);
-  filter_files = with_value n.filter_files (value_given (codes "filterfile") name value);
+  action_files = with_given_value n.action_files (value_given (codes "actionsfile") name value);
+  filter_files = with_given_value n.filter_files (value_given (codes "filterfile") name value);
   confdir = or_else (value_given (codes "confdir") name value) n.confdir;
   templdir = or_else (value_given (codes "templdir") name value) n.templdir;
 }

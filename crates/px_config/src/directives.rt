@@ -2,7 +2,7 @@
 ghost use Rattle.std.specs.Prelude.{◌≡◌, ◌<◌, length, IfSome, OnOk, option_copied};
 ghost use Rattle.std.specs.List.{position};
 ghost use Rattle.px_base.specs.Blanks.{is_blank};
-ghost use Rattle.px_config.specs.Directives.{name_in, value_given, value_in, with_value};
+ghost use Rattle.px_config.specs.Directives.{name_in, value_given, value_in, with_given_value};
 ghost use Rattle.px_config.specs.Mains.{directive_of, row_of};
 ghost use Rattle.px_config.specs.Names.{or_else};
 ghost use Rattle.px_base.specs.Lists.{nonempty};
@@ -149,7 +149,7 @@ pub(crate) fn add_value(
     value: &[u8],
     values: &mut List<Text>,
 ) -> Result<(), Mem>
-    ensures { OnOk result (values.new ≡ with_value values.old (value_given word.now name.now value.now)) }
+    ensures { OnOk result (values.new ≡ with_given_value values.old (value_given word.now name.now value.now)) }
 {
     match value_given(word, name, value) {
         Some(value) => values.add(Text::from_bytes(alloc, value)?),

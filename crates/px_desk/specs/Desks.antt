@@ -4,7 +4,7 @@ use Rattle.px_base.specs.Contents.{FilesState}
 use Rattle.px_base.specs.Sources.{SourceState}
 use Rattle.px_base.specs.Sinks.{SinkState}
 use Rattle.px_publish.specs.Views.{Pair}
-use Rattle.px_publish.specs.Published.{told, receipt_pair}
+use Rattle.px_publish.specs.Published.{told_by, receipt_pair}
 use Rattle.px_base.specs.Dials.{DialerState}
 use Rattle.px_base.specs.Moments.{ClockState}
 use Rattle.px_doors.specs.Conns.{ConnState, PartedState, conn_as}
@@ -75,7 +75,7 @@ pub record HandedState : Type 0 where
 
 -- the connection that is handed out, if any
 abbrev pub handed_as : {S O D T : Type 0} → (S → SourceState) → (O → SinkState) → (D → DialerState) → (T → ClockState) → DeskNext S O D T → Option HandedState
-handed_as ins outs dials times (next.Conn h) = Some (record { number = h.number; reload = h.reload; told = told h.receipt; pair = receipt_pair h.receipt; conn = conn_as ins outs dials times h.conn })
+handed_as ins outs dials times (next.Conn h) = Some (record { number = h.number; reload = h.reload; told = told_by h.receipt; pair = receipt_pair h.receipt; conn = conn_as ins outs dials times h.conn })
 handed_as ins outs dials times (next.Closed e) = None
 
 -- a connection was handed out

@@ -1,7 +1,7 @@
 // The desk: it takes connections from the doors, reloads, keeps which connections are out, and takes them back.
 ghost use Rattle.std.specs.Prelude.{IfOk, None, IsTrue, ◌↔◌, ◌≤◌, length, ◌≡◌, ◌+◌, ◌<◌, ◌-◌, ◌^◌, ◌∷◌, [], Some, IfSome, IfNone, IfErr, MatchOption, string_bytes};
 ghost use Rattle.px_base.specs.Contents.{FilesState};
-ghost use Rattle.px_publish.specs.Published.{published, pair_of, told, receipt_pair, seen_by, reader_pair};
+ghost use Rattle.px_publish.specs.Published.{published, pair_of, told_by, receipt_pair, seen_by, reader_pair};
 ghost use Rattle.px_publish.specs.Views.{GoesOn};
 ghost use Rattle.px_doors.specs.Conns.{parted_as};
 ghost use Rattle.px_desk.specs.Sessions.{IsConnServed};

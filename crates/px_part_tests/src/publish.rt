@@ -1,5 +1,5 @@
 ghost use Rattle.std.specs.Prelude.{◌≡◌, ◌+◌, ◌<◌, ◌≤◌, ◌^◌, ◌++◌, ◌∷◌, [], length, vec_len, All, IfSome};
-ghost use Rattle.px_publish.specs.Published.{published, pair_of, told, receipt_pair, reader_pair};
+ghost use Rattle.px_publish.specs.Published.{published, pair_of, told_by, receipt_pair, reader_pair};
 ghost use Rattle.px_publish.specs.Views.{Pair};
 
 use crate::common::{holds, same};

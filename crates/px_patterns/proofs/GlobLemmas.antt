@@ -10,7 +10,7 @@ use Rattle.px_patterns.specs.declared.labels.LabelItem.TheVariants.{AnyByte, Any
 use Rattle.px_patterns.specs.declared.labels.LabelPattern.{LabelPattern}
 use Rattle.px_patterns.specs.declared.labels.LabelPattern.TheVariants.{Glob, Plain}
 use Rattle.px_patterns.specs.Globs.{ArePieces, CanBeCut, glob_matches, label_items, joined_pieces, label_matches, some_tail, takes, takes_first}
-use Rattle.px_patterns.specs.Runs.{behind_first, has_run, is_run, takes_front}
+use Rattle.px_patterns.specs.Runs.{behind_first_place, has_run, is_run, takes_front}
 
 -- ---- tests
 
@@ -182,8 +182,8 @@ later_place front more b label fixed some =
     some_tail-drop (glob_matches more) (length (b ∷ found.0)) (drop (length front) (b ∷ label)) (ap (some_tail (glob_matches more)) later ∙ both.1)
 
 -- where the items between two `*` first stand, the rest decides
-pub first_place : (front more : List LabelItem) (label rest : List ℕ) → has_run front ≡ false → behind_first front label ≡ Some rest → some_tail (glob_matches (front ++ AnyRun ∷ more)) label ≡ some_tail (glob_matches more) rest
-unfolding behind_first
+pub first_place : (front more : List LabelItem) (label rest : List ℕ) → has_run front ≡ false → behind_first_place front label ≡ Some rest → some_tail (glob_matches (front ++ AnyRun ∷ more)) label ≡ some_tail (glob_matches more) rest
+unfolding behind_first_place
 first_place front more [] rest fixed found =
     elim (cases_Bool (takes_front front [])) [
       | inl does ↦ between_is front more [] fixed ∙ rw does (ap (some_tail (glob_matches more)) (some_same _ _ (rw does at found)))
@@ -203,8 +203,8 @@ first_place front more (b ∷ label) rest fixed found =
           ∙ first_place front more label rest fixed (rw fails at found)
     ]
 
-pub no_place : (front more : List LabelItem) (label : List ℕ) → has_run front ≡ false → behind_first front label ≡ None → some_tail (glob_matches (front ++ AnyRun ∷ more)) label ≡ false
-unfolding behind_first
+pub no_place : (front more : List LabelItem) (label : List ℕ) → has_run front ≡ false → behind_first_place front label ≡ None → some_tail (glob_matches (front ++ AnyRun ∷ more)) label ≡ false
+unfolding behind_first_place
 no_place front more [] fixed none =
     elim (cases_Bool (takes_front front [])) [
       | inl does ↦ absurd (none_some _ (sym (rw does at none)))
@@ -279,26 +279,26 @@ unfolding takes_front
 front_past items bytes at past = rw (drop_all at items past)
 
 -- one place of the search
-pub behind_here : (items : List LabelItem) (bytes : List ℕ) → takes_front items bytes ≡ true → behind_first items bytes ≡ Some (drop (length items) bytes)
-unfolding behind_first
+pub behind_here : (items : List LabelItem) (bytes : List ℕ) → takes_front items bytes ≡ true → behind_first_place items bytes ≡ Some (drop (length items) bytes)
+unfolding behind_first_place
 behind_here items [] takes = rw takes refl
 behind_here items (b ∷ bytes) takes = rw takes refl
 
-behind_too_short : (items : List LabelItem) (bytes : List ℕ) → length bytes < length items → behind_first items bytes ≡ None
-unfolding behind_first
+behind_too_short : (items : List LabelItem) (bytes : List ℕ) → length bytes < length items → behind_first_place items bytes ≡ None
+unfolding behind_first_place
 behind_too_short items [] short = rw (sym (front_too_long items [] short)) refl
 behind_too_short items (b ∷ bytes) short = rw (sym (front_too_long items (b ∷ bytes) short)) (behind_too_short items bytes (omega arith))
 
 -- no place comes later where the bytes are no longer than the items
-pub behind_end : (items : List LabelItem) (bytes : List ℕ) → takes_front items bytes ≡ false → length bytes ≤ length items → behind_first items bytes ≡ None
-unfolding behind_first
+pub behind_end : (items : List LabelItem) (bytes : List ℕ) → takes_front items bytes ≡ false → length bytes ≤ length items → behind_first_place items bytes ≡ None
+unfolding behind_first_place
 behind_end items [] fails short = rw fails refl
 behind_end items (b ∷ bytes) fails short = rw fails (behind_too_short items bytes (omega arith))
 
-pub behind_later : (items : List LabelItem) (bytes : List ℕ) → takes_front items bytes ≡ false → (length bytes ≡ 0 → ⊥) → behind_first items bytes ≡ behind_first items (take (length bytes - 1) (drop 1 bytes))
-unfolding behind_first
+pub behind_later : (items : List LabelItem) (bytes : List ℕ) → takes_front items bytes ≡ false → (length bytes ≡ 0 → ⊥) → behind_first_place items bytes ≡ behind_first_place items (take (length bytes - 1) (drop 1 bytes))
+unfolding behind_first_place
 behind_later items [] fails some = absurd (some refl)
-behind_later items (b ∷ bytes) fails some = rw fails (ap (behind_first items) (sym (take_rest (b ∷ bytes) 1)))
+behind_later items (b ∷ bytes) fails some = rw fails (ap (behind_first_place items) (sym (take_rest (b ∷ bytes) 1)))
 
 -- ---- a label without `*`, `?` and `[`
 
@@ -326,9 +326,9 @@ last_of_run items front label is fixed fits =
 pub too_few_of_run : (items front : List LabelItem) (label : List ℕ) → items ≡ front ++ [] → has_run front ≡ false → length label < length front → false ≡ some_tail (glob_matches items) label
 too_few_of_run items front label is fixed short = too_few front label fixed short ∙ ap (λ (l : List LabelItem). some_tail (glob_matches l) label) (sym (is ∙ append-nil front))
 
-pub run_first : (items front more : List LabelItem) (label rest : List ℕ) → items ≡ front ++ AnyRun ∷ more → has_run front ≡ false → behind_first front label ≡ Some rest →
+pub run_first : (items front more : List LabelItem) (label rest : List ℕ) → items ≡ front ++ AnyRun ∷ more → has_run front ≡ false → behind_first_place front label ≡ Some rest →
     some_tail (glob_matches items) label ≡ some_tail (glob_matches more) rest
 run_first items front more label rest is fixed found = ap (λ (l : List LabelItem). some_tail (glob_matches l) label) is ∙ first_place front more label rest fixed found
 
-pub run_none : (items front more : List LabelItem) (label : List ℕ) → items ≡ front ++ AnyRun ∷ more → has_run front ≡ false → behind_first front label ≡ None → some_tail (glob_matches items) label ≡ false
+pub run_none : (items front more : List LabelItem) (label : List ℕ) → items ≡ front ++ AnyRun ∷ more → has_run front ≡ false → behind_first_place front label ≡ None → some_tail (glob_matches items) label ≡ false
 run_none items front more label is fixed none = ap (λ (l : List LabelItem). some_tail (glob_matches l) label) is ∙ no_place front more label fixed none

@@ -26,6 +26,6 @@ takes_front (item ∷ items) [] = false
 takes_front (item ∷ items) (b ∷ bytes) = takes item b && takes_front items bytes
 
 -- what is behind the first place where each of the items takes one byte
-unfoldable pub behind_first : List LabelItem → List ℕ → Option (List ℕ)
-behind_first items [] = if takes_front items [] then Some (drop (length items) []) else None
-behind_first items (b ∷ bytes) = if takes_front items (b ∷ bytes) then Some (drop (length items) (b ∷ bytes)) else behind_first items bytes
+unfoldable pub behind_first_place : List LabelItem → List ℕ → Option (List ℕ)
+behind_first_place items [] = if takes_front items [] then Some (drop (length items) []) else None
+behind_first_place items (b ∷ bytes) = if takes_front items (b ∷ bytes) then Some (drop (length items) (b ∷ bytes)) else behind_first_place items bytes

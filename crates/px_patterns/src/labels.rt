@@ -1,7 +1,7 @@
 // Labels of host patterns.
 ghost use Rattle.std.specs.Prelude.{◌≡◌, ◌≤◌, ◌↔◌, ◌++◌, false, IsTrue, length, option_copied};
 ghost use Rattle.px_patterns.specs.Globs.{CanBeCut, glob_matches, in_class, in_range, label_items, label_matches, some_tail, takes};
-ghost use Rattle.px_patterns.specs.Runs.{behind_first, behind_run, has_run, is_run, takes_front};
+ghost use Rattle.px_patterns.specs.Runs.{behind_first_place, behind_run, has_run, is_run, takes_front};
 
 use px_base::{List, Text, same_without_case};
 
@@ -178,7 +178,7 @@ fn takes_front(items: &[LabelItem], bytes: &[u8]) -> bool
 
 /// What is behind the first place where each of the items takes one byte.
 fn behind_first<'a>(items: &[LabelItem], bytes: &'a [u8]) -> Option<&'a [u8]>
-    ensures { option_copied result ≡ behind_first items.now bytes.now }
+    ensures { option_copied result ≡ behind_first_place items.now bytes.now }
 {
     let mut rest = bytes;
     'places: loop {

@@ -1,7 +1,7 @@
 // Workers that share a desk.
 ghost use denote.Param.Send.{IsSend};
 ghost use Rattle.std.specs.Prelude.{◌≡◌, ◌+◌, ◌<◌, ◌≤◌, [], length, vec_len, IfSome, IfNone, OnOk, IfOk, IsTrue, All};
-ghost use Rattle.px_publish.specs.Published.{told, receipt_pair, seen_by, reader_pair};
+ghost use Rattle.px_publish.specs.Published.{told_by, receipt_pair, seen_by, reader_pair};
 ghost use Rattle.px_doors.specs.Doors.{DoorsState};
 ghost use Rattle.px_doors.specs.Conns.{conn_as, parted_as};
 ghost use Rattle.px_desk.specs.Facts.{Closes, Made, IsOut, DeskStands};

@@ -18,8 +18,8 @@ module _ {C S : Type 0} {g : Ghosts (SharedList C) (SharedList C) S} where
 
 module _ {C : Type 0} where
   -- the list that the receipt tells
-  abbrev pub told : Receipt C → List C
-  told r = r.held.front.seen.log
+  abbrev pub told_by : Receipt C → List C
+  told_by r = r.held.front.seen.log
 
   abbrev pub receipt_pair : Receipt C → Pair
   receipt_pair r = r.held.front.seen.book

@@ -31,7 +31,7 @@ where
 
 impl<C: Drop> Publisher<C> {
     ghost use Rattle.px_publish.specs.Rules.{BeginsSameList};
-    ghost use Rattle.px_publish.specs.Published.{published, pair_of, told, receipt_pair, seen_by, reader_pair};
+    ghost use Rattle.px_publish.specs.Published.{published, pair_of, told_by, receipt_pair, seen_by, reader_pair};
 
     pub(crate) fn over(writer: ListWriter<C>, head: Head<C>, newest: Held<C>) -> Publisher<C>
         requires pair { head.word.book ≡ newest.front.seen.book }
@@ -51,7 +51,7 @@ impl<C: Drop> Publisher<C> {
         requires { length (published self.old) < 2 ^ 64 }
         ensures pair { pair_of self.new ≡ pair_of self.old }
         ensures added { OnOk result (published self.new ≡ published self.old ++ arc_value config ∷ []) }
-        ensures receipt { IfOk result (λ r. told r ≡ published self.new) }
+        ensures receipt { IfOk result (λ r. told_by r ≡ published self.new) }
         ensures receipt_pair { IfOk result (λ r. receipt_pair r ≡ pair_of self.new) }
         ensures err { OnErr result (published self.new ≡ published self.old) }
     {
@@ -62,7 +62,7 @@ impl<C: Drop> Publisher<C> {
                 requires { length (published publisher) < 2 ^ 64 }
                 ensures { (pair_of result.0 ≡ pair_of publisher)
                     × OnOk result.1 (published result.0 ≡ published publisher ++ arc_value lent.entry.1 ∷ [])
-                    × IfOk result.1 (λ r. told r ≡ published result.0)
+                    × IfOk result.1 (λ r. told_by r ≡ published result.0)
                     × IfOk result.1 (λ r. receipt_pair r ≡ pair_of result.0)
                     × OnErr result.1 (published result.0 ≡ published publisher) }
             { publisher.published_by(lent.0, lent.1) },
@@ -77,7 +77,7 @@ impl<C: Drop> Publisher<C> {
         requires { length (published self) < 2 ^ 64 }
         ensures pair { pair_of result.0 ≡ pair_of self }
         ensures added { OnOk result.1 (published result.0 ≡ published self ++ arc_value config ∷ []) }
-        ensures receipt { IfOk result.1 (λ r. told r ≡ published result.0) }
+        ensures receipt { IfOk result.1 (λ r. told_by r ≡ published result.0) }
         ensures receipt_pair { IfOk result.1 (λ r. receipt_pair r ≡ pair_of result.0) }
         ensures err { OnErr result.1 (published result.0 ≡ published self) }
     {
@@ -109,7 +109,7 @@ impl<C: Drop> Publisher<C> {
 
     /// The receipt of the newest entry. It is refused where the owners of that configuration can't be counted any more.
     pub fn receipt(&self) -> Result<Receipt<C>, Mem>
-        ensures list { IfOk result (λ r. told r ≡ published self.now) }
+        ensures list { IfOk result (λ r. told_by r ≡ published self.now) }
         ensures pair { IfOk result (λ r. receipt_pair r ≡ pair_of self.now) }
     {
         match self.newest.again() {
@@ -130,7 +130,7 @@ impl<C: Drop> Publisher<C> {
     /// Gives the publisher up, and hands out the receipt of its newest entry. It may wait for readers to leave, takes no memory
     /// and can't be refused.
     pub fn end<R: Wait>(self, rt: &R) -> Receipt<C>
-        ensures list { told result ≡ published self }
+        ensures list { told_by result ≡ published self }
         ensures pair { receipt_pair result ≡ pair_of self }
     {
         let Publisher {

@@ -45,7 +45,7 @@ fn newer<C: Drop>(shared: &SharedList<C>, held: Held<C>) -> Held<C>
 }
 
 impl<C: Drop> ConfigReader<C> {
-    ghost use Rattle.px_publish.specs.Published.{told, receipt_pair, seen_by, reader_pair};
+    ghost use Rattle.px_publish.specs.Published.{told_by, receipt_pair, seen_by, reader_pair};
 
     pub(crate) fn over(reader: ListReader<C>, held: Held<C>) -> ConfigReader<C>
         requires { view reader.place ≡ Some held.front.seen }
@@ -99,8 +99,8 @@ impl<C: Drop> ConfigReader<C> {
         requires { receipt_pair receipt ≡ reader_pair self.old }
         ensures pair { reader_pair self.new ≡ reader_pair self.old }
         ensures goes_on { GoesOn (seen_by self.old) (seen_by self.new) }
-        ensures heard { GoesOn (told receipt) (seen_by self.new) }
-        ensures longer { length (seen_by self.new) ≡ max (length (seen_by self.old)) (length (told receipt)) }
+        ensures heard { GoesOn (told_by receipt) (seen_by self.new) }
+        ensures longer { length (seen_by self.new) ≡ max (length (seen_by self.old)) (length (told_by receipt)) }
     {
         let told = receipt.into_held();
         if self.held.front.is_behind(&told.front) {

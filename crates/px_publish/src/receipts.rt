@@ -11,7 +11,7 @@ pub struct Receipt<C: Drop> {
 }
 
 impl<C: Drop> Receipt<C> {
-    ghost use Rattle.px_publish.specs.Published.{told};
+    ghost use Rattle.px_publish.specs.Published.{told_by};
 
     pub(crate) fn over(held: Held<C>) -> Receipt<C>
         ensures { result.held ≡ held }
@@ -27,8 +27,8 @@ impl<C: Drop> Receipt<C> {
 
     /// Lends the entry, whole.
     pub fn snapshot(&self) -> Snapshot<'_, C>
-        ensures number { length (told self.now) ≡ result.number + 1 }
-        ensures config { slice_get (told self.now) result.number ≡ Some result.config.now }
+        ensures number { length (told_by self.now) ≡ result.number + 1 }
+        ensures config { slice_get (told_by self.now) result.number ≡ Some result.config.now }
     {
         Snapshot {
             number: self.held.front.number,

@@ -57,13 +57,13 @@ abbrev pub ReadsAsHead : List ℕ → Option ResponseHead → Type 0
 ReadsAsHead block (Some head) = IsResponse block head
 ReadsAsHead block None = (head : ResponseHead) → ¬ (IsResponse block head)
 
-abbrev pub seen_by : ResponseHead → Result BodyRule BodyFault → List ℕ → Seen
-seen_by head (Ok r) rest = Good head r rest
-seen_by head (Err e) rest = Bad
+abbrev pub seen_by_rule : ResponseHead → Result BodyRule BodyFault → List ℕ → Seen
+seen_by_rule head (Ok r) rest = Good head r rest
+seen_by_rule head (Err e) rest = Bad
 
 -- what the answer's own head shows
 unfoldable pub seen_final : List ℕ → ResponseHead → List ℕ → Seen
-seen_final method head rest = if head.status == 101 then Bad else seen_by head (response_rule head method) rest
+seen_final method head rest = if head.status == 101 then Bad else seen_by_rule head (response_rule head method) rest
 
 -- what a block shows that was read so; Behind is what the bytes behind an interim head show
 abbrev pub ShowsRead : (List ℕ → Seen → Type 0) → List ℕ → Option ResponseHead → List ℕ → Seen → Type 0

@@ -1,6 +1,6 @@
 // The published list of states.
 ghost use Rattle.std.specs.Prelude.{◌≡◌, ◌+◌, ◌<◌, ◌≤◌, ◌^◌, ◌++◌, ◌∷◌, ◌↔◌, [], IsTrue, IfOk, OnOk, OnErr, length, vec_len};
-ghost use Rattle.px_publish.specs.Published.{published, pair_of, told, receipt_pair, seen_by, reader_pair};
+ghost use Rattle.px_publish.specs.Published.{published, pair_of, told_by, receipt_pair, seen_by, reader_pair};
 ghost use Rattle.px_tag_board.specs.Chains.{IsChained, newest_of};
 ghost use Rattle.px_tag_board.specs.Readers.{AreFreshReaders};
 
@@ -76,7 +76,7 @@ impl Chain {
 
     /// The receipt of the newest state.
     pub(crate) fn receipt(&self) -> Result<Receipt<PublishedState>, Mem>
-        ensures list { IfOk result (λ r. told r ≡ self.now.states) }
+        ensures list { IfOk result (λ r. told_by r ≡ self.now.states) }
         ensures pair { IfOk result (λ r. receipt_pair r ≡ self.now.pair) }
         ensures chained { IsChained self.now.states }
     {
@@ -95,7 +95,7 @@ impl Chain {
         ensures added { OnOk result (self.new.states ≡ self.old.states ++ (newest_of self.old.states ++ entry ∷ []) ∷ []) }
         ensures newest { OnOk result (newest_of self.new.states ≡ newest_of self.old.states ++ entry ∷ []) }
         ensures chained { OnOk result (IsChained self.new.states) }
-        ensures list { IfOk result (λ r. told r ≡ self.new.states) }
+        ensures list { IfOk result (λ r. told_by r ≡ self.new.states) }
         ensures receipt_pair { IfOk result (λ r. receipt_pair r ≡ self.new.pair) }
         ensures err { OnErr result (self.new.states ≡ self.old.states) }
     {
@@ -118,7 +118,7 @@ fn published<R: Wait>(
     requires { length (published publisher.old) < 2 ^ 64 }
     ensures pair { pair_of publisher.new ≡ pair_of publisher.old }
     ensures added { OnOk result (published publisher.new ≡ published publisher.old ++ state.now.items ∷ []) }
-    ensures list { IfOk result (λ r. told r ≡ published publisher.new) }
+    ensures list { IfOk result (λ r. told_by r ≡ published publisher.new) }
     ensures receipt_pair { IfOk result (λ r. receipt_pair r ≡ pair_of publisher.new) }
     ensures err { OnErr result (published publisher.new ≡ published publisher.old) }
 {

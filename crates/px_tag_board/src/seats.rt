@@ -1,6 +1,6 @@
 // Seats at a board.
 ghost use Rattle.std.specs.Prelude.{◌≡◌, ◌+◌, ◌<◌, ◌≤◌, ◌∷◌, [], IfOk, IfErr, OnOk, OnErr, length, option_copied};
-ghost use Rattle.px_publish.specs.Published.{told, receipt_pair, seen_by, reader_pair};
+ghost use Rattle.px_publish.specs.Published.{told_by, receipt_pair, seen_by, reader_pair};
 ghost use Rattle.px_publish.specs.Views.{GoesOn};
 ghost use Rattle.px_tag_board.specs.Chains.{IsChained};
 ghost use Rattle.px_tag_board.specs.Answers.{IsWorn, IsChangeSettled};
@@ -49,10 +49,10 @@ impl<N: BoardName> Model for Seat<N> {
 /// what it has seen.
 fn learn(reader: &mut ConfigReader<PublishedState>, receipt: Receipt<PublishedState>)
     requires pair { receipt_pair receipt ≡ reader_pair reader.old }
-    requires no_shorter { length (seen_by reader.old) ≤ length (told receipt) }
+    requires no_shorter { length (seen_by reader.old) ≤ length (told_by receipt) }
     ensures pair { reader_pair reader.new ≡ reader_pair reader.old }
     ensures goes_on { GoesOn (seen_by reader.old) (seen_by reader.new) }
-    ensures seen { seen_by reader.new ≡ told receipt }
+    ensures seen { seen_by reader.new ≡ told_by receipt }
 {
     reader.learn(receipt);
 }
@@ -71,10 +71,10 @@ fn locked<N: BoardName, R: Wait>(
     requires part { 0 < share.old.parts }
     ensures parts { share.new.parts ≡ share.old.parts }
     ensures pair { IfOk result (λ a. receipt_pair a.receipt ≡ N.pair) }
-    ensures no_shorter { IfOk result (λ a. length (seen_by reader.now) ≤ length (told a.receipt)) }
-    ensures chained { IfOk result (λ a. IsChained (told a.receipt)) }
-    ensures worn { IfOk result (λ a. IsWorn (told a.receipt) address.now a.worn) }
-    ensures comes { IfOk result (λ a. ComesOfChange a.outcome (seen_by reader.now) (told a.receipt) address.now (option_copied change.entry) a.worn.tags) }
+    ensures no_shorter { IfOk result (λ a. length (seen_by reader.now) ≤ length (told_by a.receipt)) }
+    ensures chained { IfOk result (λ a. IsChained (told_by a.receipt)) }
+    ensures worn { IfOk result (λ a. IsWorn (told_by a.receipt) address.now a.worn) }
+    ensures comes { IfOk result (λ a. ComesOfChange a.outcome (seen_by reader.now) (told_by a.receipt) address.now (option_copied change.entry) a.worn.tags) }
     ensures amount { IfOk result (λ a. share.new.amount ≡ share.old.amount + made_by a.outcome) }
     ensures few { IfOk result (λ a. a.outcome ≡ Made → share.new.amount ≤ ENTRY_LIMIT) }
     ensures err { OnErr result (share.new.amount ≡ share.old.amount) }

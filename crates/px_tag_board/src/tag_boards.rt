@@ -1,6 +1,6 @@
 // The board under its lock.
 ghost use Rattle.std.specs.Prelude.{◌≡◌, ◌≢◌, ◌+◌, ◌<◌, ◌≤◌, ◌∷◌, [], ℕ, List, IsTrue, IfOk, OnErr, length, option_copied};
-ghost use Rattle.px_publish.specs.Published.{told, receipt_pair, seen_by, reader_pair};
+ghost use Rattle.px_publish.specs.Published.{told_by, receipt_pair, seen_by, reader_pair};
 ghost use Rattle.px_tag_board.specs.declared.answers.TheConstants.{ENTRY_LIMIT};
 ghost use Rattle.px_tag_board.specs.TagMaps.{worn};
 ghost use Rattle.px_tag_board.specs.States.{worn_by};
@@ -77,7 +77,7 @@ impl<N: BoardName> TagBoard<N> {
 
     // The answer that leaves the board as it is.
     fn unchanged(&self, tags: List<Text>, outcome: ChangeOutcome) -> Result<BoardAnswer, Mem>
-        ensures list { IfOk result (λ a. told a.receipt ≡ self.now.chain.states) }
+        ensures list { IfOk result (λ a. told_by a.receipt ≡ self.now.chain.states) }
         ensures pair { IfOk result (λ a. receipt_pair a.receipt ≡ N.pair) }
         ensures chained { IsChained self.now.chain.states }
         ensures place { IfOk result (λ a. length self.now.chain.states ≡ a.worn.place + 1) }
@@ -109,10 +109,10 @@ impl<N: BoardName> TagBoard<N> {
         requires alters { tags_after tags change.now ≢ tags }
         ensures parts { share.new.parts ≡ share.old.parts }
         ensures pair { IfOk result (λ a. receipt_pair a.receipt ≡ N.pair) }
-        ensures chained { IfOk result (λ a. IsChained (told a.receipt)) }
-        ensures worn { IfOk result (λ a. IsWorn (told a.receipt) address.now a.worn) }
+        ensures chained { IfOk result (λ a. IsChained (told_by a.receipt)) }
+        ensures worn { IfOk result (λ a. IsWorn (told_by a.receipt) address.now a.worn) }
         ensures settled { IfOk result (λ a. IsChangeSettled (Some change.now) a.worn.tags) }
-        ensures made { IfOk result (λ a. IsMade self.old.chain.states (told a.receipt) address.now (Some change.now)) }
+        ensures made { IfOk result (λ a. IsMade self.old.chain.states (told_by a.receipt) address.now (Some change.now)) }
         ensures outcome { IfOk result (λ a. a.outcome ≡ Made) }
         ensures amount { IfOk result (λ a. share.new.amount ≡ share.old.amount + 1) }
         ensures few { IfOk result (λ a. share.new.amount ≤ ENTRY_LIMIT) }
@@ -154,10 +154,10 @@ impl<N: BoardName> TagBoard<N> {
         requires part { 0 < share.old.parts }
         ensures parts { share.new.parts ≡ share.old.parts }
         ensures pair { IfOk result (λ a. receipt_pair a.receipt ≡ N.pair) }
-        ensures no_shorter { IfOk result (λ a. length self.old.chain.states ≤ length (told a.receipt)) }
-        ensures chained { IfOk result (λ a. IsChained (told a.receipt)) }
-        ensures worn { IfOk result (λ a. IsWorn (told a.receipt) address.now a.worn) }
-        ensures comes { IfOk result (λ a. ComesOfChange a.outcome self.old.chain.states (told a.receipt) address.now (option_copied change.entry) a.worn.tags) }
+        ensures no_shorter { IfOk result (λ a. length self.old.chain.states ≤ length (told_by a.receipt)) }
+        ensures chained { IfOk result (λ a. IsChained (told_by a.receipt)) }
+        ensures worn { IfOk result (λ a. IsWorn (told_by a.receipt) address.now a.worn) }
+        ensures comes { IfOk result (λ a. ComesOfChange a.outcome self.old.chain.states (told_by a.receipt) address.now (option_copied change.entry) a.worn.tags) }
         ensures amount { IfOk result (λ a. share.new.amount ≡ share.old.amount + made_by a.outcome) }
         ensures few { IfOk result (λ a. a.outcome ≡ Made → share.new.amount ≤ ENTRY_LIMIT) }
         ensures err { OnErr result (share.new.amount ≡ share.old.amount) }
