@@ -7,7 +7,7 @@ use help::asked_text;
 use px_base::{DiskFiles, ReaderSource, SystemClock, WriterSink};
 use px_commands::{Status, USAGE, report, run_tool};
 use px_doors::{SocketDoors, Times};
-use px_serve_command::{Parts, run_proxy};
+use px_serve_command::{DeskParts, run_proxy};
 use px_ways::Way;
 use std::process::ExitCode;
 use std::rt::Env;
@@ -51,7 +51,7 @@ fn main(rt: HostRuntime) -> ExitCode {
     let mut files = DiskFiles::new(alloc, &rt);
     if is_serve(&words) {
         let doors = SocketDoors::new(alloc, &rt, Times::usual());
-        let parts = Parts { files, doors, err };
+        let parts = DeskParts { files, doors, err };
         let proxied = run_proxy(alloc, &rt, &words, parts);
         return ExitCode::from(proxied.status);
     }

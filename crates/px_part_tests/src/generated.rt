@@ -111,7 +111,7 @@ fn first_bytes<'a>(rt: &impl Abort, answers: &'a [Answer]) -> &'a Text {
 #[test]
 fn the_first_session_of_the_job_of_seven(rt: HostRuntime) -> Result<(), Fail> {
     let alloc = rt.alloc();
-    let session = job_session(alloc, &mut Job::new(alloc, 7)?.draws)?;
+    let session = job_session(alloc, &mut GeneratedJob::new(alloc, 7)?.draws)?;
     begins(
         &rt,
         &session.input,
@@ -153,7 +153,7 @@ fn answered_bytes(answers: &[Answer]) -> usize {
 #[test]
 fn the_ten_sessions_of_the_job_of_seven(rt: HostRuntime) -> Result<(), Fail> {
     let alloc = rt.alloc();
-    let mut job = Job::new(alloc, 7)?;
+    let mut job = GeneratedJob::new(alloc, 7)?;
     for (asked, answered) in LENGTHS {
         let session = job_session(alloc, &mut job.draws)?;
         let lengths = (

@@ -7,7 +7,7 @@ ghost use Rattle.px_doors.specs.MemConns.{AreFreshConns, mem_conn};
 use crate::common::{same, same_at};
 use px_base::{Answer, FixedClock, List, Mem, MemDialer, MemFiles, Peer, TapeIn, TapeOut, Text};
 use px_doors::{Conn, Doors, MemConn, MemDoors};
-use px_serve_command::{Parts, Proxied, run_proxy};
+use px_serve_command::{DeskParts, Proxied, run_proxy};
 use std::alloc::Global;
 use std::sync::Wait;
 use std::test::Fail;
@@ -107,14 +107,14 @@ fn parts_of(
     main: &[u8],
     conns: List<MemConn>,
     fails: &[u64],
-) -> Result<Parts<MemFiles, MemDoors, TapeOut>, Mem>
+) -> Result<DeskParts<MemFiles, MemDoors, TapeOut>, Mem>
     requires fresh { AreFreshConns conns }
     ensures begun { IfOk result (λ parts. DoorsBegun (⟦<MemDoors as Doors>⟧.state parts.doors)) }
 {
     let doors = MemDoors::new(alloc, conns, fails)?;
     let files = files_of(alloc, main)?;
     let err = TapeOut::new(alloc, &[], &[])?;
-    Ok(Parts { files, doors, err })
+    Ok(DeskParts { files, doors, err })
 }
 
 fn words_of(alloc: Global, words: &[&str]) -> Result<Vec<String>, Fail> {

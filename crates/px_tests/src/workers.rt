@@ -11,7 +11,7 @@ use px_base::{
     Source, TapeIn, TapeOut, Text,
 };
 use px_doors::{AcceptFault, Conn, Doors, ListenAddress, Parted};
-use px_serve_command::{Parts, Proxied, ReloadCounts, run_proxy};
+use px_serve_command::{DeskParts, Proxied, ReloadCounts, run_proxy};
 use std::alloc::Global;
 use std::sync::Wait;
 use std::sync::atomic::{AtomicU64, Ordering};
@@ -292,7 +292,7 @@ fn proxied<'c, R: Threads + Wait + Sync>(
     alloc: Global,
     seen: &'c Seen,
 ) -> Result<Proxied<MemFiles, WaitingDoors<'c>, TapeOut>, Mem> {
-    let parts = Parts {
+    let parts = DeskParts {
         files: turning_files(alloc)?,
         doors: WaitingDoors::new(alloc, seen),
         err: TapeOut::new(alloc, &[], &[])?,
