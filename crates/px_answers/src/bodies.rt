@@ -1,5 +1,5 @@
 // The bytes of a body, taken from its pieces.
-ghost use Rattle.std.specs.Prelude.{◌≡◌, ◌++◌, ◌+◌, length, IfOk, OnOk, List, ℕ};
+ghost use Rattle.std.specs.Prelude.{◌≡◌, ◌++◌, ◌+◌, length, IfOk, OnOk, OnErr, List, ℕ};
 ghost use Rattle.px_framing.specs.Passing.{bytes_left};
 ghost use Rattle.px_framing.specs.Reading.{IsSettled, stage_state, added};
 ghost use Rattle.px_framing.specs.declared.places.State.TheVariants as state;
@@ -16,6 +16,7 @@ use std::alloc::Global;
 pub fn take(form: Form, reader: &mut BodyReader, piece: &[u8], out: &mut Text) -> Result<(), Mem>
     ensures takes { OnOk result (TakesOn form reader.old piece.now (added out.old out.new) reader.new) }
     ensures grows { OnOk result (out.new ≡ out.old ++ added out.old out.new) }
+    ensures kept { OnErr result (out.new ≡ out.old ++ added out.old out.new) }
     ensures left { OnOk result (stage_state reader.new.stage ≡ state.More → bytes_left reader.new.stage + length piece.now ≡ bytes_left reader.old.stage) }
 {
     match form {
@@ -38,7 +39,8 @@ pub fn push_formed(
     raw: &[u8],
     out: &mut Text,
 ) -> Result<(), Mem>
-    ensures { OnOk result (out.new ≡ out.old ++ formed form raw.now (body_of rule raw.now).plain) }
+    ensures pushed { OnOk result (out.new ≡ out.old ++ formed form raw.now (body_of rule raw.now).plain) }
+    ensures kept { OnErr result (out.new ≡ out.old ++ added out.old out.new) }
 {
     match form {
         Form::Raw => out.push_all(raw),

@@ -1,5 +1,6 @@
 // The filtered form of a whole body.
-ghost use Rattle.std.specs.Prelude.{◌≡◌, ◌++◌, IfOk, OnOk};
+ghost use Rattle.std.specs.Prelude.{◌≡◌, ◌++◌, IfOk, OnOk, OnErr};
+ghost use Rattle.px_framing.specs.Reading.{added};
 ghost use Rattle.px_answers.specs.Finished.{filtered, allowed_names, run_content_filters, run_one};
 
 use crate::forms::Framed;
@@ -64,6 +65,7 @@ pub fn push_filtered(
     out: &mut Text,
 ) -> Result<(), Mem>
     ensures pushed { OnOk result (out.new ≡ out.old ++ (filtered (record { filters = warm.old; vars = vars.now }) framed.now plain).bytes) }
+    ensures kept { OnErr result (out.new ≡ out.old ++ added out.old out.new) }
     ensures same { warm.new ≡ warm.old }
 {
     let text = run_named(alloc, warm, vars, names_of(&framed.filters), plain)?;

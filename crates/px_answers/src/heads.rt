@@ -1,8 +1,9 @@
 // The head of an answer that is returned: the status line, the fields behind the header actions, those that frame the body, and
 // Connection. No field is copied.
-ghost use Rattle.std.specs.Prelude.{◌≡◌, ◌++◌, ◌∷◌, [], OnOk, length};
+ghost use Rattle.std.specs.Prelude.{◌≡◌, ◌++◌, ◌∷◌, [], OnOk, OnErr, length};
 ghost use Rattle.px_fields.specs.FieldLines.{field_line};
 ghost use Rattle.px_head.specs.Prints.{crlf, field_lines};
+ghost use Rattle.px_framing.specs.Reading.{added};
 ghost use Rattle.px_answers.specs.Forms.{connection_field, ends_by, has_end, head_with, keeps_behind_answer, length_field, passed_head};
 ghost use Rattle.px_answers.specs.Heads.{head_front};
 
@@ -39,7 +40,8 @@ pub fn keeps(framed: &Framed) -> bool
 
 /// Adds the head of an unfiltered body.
 pub fn push_passed_head(framed: &Framed, out: &mut Text) -> Result<(), Mem>
-    ensures { OnOk result (out.new ≡ out.old ++ passed_head framed.now) }
+    ensures pushed { OnOk result (out.new ≡ out.old ++ passed_head framed.now) }
+    ensures kept { OnErr result (out.new ≡ out.old ++ added out.old out.new) }
 {
     push_front(framed, out)?;
     push_fields(framed.framing.as_slice(), out)?;
@@ -48,7 +50,8 @@ pub fn push_passed_head(framed: &Framed, out: &mut Text) -> Result<(), Mem>
 
 /// Adds the head of a filtered body of so many bytes.
 pub fn push_filtered_head(framed: &Framed, len: usize, out: &mut Text) -> Result<(), Mem>
-    ensures { OnOk result (out.new ≡ out.old ++ head_with framed.now (length_field len ∷ []) framed.now.keep) }
+    ensures pushed { OnOk result (out.new ≡ out.old ++ head_with framed.now (length_field len ∷ []) framed.now.keep) }
+    ensures kept { OnErr result (out.new ≡ out.old ++ added out.old out.new) }
 {
     push_front(framed, out)?;
     push_line(b"Content-Length", Buffer::new().format(len).as_bytes(), out)?;
@@ -57,7 +60,8 @@ pub fn push_filtered_head(framed: &Framed, len: usize, out: &mut Text) -> Result
 
 /// Adds a head without its end, so that further fields may follow.
 fn push_front(framed: &Framed, out: &mut Text) -> Result<(), Mem>
-    ensures { OnOk result (out.new ≡ out.old ++ head_front framed.now) }
+    ensures pushed { OnOk result (out.new ≡ out.old ++ head_front framed.now) }
+    ensures kept { OnErr result (out.new ≡ out.old ++ added out.old out.new) }
 {
     print_head(framed.first_line.as_bytes(), framed.fields.as_slice(), out)?;
     let len = out.len().saturating_sub(LINE_END.len());
@@ -67,7 +71,8 @@ fn push_front(framed: &Framed, out: &mut Text) -> Result<(), Mem>
 
 /// Adds whether the connection is kept (RFC 9112, section 9.3), and the end of the head.
 fn push_end(keep: bool, out: &mut Text) -> Result<(), Mem>
-    ensures { OnOk result (out.new ≡ out.old ++ field_line (connection_field keep) ++ crlf ++ crlf) }
+    ensures pushed { OnOk result (out.new ≡ out.old ++ field_line (connection_field keep) ++ crlf ++ crlf) }
+    ensures kept { OnErr result (out.new ≡ out.old ++ added out.old out.new) }
 {
     if keep {
         push_line(b"Connection", b"keep-alive", out)?;
@@ -80,7 +85,8 @@ fn push_end(keep: bool, out: &mut Text) -> Result<(), Mem>
 /// Adds the lines of fields, each with its end.
 #[tactic(auto, unfolding(px_head::specs::Prints::field_lines))]
 fn push_fields(fields: &[Field], out: &mut Text) -> Result<(), Mem>
-    ensures { OnOk result (out.new ≡ out.old ++ field_lines fields.now) }
+    ensures pushed { OnOk result (out.new ≡ out.old ++ field_lines fields.now) }
+    ensures kept { OnErr result (out.new ≡ out.old ++ added out.old out.new) }
 {
     for field in fields {
         push_line(field.name.as_bytes(), field.value.as_bytes(), out)?;
@@ -90,7 +96,8 @@ fn push_fields(fields: &[Field], out: &mut Text) -> Result<(), Mem>
 
 /// Adds the line of a field, with its end.
 fn push_line(name: &[u8], value: &[u8], out: &mut Text) -> Result<(), Mem>
-    ensures { OnOk result (out.new ≡ out.old ++ field_line (record { name = name.now; value = value.now }) ++ crlf) }
+    ensures pushed { OnOk result (out.new ≡ out.old ++ field_line (record { name = name.now; value = value.now }) ++ crlf) }
+    ensures kept { OnErr result (out.new ≡ out.old ++ added out.old out.new) }
 {
     out.push_all(name)?;
     out.push_all(b": ")?;

@@ -36,6 +36,7 @@ fn conclude(
     requires whole { state ≡ State.Whole → AreWholeChunks framed.now.rule raw }
     ensures outcome { IfOk result (λ outcome. outcome ≡ (by_end (record { filters = warm.old; vars = vars.now }) framed.now raw (body_of framed.now.rule raw).plain state).outcome) }
     ensures put { IfOk result (λ _. out.new ≡ out.old ++ (by_end (record { filters = warm.old; vars = vars.now }) framed.now raw (body_of framed.now.rule raw).plain state).bytes) }
+    ensures kept { OnErr result (out.new ≡ out.old ++ added out.old out.new) }
     ensures same { warm.new ≡ warm.old }
 {
     if is_open(framed, raw.len()) && is_whole(state) {
@@ -67,6 +68,7 @@ fn settle(
         → CourseAfter (record { filters = warm.old; vars = vars.now }) framed.now rest (added out.old out.new) next) }
     ensures sound { IfOk result (λ next. IsSoundCourse framed.now next) }
     ensures grows { IfOk result (λ _. out.new ≡ out.old ++ added out.old out.new) }
+    ensures kept { OnErr result (out.new ≡ out.old ++ added out.old out.new) }
     ensures room { IfOk result (λ next. room_of next ≤ bytes_left reader.stage) }
     ensures more { IfOk result (λ next. ended_of next ≡ None → stage_state reader.stage ≡ State.More) }
     ensures same { warm.new ≡ warm.old }
@@ -104,6 +106,7 @@ fn pass_on(framed: &Framed, reader: BodyReader, piece: &[u8], out: &mut Text) ->
         → CourseAfter w framed.now (rest ++ piece.now) (put ++ added out.old out.new) next) }
     ensures sound { IfOk result (λ next. IsSoundCourse framed.now next) }
     ensures grows { IfOk result (λ _. out.new ≡ out.old ++ added out.old out.new) }
+    ensures kept { OnErr result (out.new ≡ out.old ++ added out.old out.new) }
     ensures room { IfOk result (λ next. ended_of next ≡ None → room_of next + length piece.now ≡ bytes_left reader.stage) }
 {
     let mut reader = reader;
@@ -126,6 +129,7 @@ fn advance(
         → CourseAfter (record { filters = warm.old; vars = vars.now }) framed.now (rest ++ piece.now) (put ++ added out.old out.new) next) }
     ensures sound { IfOk result (λ next. IsSoundCourse framed.now next) }
     ensures grows { IfOk result (λ _. out.new ≡ out.old ++ added out.old out.new) }
+    ensures kept { OnErr result (out.new ≡ out.old ++ added out.old out.new) }
     ensures room { IfOk result (λ next. ended_of next ≡ None → room_of next + length piece.now ≤ room_of course) }
     ensures repeats { (outcome : AnswerOutcome) → course ≡ Course.Ended outcome → IfOk result (λ next. (next ≡ course) × (out.new ≡ out.old)) }
     ensures wanting { course ≡ Course.Wanting → IfOk result (λ _. ⊥) }
@@ -162,6 +166,7 @@ fn finish(
     ensures ended { IfOk result (λ outcome. (rest put : List ℕ) → CourseAfter (record { filters = warm.old; vars = vars.now }) framed.now rest put course
         → EndsCourse (record { filters = warm.old; vars = vars.now }) framed.now rest failed (put ++ added out.old out.new) (Course.Ended outcome)) }
     ensures grows { IfOk result (λ _. out.new ≡ out.old ++ added out.old out.new) }
+    ensures kept { OnErr result (out.new ≡ out.old ++ added out.old out.new) }
     ensures repeats { (outcome : AnswerOutcome) → course ≡ Course.Ended outcome → IfOk result (λ again. (again ≡ outcome) × (out.new ≡ out.old)) }
     ensures wanting { course ≡ Course.Wanting → IfOk result (λ _. ⊥) }
     ensures same { warm.new ≡ warm.old }
@@ -202,7 +207,8 @@ impl Model for Passage {
 }
 
 impl Passage {
-    /// The machine behind a head, which puts out what is settled by the head. `warm` are the filters that may be run.
+    /// The machine behind a head, which puts out what is settled by the head. `warm` are the filters
+    /// that may be run. After `Mem`, `out` still begins with what it held.
     pub fn new(
         alloc: Global,
         warm: &mut WarmFilters<'_>,
@@ -214,6 +220,7 @@ impl Passage {
         ensures vars { IfOk result (λ p. p.vars ≡ vars) }
         ensures framed { IfOk result (λ p. p.framed ≡ framed) }
         ensures grows { IfOk result (λ _. out.new ≡ out.old ++ added out.old out.new) }
+        ensures kept { OnErr result (out.new ≡ out.old ++ added out.old out.new) }
         ensures same { warm.new ≡ warm.old }
         ensures room { IfOk result (λ p. room_of p.course < 2 ^ 64) }
     {
@@ -228,7 +235,8 @@ impl Passage {
         })
     }
 
-    /// Feeds a piece, and adds what it puts out. `warm` are the filters that may be run. After `Mem` the machine says `Mem` again.
+    /// Feeds a piece, and adds what it puts out. `warm` are the filters that may be run. After `Mem`
+    /// the machine says `Mem` again, and `out` still begins with what it held.
     pub fn feed(
         &mut self,
         warm: &mut WarmFilters<'_>,
@@ -240,6 +248,7 @@ impl Passage {
         ensures vars { self.new.vars ≡ self.old.vars }
         ensures framed { self.new.framed ≡ self.old.framed }
         ensures grows { OnOk result (out.new ≡ out.old ++ added out.old out.new) }
+        ensures kept { OnErr result (out.new ≡ out.old ++ added out.old out.new) }
         ensures so_far { (w : Work) (rest put : List ℕ) → CourseAfter w self.old.framed rest put self.old.course → BeginsReturned w self.old.framed rest put }
         ensures done { OnOk result ((rest put : List ℕ) → CourseAfter (record { filters = warm.old; vars = self.old.vars }) self.old.framed rest put self.old.course
             → is_some (ended_of self.new.course) ≡ not (is_more (body_of self.old.framed.rule (rest ++ piece.now)).state)) }
@@ -264,7 +273,8 @@ impl Passage {
         Ok(())
     }
 
-    /// Ends the bytes, and adds what it puts out. `failed` says that their reading failed.
+    /// Ends the bytes, and adds what it puts out. `failed` says that their reading failed. After `Mem`
+    /// the machine says `Mem` again, and `out` still begins with what it held.
     pub fn end(
         &mut self,
         warm: &mut WarmFilters<'_>,
@@ -276,6 +286,7 @@ impl Passage {
         ensures vars { self.new.vars ≡ self.old.vars }
         ensures framed { self.new.framed ≡ self.old.framed }
         ensures grows { OnOk result (out.new ≡ out.old ++ added out.old out.new) }
+        ensures kept { OnErr result (out.new ≡ out.old ++ added out.old out.new) }
         ensures repeats { ended_of self.old.course ≢ None → OnOk result ((self.new ≡ self.old) × (out.new ≡ out.old)) }
         ensures wanting { OnErr result (self.new.course ≡ Course.Wanting) }
         ensures again { self.old.course ≡ Course.Wanting → OnOk result ⊥ }
