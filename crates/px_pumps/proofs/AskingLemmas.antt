@@ -43,7 +43,7 @@ where_named files head r minor keep limit text [] = ap plan (and-false _ ∙ sym
     plan : Bool → BodyPlan
     plan allowed = record (answers.body_plan files head r (record { minor = minor; keep = keep; text = text; filters = []; limit = limit })) { filters = answers.filters_if allowed [] }
 where_named files head r minor keep limit text (name ∷ names) =
-    ap (λ (empty : Bool). answers.plan_of files head r (record { minor = minor; keep = keep; text = not empty && text; filters = name ∷ names; limit = limit })) (eqb-suc-zero (length names))
+    ap (λ (empty : Bool). answers.body_plan files head r (record { minor = minor; keep = keep; text = not empty && text; filters = name ∷ names; limit = limit })) (eqb-suc-zero (length names))
 
 -- a plan by the head as received, behind the lines that the header actions made
 pub settled_as : (config : Config) (asked : Asked) (head : ResponseHead) (r : BodyRule) (set : List Setting) (text : Bool) (filters : List (List ℕ)) (plan : BodyPlan) (out : ServerOut) (lines : HeaderLines) (framed : Framed)
@@ -53,8 +53,8 @@ pub settled_as : (config : Config) (asked : Asked) (head : ResponseHead) (r : Bo
 unfolding framed_answer
 settled_as config asked head r set text filters plan out lines framed is_set is_named are planned made printed is =
     is
-    ∙ ap (λ (p : BodyPlan). answers.framed_so p lines) (planned ∙ ap (λ (t : Bool). answers.plan_of config.filters head r (record { minor = asked.minor; keep = asked.keep; text = t; filters = filters; limit = config.settings.buffer_limit })) is_named
+    ∙ ap (λ (p : BodyPlan). answers.framed_so p lines) (planned ∙ ap (λ (t : Bool). answers.body_plan config.filters head r (record { minor = asked.minor; keep = asked.keep; text = t; filters = filters; limit = config.settings.buffer_limit })) is_named
     ∙ where_named config.filters head r asked.minor asked.keep config.settings.buffer_limit (is_text set head.fields) filters
-    ∙ ap (λ (fs : List (List ℕ)). answers.plan_of config.filters head r (record { minor = asked.minor; keep = asked.keep; text = is_text set head.fields; filters = fs; limit = config.settings.buffer_limit })) are)
+    ∙ ap (λ (fs : List (List ℕ)). answers.body_plan config.filters head r (record { minor = asked.minor; keep = asked.keep; text = is_text set head.fields; filters = fs; limit = config.settings.buffer_limit })) are)
     ∙ ap (λ (ls : HeaderLines). answers.framed_so (answers.body_plan config.filters head r (terms_of config asked set head.fields)) ls) (printed ∙ ap returned_lines made)
     ∙ ap (λ (s : List Setting). framed_by config asked s head r) is_set
