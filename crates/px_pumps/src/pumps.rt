@@ -157,6 +157,7 @@ fn begin_behind(
 ) -> Result<Passage, Mem>
     ensures after { IfOk result (λ p. PassageAfter (record { filters = warm.old; vars = settled.vars }) settled.framed rest.now (added out.old out.new) p) }
     ensures grows { IfOk result (λ _. out.new ≡ out.old ++ added out.old out.new) }
+    ensures kept { OnErr result (out.new ≡ out.old ++ added out.old out.new) }
     ensures framed { IfOk result (λ p. p.framed ≡ settled.framed) }
     ensures room { IfOk result (λ p. passages.ended_of p.course ≡ None → passages.room_of p.course < 2 ^ 64) }
     ensures same { warm.new ≡ warm.old }
@@ -184,6 +185,7 @@ fn pass_heads(
     ensures after { IfOk result (λ next. (ask : Ask) (fed : List ℕ) → ask ≡ ask_of config.now asked ask.page_due → LeadsPastInterims most_heads ask.method fed left (front_bytes front.entry)
         → StageAfter ask fed (added out.old out.new) config.now next) }
     ensures grows { IfOk result (λ _. out.new ≡ out.old ++ added out.old out.new) }
+    ensures kept { OnErr result (out.new ≡ out.old ++ added out.old out.new) }
     ensures settled { IfOk result (IsStageSettled config.now) }
     ensures pieces { IfOk result (λ next. (count : ℕ) → count < length (front_bytes front.entry) → count < HEAD_LIMIT → flow_at next ≡ Flow.More
         → pieces_left next < 2 ^ 64 + heads_room left count) }
@@ -235,6 +237,7 @@ fn advance(
     requires filters { warm.old.filters ≡ config.now.filters }
     ensures after { IfOk result (λ next. (ask : Ask) (fed put : List ℕ) → StageAfter ask fed put config.now stage → StageAfter ask (fed ++ piece.now) (put ++ added out.old out.new) config.now next) }
     ensures grows { IfOk result (λ _. out.new ≡ out.old ++ added out.old out.new) }
+    ensures kept { OnErr result (out.new ≡ out.old ++ added out.old out.new) }
     ensures settled { IfOk result (IsStageSettled config.now) }
     ensures repeats { IfOk result (λ next. StaysAtEnd stage next out.old out.new) }
     ensures live { IfOk result (λ _. stage ≢ PumpStage.Wanting) }
@@ -278,6 +281,7 @@ fn finish(
     ensures ended { IfOk result (λ next. (ask : Ask) (fed put : List ℕ) → StageAfter ask fed put config.now stage
         → EndsAnswer ask (flow_at next) (keeps_at next) fed failed (put ++ added out.old out.new)) }
     ensures grows { IfOk result (λ _. out.new ≡ out.old ++ added out.old out.new) }
+    ensures kept { OnErr result (out.new ≡ out.old ++ added out.old out.new) }
     ensures settled { IfOk result (IsStageSettled config.now) }
     ensures repeats { IfOk result (λ next. StaysAtEnd stage next out.old out.new) }
     ensures over { IfOk result (λ next. flow_at next ≢ Flow.More) }
@@ -334,14 +338,16 @@ impl<'a> Pump<'a> {
         }
     }
 
-    /// Feeds a piece, and adds what it puts out. The store lent is that of the configuration. Once the flow isn't `More` it
-    /// stays, and nothing is put out. After `Mem` each further call gives `Mem`.
+    /// Feeds a piece, and adds what it puts out. The store lent is that of the configuration. Once the
+    /// flow isn't `More` it stays, and nothing is put out. After `Mem` each further call gives `Mem`,
+    /// and `out` still begins with what it held.
     pub fn feed(&mut self, warm: &mut Warm<'_>, piece: &[u8], out: &mut Text) -> Result<Flow, Mem>
         requires sections { warm.old.sections ≡ self.old.config.sections }
         requires filters { warm.old.filters ≡ self.old.config.filters }
         ensures after { IfOk result (λ _. (ask : Ask) (fed put : List ℕ) → PumpAfter ask fed put self.old → PumpAfter ask (fed ++ piece.now) (put ++ added out.old out.new) self.new) }
         ensures pumped { IfOk result (λ f. (ask : Ask) (fed put : List ℕ) → PumpAfter ask fed put self.old → Pumped ask (fed ++ piece.now) (put ++ added out.old out.new) f (keeps_at self.new.stage)) }
         ensures grows { IfOk result (λ _. out.new ≡ out.old ++ added out.old out.new) }
+        ensures kept { OnErr result (out.new ≡ out.old ++ added out.old out.new) }
         ensures shows { IfOk result (λ f. f ≡ flow_at self.new.stage) }
         ensures kind { IfOk result IsOfAnswer }
         ensures repeats { IfOk result (λ _. StaysAtEnd self.old.stage self.new.stage out.old out.new) }
@@ -361,13 +367,15 @@ impl<'a> Pump<'a> {
         Ok(flow)
     }
 
-    /// Ends the answer, and adds what it puts out. `failed` says that its source failed. The flow is then at its end. The store
-    /// lent is that of the configuration. After `Mem` each further call gives `Mem`.
+    /// Ends the answer, and adds what it puts out. `failed` says that its source failed. The flow is
+    /// then at its end. The store lent is that of the configuration. After `Mem` each further call
+    /// gives `Mem`, and `out` still begins with what it held.
     pub fn end(&mut self, warm: &mut Warm<'_>, failed: bool, out: &mut Text) -> Result<Flow, Mem>
         requires sections { warm.old.sections ≡ self.old.config.sections }
         requires filters { warm.old.filters ≡ self.old.config.filters }
         ensures ended { IfOk result (λ f. (ask : Ask) (fed put : List ℕ) → PumpAfter ask fed put self.old → EndsAnswer ask f (keeps_at self.new.stage) fed failed (put ++ added out.old out.new)) }
         ensures grows { IfOk result (λ _. out.new ≡ out.old ++ added out.old out.new) }
+        ensures kept { OnErr result (out.new ≡ out.old ++ added out.old out.new) }
         ensures shows { IfOk result (λ f. f ≡ flow_at self.new.stage) }
         ensures kind { IfOk result IsOfAnswer }
         ensures repeats { IfOk result (λ _. StaysAtEnd self.old.stage self.new.stage out.old out.new) }
