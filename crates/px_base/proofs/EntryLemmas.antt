@@ -1,5 +1,5 @@
 -- The entries of a dialer in memory, and the dials that they stand for.
-use Rattle.std.proofs.Common.{◌≡◌, ℕ, zero, suc, ◌+◌, ◌<◌, ◌≤◌, Bool, true, false, ◌==◌, List, [], ◌∷◌, ◌++◌, length, take, set, get_or, sym, ap, ◌∙◌, refl, arith, inl, inr, Result, Ok, Err, length-set}
+use Rattle.std.proofs.Common.{◌≡◌, ℕ, zero, suc, ◌+◌, ◌<◌, ◌≤◌, true, false, ◌==◌, List, [], ◌∷◌, ◌++◌, length, take, set, get_or, sym, ap, ◌∙◌, refl, arith, inl, inr, Result, Ok, Err, length-set}
 use Rattle.std.specs.Prelude.{IfOk}
 use Rattle.std.proofs.lemmas.List.Edits.{length-insert}
 use Rattle.px_base.specs.declared.faults.DialFault.{DialFault}
@@ -11,14 +11,15 @@ use Rattle.px_base.specs.declared.dials.LinkNote.{LinkNote}
 use Rattle.px_base.specs.declared.entries.DialEntry.{DialEntry}
 use Rattle.px_base.specs.declared.entries.DialEntry.TheVariants as entry
 use Rattle.px_base.specs.Dials.{Traffic, DialerState, LinkState, IsTold, is_open_at, is_open, finish, finished_links}
-use Rattle.px_base.specs.Entries.{first_note, dial_of, notes_behind, merged, is_open_entry, opens_at, more_finished, finished_in, ended, entry_note, IsMarked}
+use Rattle.px_base.specs.declared.entries.LinkEnd.{LinkEnd}
+use Rattle.px_base.specs.Entries.{end_of, first_note, dial_of, notes_behind, merged, is_open_entry, opens_at, more_finished, finished_in, ended, entry_note, IsMarked}
 
 -- an open dial is that of an open entry, whose number is the mark
 open_here : (m n : ℕ) (e : DialEntry) (l : LinkNote) → is_open_at m (dial_of n e l).outcome ≡ true → (m ≡ n) × (is_open_entry e ≡ true)
 open_here m n (entry.NoName host port) l h = (cc)
 open_here m n (entry.NotReached host port) l h = (cc)
 open_here m n (entry.Open host port offered) l h = (sym (eqb-true n m h), refl)
-open_here m n (entry.Finished offered r w) l h = (cc)
+open_here m n (entry.Finished offered end) l h = (cc)
 
 pub open_place : (m n : ℕ) (es : List DialEntry) (ls : List LinkNote) → is_open m (merged n es ls) ≡ true → (i : ℕ) × (m ≡ n + i) × (opens_at i es ≡ true)
 open_place m n [] ls h = (cc)
@@ -40,13 +41,13 @@ more_finished-monotone : (e : DialEntry) (m n : ℕ) → m ≤ n → more_finish
 more_finished-monotone (entry.NoName host port) m n h = h
 more_finished-monotone (entry.NotReached host port) m n h = h
 more_finished-monotone (entry.Open host port offered) m n h = h
-more_finished-monotone (entry.Finished offered r w) m n h = omega arith
+more_finished-monotone (entry.Finished offered end) m n h = omega arith
 
 more_finished-bounds : (e : DialEntry) (n : ℕ) → (n ≤ more_finished e n) × (more_finished e n ≤ suc n)
 more_finished-bounds (entry.NoName host port) n = ((omega arith), (omega arith))
 more_finished-bounds (entry.NotReached host port) n = ((omega arith), (omega arith))
 more_finished-bounds (entry.Open host port offered) n = ((omega arith), (omega arith))
-more_finished-bounds (entry.Finished offered r w) n = ((omega arith), (omega arith))
+more_finished-bounds (entry.Finished offered end) n = ((omega arith), (omega arith))
 
 pub finished_in-push : (es : List DialEntry) (e : DialEntry) → ((n : ℕ) → more_finished e n ≡ n) → finished_in (es ++ e ∷ []) ≡ finished_in es
 finished_in-push [] e h = h 0
@@ -65,7 +66,7 @@ open_unfinished : (e : DialEntry) (n : ℕ) → is_open_entry e ≡ true → mor
 open_unfinished (entry.NoName host port) n h = (cc)
 open_unfinished (entry.NotReached host port) n h = (cc)
 open_unfinished (entry.Open host port offered) n h = refl
-open_unfinished (entry.Finished offered r w) n h = (cc)
+open_unfinished (entry.Finished offered end) n h = (cc)
 
 -- an open link isn't counted
 pub finished_in-open : (i : ℕ) (es : List DialEntry) → opens_at i es ≡ true → finished_in es < length es
@@ -73,23 +74,23 @@ finished_in-open i [] h = (cc)
 finished_in-open zero (e ∷ es) h = omega (arith, finished_in-le es, open_unfinished e (finished_in es) h)
 finished_in-open (suc i) (e ∷ es) h = omega (arith, finished_in-open i es h, (more_finished-bounds e (finished_in es)).1)
 
-ended_finished : (r w : Bool) (e : DialEntry) (n : ℕ) → is_open_entry e ≡ true → more_finished (ended r w e) n ≡ suc n
-ended_finished r w (entry.NoName host port) n h = (cc)
-ended_finished r w (entry.NotReached host port) n h = (cc)
-ended_finished r w (entry.Open host port offered) n h = refl
-ended_finished r w (entry.Finished offered a b) n h = (cc)
+ended_finished : (end : LinkEnd) (e : DialEntry) (n : ℕ) → is_open_entry e ≡ true → more_finished (ended end e) n ≡ suc n
+ended_finished end (entry.NoName host port) n h = (cc)
+ended_finished end (entry.NotReached host port) n h = (cc)
+ended_finished end (entry.Open host port offered) n h = refl
+ended_finished end (entry.Finished offered before) n h = (cc)
 
 more_finished-suc : (e : DialEntry) (n : ℕ) → more_finished e (suc n) ≡ suc (more_finished e n)
 more_finished-suc (entry.NoName host port) n = refl
 more_finished-suc (entry.NotReached host port) n = refl
 more_finished-suc (entry.Open host port offered) n = refl
-more_finished-suc (entry.Finished offered r w) n = refl
+more_finished-suc (entry.Finished offered end) n = refl
 
 -- one link more is finished
-pub finished_in-ended : (r w : Bool) (d : DialEntry) (i : ℕ) (es : List DialEntry) → opens_at i es ≡ true → finished_in (set es i (ended r w (get_or es i d))) ≡ suc (finished_in es)
-finished_in-ended r w d i [] h = (cc)
-finished_in-ended r w d zero (e ∷ es) h = ended_finished r w e (finished_in es) h ∙ ap suc (sym (open_unfinished e (finished_in es) h))
-finished_in-ended r w d (suc i) (e ∷ es) h = ap (more_finished e) (finished_in-ended r w d i es h) ∙ more_finished-suc e (finished_in es)
+pub finished_in-ended : (end : LinkEnd) (d : DialEntry) (i : ℕ) (es : List DialEntry) → opens_at i es ≡ true → finished_in (set es i (ended end (get_or es i d))) ≡ suc (finished_in es)
+finished_in-ended end d i [] h = (cc)
+finished_in-ended end d zero (e ∷ es) h = ended_finished end e (finished_in es) h ∙ ap suc (sym (open_unfinished e (finished_in es) h))
+finished_in-ended end d (suc i) (e ∷ es) h = ap (more_finished e) (finished_in-ended end d i es h) ∙ more_finished-suc e (finished_in es)
 
 -- the note that comes behind those of the entries
 abbrev pub note_after : List DialEntry → List LinkNote → LinkNote
@@ -108,16 +109,16 @@ finished_links-merged n [] (l ∷ ls) h = absurd (omega arith)
 finished_links-merged n (entry.NoName host port ∷ es) ls h = finished_links-merged (n + 1) es ls h
 finished_links-merged n (entry.NotReached host port ∷ es) ls h = finished_links-merged (n + 1) es ls h
 finished_links-merged n (entry.Open host port offered ∷ es) ls h = finished_links-merged (n + 1) es ls h
-finished_links-merged n (entry.Finished offered r w ∷ es) [] h = absurd (omega arith)
-finished_links-merged n (entry.Finished offered r w ∷ es) (l ∷ ls) h = ap (λ rest. l ∷ rest) (finished_links-merged (n + 1) es ls (omega arith))
+finished_links-merged n (entry.Finished offered end ∷ es) [] h = absurd (omega arith)
+finished_links-merged n (entry.Finished offered end ∷ es) (l ∷ ls) h = ap (λ rest. l ∷ rest) (finished_links-merged (n + 1) es ls (omega arith))
 
 -- hanging up ends the entry at the mark's place, and inserts its note
 pub finish-merged : (m n i : ℕ) (t : Traffic) (d : DialEntry) (es : List DialEntry) (ls : List LinkNote) → m ≡ n + i → opens_at i es ≡ true → finished_in es ≡ length ls
-    → finish m t (merged n es ls) ≡ merged n (set es i (ended t.read_failed t.write_failed (get_or es i d))) (insert ls (finished_in (take i es)) (entry_note t.heard t.sent (get_or es i d)))
+    → finish m t (merged n es ls) ≡ merged n (set es i (ended (end_of t) (get_or es i d))) (insert ls (finished_in (take i es)) (entry_note t.heard t.sent (get_or es i d)))
 finish-merged m n i t d [] ls e h k = (cc)
 finish-merged m n zero t d (entry.NoName host port ∷ es) ls e h k = (cc)
 finish-merged m n zero t d (entry.NotReached host port ∷ es) ls e h k = (cc)
-finish-merged m n zero t d (entry.Finished offered r w ∷ es) ls e h k = (cc)
+finish-merged m n zero t d (entry.Finished offered end ∷ es) ls e h k = (cc)
 finish-merged m n zero t d (entry.Open host port offered ∷ es) ls e h k =
     let here : (n == m) ≡ true = eq-eqb n m (omega arith) in rw here refl
 finish-merged m n (suc i) t d (entry.NoName host port ∷ es) ls e h k = ap (λ ds. dial_of n (entry.NoName host port) (first_note ls) ∷ ds) (finish-merged m (n + 1) i t d es ls (omega arith) h k)
@@ -125,8 +126,8 @@ finish-merged m n (suc i) t d (entry.NotReached host port ∷ es) ls e h k = ap 
 finish-merged m n (suc i) t d (entry.Open host port offered ∷ es) ls e h k =
     let apart : (n == m) ≡ false = ne_eqb n m (λ q. omega arith) in
     rw apart (ap (λ ds. dial_of n (entry.Open host port offered) (first_note ls) ∷ ds) (finish-merged m (n + 1) i t d es ls (omega arith) h k))
-finish-merged m n (suc i) t d (entry.Finished offered r w ∷ es) [] e h k = absurd (omega arith)
-finish-merged m n (suc i) t d (entry.Finished offered r w ∷ es) (l ∷ ls) e h k = ap (λ ds. dial_of n (entry.Finished offered r w) l ∷ ds) (finish-merged m (n + 1) i t d es ls (omega arith) h (omega arith))
+finish-merged m n (suc i) t d (entry.Finished offered end ∷ es) [] e h k = absurd (omega arith)
+finish-merged m n (suc i) t d (entry.Finished offered end ∷ es) (l ∷ ls) e h k = ap (λ ds. dial_of n (entry.Finished offered end) l ∷ ds) (finish-merged m (n + 1) i t d es ls (omega arith) h (omega arith))
 
 -- ---- the joins of what the calls say
 
@@ -158,7 +159,7 @@ open_entry m es ls h =
 
 -- what hanging up a link leaves
 pub record Ends (i : ℕ) (t : Traffic) (es new : List DialEntry) (ls notes : List LinkNote) : Type 0 where
-  pub entries : (e : DialEntry) → new ≡ set es i (ended t.read_failed t.write_failed (get_or es i e))
+  pub entries : (e : DialEntry) → new ≡ set es i (ended (end_of t) (get_or es i e))
   pub links : (e : DialEntry) → notes ≡ insert ls (finished_in (take i es)) (entry_note t.heard t.sent (get_or es i e))
   pub was_open : opens_at i es ≡ true
   pub counted : finished_in es ≡ length ls
@@ -166,7 +167,7 @@ pub record Ends (i : ℕ) (t : Traffic) (es new : List DialEntry) (ls notes : Li
 pub ended_notes : {i : ℕ} {t : Traffic} {es new : List DialEntry} {ls notes : List LinkNote} → Ends i t es new ls notes → finished_in new ≡ length notes
 ended_notes {i = i} {t = t} {es = es} {new = new} {ls = ls} {notes = notes} h =
     let inside : finished_in (take i es) ≤ length ls = omega (arith, finished_in-take i es, h.counted) in
-    rw (h.entries none, h.links none) (finished_in-ended t.read_failed t.write_failed none i es h.was_open ∙ omega (arith, length-insert ls (finished_in (take i es)) (entry_note t.heard t.sent (get_or es i none)) inside, h.counted))
+    rw (h.entries none, h.links none) (finished_in-ended (end_of t) none i es h.was_open ∙ omega (arith, length-insert ls (finished_in (take i es)) (entry_note t.heard t.sent (get_or es i none)) inside, h.counted))
 
 pub ended_length : {i : ℕ} {t : Traffic} {es new : List DialEntry} {ls notes : List LinkNote} → Ends i t es new ls notes → length new ≡ length es
 ended_length {i = i} {t = t} {es = es} {new = new} {ls = ls} {notes = notes} h = rw (h.entries none) (length-set es i _)

@@ -6,7 +6,8 @@ use Rattle.px_base.specs.declared.dials.LinkNote.{LinkNote}
 use Rattle.px_base.specs.declared.dials.DialOutcome.TheVariants as outcome
 use Rattle.px_base.specs.declared.entries.DialEntry.{DialEntry}
 use Rattle.px_base.specs.declared.entries.DialEntry.TheVariants as entry
-use Rattle.px_base.specs.Dials.{LinkState, IsFresh, dialed}
+use Rattle.px_base.specs.declared.entries.LinkEnd.{LinkEnd}
+use Rattle.px_base.specs.Dials.{Traffic, LinkState, IsFresh, dialed}
 
 -- the first of the notes, or an empty one
 abbrev pub first_note : List LinkNote → LinkNote
@@ -18,14 +19,14 @@ abbrev pub dial_of : ℕ → DialEntry → LinkNote → Dial
 dial_of n (entry.NoName host port) l = record { host = host; port = port; outcome = outcome.NoName }
 dial_of n (entry.NotReached host port) l = record { host = host; port = port; outcome = outcome.NotReached }
 dial_of n (entry.Open host port offered) l = record { host = host; port = port; outcome = outcome.Open n offered }
-dial_of n (entry.Finished offered read_failed write_failed) l = record { host = l.host; port = l.port; outcome = outcome.Link (record { offered = offered; heard = l.heard; sent = l.sent; read_failed = read_failed; write_failed = write_failed }) }
+dial_of n (entry.Finished offered end) l = record { host = l.host; port = l.port; outcome = outcome.Link (record { offered = offered; heard = l.heard; sent = l.sent; read_failed = end.read_failed; write_failed = end.write_failed; finished = end.finished }) }
 
 -- the notes behind an entry's
 abbrev pub notes_behind : DialEntry → List LinkNote → List LinkNote
 notes_behind (entry.NoName host port) ls = ls
 notes_behind (entry.NotReached host port) ls = ls
 notes_behind (entry.Open host port offered) ls = ls
-notes_behind (entry.Finished offered read_failed write_failed) ls = drop 1 ls
+notes_behind (entry.Finished offered end) ls = drop 1 ls
 
 -- the dials of entries that are numbered from n on
 abbrev pub merged : ℕ → List DialEntry → List LinkNote → List Dial
@@ -36,7 +37,7 @@ abbrev pub is_open_entry : DialEntry → Bool
 is_open_entry (entry.NoName host port) = false
 is_open_entry (entry.NotReached host port) = false
 is_open_entry (entry.Open host port offered) = true
-is_open_entry (entry.Finished offered read_failed write_failed) = false
+is_open_entry (entry.Finished offered end) = false
 
 -- the entry at that place is an open link
 abbrev pub opens_at : ℕ → List DialEntry → Bool
@@ -49,32 +50,36 @@ abbrev pub more_finished : DialEntry → ℕ → ℕ
 more_finished (entry.NoName host port) n = n
 more_finished (entry.NotReached host port) n = n
 more_finished (entry.Open host port offered) n = n
-more_finished (entry.Finished offered read_failed write_failed) n = suc n
+more_finished (entry.Finished offered end) n = suc n
 
 -- how many links are finished
 abbrev pub finished_in : List DialEntry → ℕ
 finished_in [] = 0
 finished_in (e ∷ es) = more_finished e (finished_in es)
 
+-- how a link ended, of what went over it
+abbrev pub end_of : Traffic → LinkEnd
+end_of t = record { read_failed = t.read_failed; write_failed = t.write_failed; finished = t.finished }
+
 -- the entry of a link that is hung up
-abbrev pub ended : Bool → Bool → DialEntry → DialEntry
-ended read_failed write_failed (entry.NoName host port) = entry.NoName host port
-ended read_failed write_failed (entry.NotReached host port) = entry.NotReached host port
-ended read_failed write_failed (entry.Open host port offered) = entry.Finished offered read_failed write_failed
-ended read_failed write_failed (entry.Finished offered r w) = entry.Finished offered r w
+abbrev pub ended : LinkEnd → DialEntry → DialEntry
+ended end (entry.NoName host port) = entry.NoName host port
+ended end (entry.NotReached host port) = entry.NotReached host port
+ended end (entry.Open host port offered) = entry.Finished offered end
+ended end (entry.Finished offered before) = entry.Finished offered before
 
 -- the host and the port of an open link
 abbrev pub entry_host : DialEntry → List ℕ
 entry_host (entry.NoName host port) = []
 entry_host (entry.NotReached host port) = []
 entry_host (entry.Open host port offered) = host
-entry_host (entry.Finished offered read_failed write_failed) = []
+entry_host (entry.Finished offered end) = []
 
 abbrev pub entry_port : DialEntry → ℕ
 entry_port (entry.NoName host port) = 0
 entry_port (entry.NotReached host port) = 0
 entry_port (entry.Open host port offered) = port
-entry_port (entry.Finished offered read_failed write_failed) = 0
+entry_port (entry.Finished offered end) = 0
 
 -- its note
 abbrev pub entry_note : List ℕ → List ℕ → DialEntry → LinkNote

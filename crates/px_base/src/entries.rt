@@ -27,9 +27,16 @@ pub enum DialEntry {
     },
     Finished {
         offered: Text,
-        read_failed: bool,
-        write_failed: bool,
+        end: LinkEnd,
     },
+}
+
+/// How a link ended: whether its source and its sink had failed, and whether the end of the sent bytes was said.
+#[derive(Clone, Copy)]
+pub struct LinkEnd {
+    pub read_failed: bool,
+    pub write_failed: bool,
+    pub finished: bool,
 }
 
 /// The entry of a link that is hung up, with its host and port.
@@ -45,8 +52,7 @@ struct End {
 pub struct LinkPassage {
     pub heard: Text,
     pub sent: Text,
-    pub read_failed: bool,
-    pub write_failed: bool,
+    pub end: LinkEnd,
 }
 
 /// Hangs up the open link with that number, and puts its note among those of the finished links.
@@ -60,7 +66,7 @@ pub fn end_link(
     requires is_open { is_open number (merged 0 entries.old.items links.old.items) ≡ true }
     requires notes { finished_in entries.old.items ≡ length links.old.items }
     requires room { length entries.old.items ≤ vec_capacity links.old }
-    ensures dials { merged 0 entries.new.items links.new.items ≡ finish number (record { heard = passage.heard; sent = passage.sent; read_failed = passage.read_failed; write_failed = passage.write_failed }) (merged 0 entries.old.items links.old.items) }
+    ensures dials { merged 0 entries.new.items links.new.items ≡ finish number (record { heard = passage.heard; sent = passage.sent; read_failed = passage.end.read_failed; write_failed = passage.end.write_failed; finished = passage.end.finished }) (merged 0 entries.old.items links.old.items) }
     ensures notes { finished_in entries.new.items ≡ length links.new.items }
     ensures room { length entries.new.items ≤ vec_capacity links.new }
 {
@@ -79,18 +85,13 @@ fn note_end(
     requires is_open { opens_at at entries.old.items ≡ true }
     requires notes { finished_in entries.old.items ≡ length links.old.items }
     requires room { length entries.old.items ≤ vec_capacity links.old }
-    ensures entries { (e : DialEntry) → entries.new.items ≡ slice_set entries.old.items at (ended passage.read_failed passage.write_failed (slice_index_or entries.old.items at e)) }
+    ensures entries { (e : DialEntry) → entries.new.items ≡ slice_set entries.old.items at (ended passage.end (slice_index_or entries.old.items at e)) }
     ensures links { (e : DialEntry) → links.new.items ≡ insert links.old.items (finished_in (take at entries.old.items)) (entry_note passage.heard passage.sent (slice_index_or entries.old.items at e)) }
     ensures room { vec_capacity links.old ≤ vec_capacity links.new }
 {
     let before = finished_before(entries, at);
-    let LinkPassage {
-        heard,
-        sent,
-        read_failed,
-        write_failed,
-    } = passage;
-    let (host, port) = end_at(alloc, entries, at, read_failed, write_failed);
+    let LinkPassage { heard, sent, end } = passage;
+    let (host, port) = end_at(alloc, entries, at, end);
     match links.insert(
         before,
         LinkNote {
@@ -132,32 +133,25 @@ fn is_finished(entry: &DialEntry) -> bool
 }
 
 /// Ends the link at a place, and gives its host and port.
-fn end_at(
-    alloc: Global,
-    entries: &mut Vec<DialEntry>,
-    at: usize,
-    read_failed: bool,
-    write_failed: bool,
-) -> (Text, u16)
+fn end_at(alloc: Global, entries: &mut Vec<DialEntry>, at: usize, end: LinkEnd) -> (Text, u16)
     requires { at < length entries.old.items }
-    ensures entries { (e : DialEntry) → entries.new.items ≡ slice_set entries.old.items at (ended read_failed write_failed (slice_index_or entries.old.items at e)) }
+    ensures entries { (e : DialEntry) → entries.new.items ≡ slice_set entries.old.items at (ended end (slice_index_or entries.old.items at e)) }
     ensures host { (e : DialEntry) → result.0 ≡ entry_host (slice_index_or entries.old.items at e) }
     ensures port { (e : DialEntry) → result.1 ≡ entry_port (slice_index_or entries.old.items at e) }
 {
     let slot = &mut entries[at];
     let placeholder = DialEntry::Finished {
         offered: Text::new(alloc),
-        read_failed,
-        write_failed,
+        end,
     };
     let old = mem::replace(slot, placeholder);
-    let End { entry, host, port } = end_entry(alloc, old, read_failed, write_failed);
+    let End { entry, host, port } = end_entry(alloc, old, end);
     *slot = entry;
     (host, port)
 }
 
-fn end_entry(alloc: Global, entry: DialEntry, read_failed: bool, write_failed: bool) -> End
-    ensures entry { result.entry ≡ ended read_failed write_failed entry }
+fn end_entry(alloc: Global, entry: DialEntry, end: LinkEnd) -> End
+    ensures entry { result.entry ≡ ended end entry }
     ensures host { result.host ≡ entry_host entry }
     ensures port { result.port ≡ entry_port entry }
 {
@@ -167,11 +161,7 @@ fn end_entry(alloc: Global, entry: DialEntry, read_failed: bool, write_failed: b
             port,
             offered,
         } => End {
-            entry: DialEntry::Finished {
-                offered,
-                read_failed,
-                write_failed,
-            },
+            entry: DialEntry::Finished { offered, end },
             host,
             port,
         },

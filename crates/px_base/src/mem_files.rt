@@ -21,6 +21,8 @@ pub struct MemFiles {
     read_faults: u64,
     put_faults: u64,
     put_count: u64,
+    read_count: u64,
+    turn_count: u64,
 }
 
 impl MemFiles {
@@ -34,6 +36,8 @@ impl MemFiles {
         ensures contents { IfOk result (λ files. Unchanged (holds (files_at states 0)) (⟦<MemFiles as Files>⟧.state files).contents) }
         ensures later { IfOk result (λ files. (⟦<MemFiles as Files>⟧.state files).later ≡ states_behind states 0) }
         ensures no_puts { IfOk result (λ files. (⟦<MemFiles as Files>⟧.state files).puts ≡ 0) }
+        ensures no_reads { IfOk result (λ files. (⟦<MemFiles as Files>⟧.state files).reads ≡ 0) }
+        ensures no_turns { IfOk result (λ files. (⟦<MemFiles as Files>⟧.state files).turns ≡ 0) }
         ensures no_faults { IfOk result (λ files. ((⟦<MemFiles as Files>⟧.state files).read_faults ≡ 0) × ((⟦<MemFiles as Files>⟧.state files).put_faults ≡ 0)) }
         ensures steady { IfOk result (λ files. (⟦<MemFiles as Files>⟧.state files).steady ≡ (length fails.now == 0)) }
     {
@@ -47,6 +51,8 @@ impl MemFiles {
             read_faults: 0,
             put_faults: 0,
             put_count: 0,
+            read_count: 0,
+            turn_count: 0,
         })
     }
 
@@ -118,10 +124,13 @@ impl Files for MemFiles {
       read_faults = m.read_faults;
       put_faults = m.put_faults;
       puts = m.put_count;
+      reads = m.read_count;
+      turns = m.turn_count;
       steady = length m.fails.items == 0;
     } };
 
     fn turn(&mut self) {
+        self.turn_count = self.turn_count.saturating_add(1);
         if self.states.len() > 0 && self.at < self.states.len() - 1 {
             self.at += 1;
             self.puts.clear();
@@ -129,6 +138,7 @@ impl Files for MemFiles {
     }
 
     fn read(&mut self, name: &str, limit: u64) -> Result<Content, FilesFault> {
+        self.read_count = self.read_count.saturating_add(1);
         let call = self.calls;
         self.calls = self.calls.saturating_add(1);
         if self.fails.contains(&call) {

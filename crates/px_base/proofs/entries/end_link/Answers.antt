@@ -12,7 +12,7 @@ note_end-requires c = record {
 
 pub returns : goal.returns
 returns c =
-    let t : Traffic = record { heard = c.args.passage.heard; sent = c.args.passage.sent; read_failed = c.args.passage.read_failed; write_failed = c.args.passage.write_failed } in
+    let t : Traffic = record { heard = c.args.passage.heard; sent = c.args.passage.sent; read_failed = c.args.passage.end.read_failed; write_failed = c.args.passage.end.write_failed; finished = c.args.passage.end.finished } in
     let ends : Ends c.args.number t c.args.entries.now.items c.note_end.new.entries.items c.args.links.now.items c.note_end.new.links.items = record {
       entries = c.note_end.ensures.entries;
       links = c.note_end.ensures.links;

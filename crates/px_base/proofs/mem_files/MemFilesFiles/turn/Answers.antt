@@ -9,4 +9,6 @@ returns-then-self-len-clause-turns c = record {
   read_faults_same = refl;
   put_faults_same = refl;
   puts_same = refl;
+  reads_same = refl;
+  counted = c.saturating_add-self.ensures;
 }
