@@ -1,5 +1,6 @@
-// White space at the ends of a text.
-ghost use Rattle.std.specs.Prelude.{◌≡◌};
+// White space in a text.
+ghost use Rattle.std.specs.Prelude.{◌≡◌, ◌<◌, ◌≤◌, IfSome, length, position};
+ghost use Rattle.std.specs.List.{prefix_len};
 ghost use Rattle.px_base.specs.Blanks.{is_blank, trim_front, trim_end, trimmed};
 
 /// Whether a byte is a space or a tab.
@@ -42,4 +43,25 @@ fn without_end(bytes: &[u8]) -> &[u8]
         rest = more;
     }
     rest
+}
+
+/// Where the white space ends with which bytes begin.
+pub fn white_end(bytes: &[u8]) -> usize
+    ensures end { result ≡ prefix_len is_blank bytes.now }
+    ensures within { result ≤ length bytes.now }
+{
+    for (at, byte) in bytes.iter().enumerate() {
+        if !is_blank(*byte) {
+            return at;
+        }
+    }
+    bytes.len()
+}
+
+/// The place of the first white space.
+pub fn white_place(bytes: &[u8]) -> Option<usize>
+    ensures place { result ≡ position is_blank bytes.now }
+    ensures within { IfSome result (λ at. at < length bytes.now) }
+{
+    bytes.iter().position(|byte| is_blank(*byte))
 }

@@ -1,13 +1,11 @@
 // The directives of the main file, and its lines.
-ghost use Rattle.std.specs.Prelude.{◌≡◌, ◌<◌, length, IfSome, OnOk, option_copied};
-ghost use Rattle.std.specs.List.{position};
-ghost use Rattle.px_base.specs.Blanks.{is_blank};
+ghost use Rattle.std.specs.Prelude.{◌≡◌, OnOk, option_copied};
 ghost use Rattle.px_config.specs.Directives.{name_in, value_given, value_in, with_given_value};
 ghost use Rattle.px_config.specs.Mains.{directive_of, row_of};
 ghost use Rattle.px_config.specs.Names.{or_else};
 ghost use Rattle.px_base.specs.Lists.{nonempty};
 
-use px_base::{List, Mem, Text, is_blank, same_without_case, trim};
+use px_base::{List, Mem, Text, same_without_case, trim, white_place};
 use std::alloc::Global;
 
 /// A directive of the main file (Privoxy's manual, "The Main Configuration File").
@@ -110,18 +108,10 @@ pub(crate) fn split_directive(line: &[u8]) -> (&[u8], &[u8])
     ensures name { result.0.now ≡ name_in line.now }
     ensures value { result.1.now ≡ value_in line.now }
 {
-    match blank_place(line) {
+    match white_place(line) {
         Some(at) => (&line[..at], trim(&line[at + 1..])),
         None => (line, &[]),
     }
-}
-
-/// The place of the first white space.
-fn blank_place(line: &[u8]) -> Option<usize>
-    ensures place { result ≡ position is_blank line.now }
-    ensures within { IfSome result (λ at. at < length line.now) }
-{
-    line.iter().position(|byte| is_blank(*byte))
 }
 
 fn nonempty(value: &[u8]) -> Option<&[u8]>

@@ -1,10 +1,10 @@
 // The words of a forward line.
-ghost use Rattle.std.specs.Prelude.{◌≡◌, ◌≤◌, ◌<◌, ◌+◌, IfSome, drop, length, option_map};
-ghost use Rattle.std.specs.List.{list_any, position, position_or_len, prefix_len};
+ghost use Rattle.std.specs.Prelude.{◌≡◌, ◌≤◌, ◌+◌, drop, length, option_map};
+ghost use Rattle.std.specs.List.{list_any, position_or_len};
 ghost use Rattle.px_base.specs.Blanks.{is_blank};
 ghost use Rattle.px_decide.specs.Forwards.{first_word, is_word, three_words, two_words, words_of};
 
-use px_base::{is_blank, trim};
+use px_base::{is_blank, trim, white_end, white_place};
 
 /// The two words of a value, if it has just two, with white space around them.
 #[tactic(auto, unfolding(crate::specs::Forwards::two_words))]
@@ -65,27 +65,6 @@ fn has_blank(text: &[u8]) -> bool
     ensures { result ≡ list_any is_blank text.now }
 {
     text.iter().any(|byte| is_blank(*byte))
-}
-
-/// Where the white space ends with which bytes begin.
-fn white_end(bytes: &[u8]) -> usize
-    ensures end { result ≡ prefix_len is_blank bytes.now }
-    ensures within { result ≤ length bytes.now }
-{
-    for (at, byte) in bytes.iter().enumerate() {
-        if !is_blank(*byte) {
-            return at;
-        }
-    }
-    bytes.len()
-}
-
-/// The place of the first white space.
-fn white_place(bytes: &[u8]) -> Option<usize>
-    ensures place { result ≡ position is_blank bytes.now }
-    ensures within { IfSome result (λ at. at < length bytes.now) }
-{
-    bytes.iter().position(|byte| is_blank(*byte))
 }
 
 /// Where the word ends with which bytes begin: at the first white space, or at their end.

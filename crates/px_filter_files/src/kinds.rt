@@ -1,10 +1,9 @@
 // The parts of a filter file.
 ghost use Rattle.std.specs.Prelude.{◌≡◌, ◌≤◌, ◌==◌, not, length, take_while, IfSome};
-ghost use Rattle.std.specs.List.{prefix_len};
 ghost use Rattle.px_base.specs.Blanks.{is_blank};
 ghost use Rattle.px_filter_files.specs.Headings.{keyword_text, kind_of, keyword_at, name_behind_keyword, rank};
 
-use px_base::is_blank;
+use px_base::{is_blank, white_end};
 
 /// What a filter is applied to.
 #[derive(Clone, Copy, Debug, PartialEq, Eq)]
@@ -139,19 +138,6 @@ impl<'t> FilterHeading<'t> {
             None => None,
         }
     }
-}
-
-/// Where the white space ends with which the bytes begin.
-fn white_end(bytes: &[u8]) -> usize
-    ensures end { result ≡ prefix_len is_blank bytes.now }
-    ensures within { result ≤ length bytes.now }
-{
-    for (at, byte) in bytes.iter().enumerate() {
-        if !is_blank(*byte) {
-            return at;
-        }
-    }
-    bytes.len()
 }
 
 /// The bytes up to white space.

@@ -1,7 +1,7 @@
 use Rattle.std.proofs.Common.{◌≡◌, ◌+◌, drop}
 use Rattle.std.specs.List.{prefix_len}
 use Rattle.px_base.specs.Blanks.{is_blank}
-use Rattle.px_decide.proofs.words.white_end.Given as goal
+use Rattle.px_base.proofs.blanks.white_end.Given as goal
 
 abbrev pub invariant-loop-at : goal.invariant-loop-at
 invariant-loop-at l = prefix_len is_blank l.bytes ≡ l.at + prefix_len is_blank (drop l.at l.bytes)
