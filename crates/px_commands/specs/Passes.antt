@@ -1,6 +1,6 @@
 -- What `pass` does: with its words, the files, the input, the output, the error output and the clock.
 use Rattle.std.specs.Prelude.{◌≡◌, ℕ, ◌≤◌, false, ◌⊎◌, List, [], ◌++◌, length, Option, None, Some, Result, IsTrue, MatchBool}
-use Rattle.px_base.specs.Causes.{Rose}
+use Rattle.px_base.specs.Causes.{IsOneMore, Rose}
 use Rattle.px_base.specs.Contents.{FilesState, FilesGoOn, FilesCause, Unchanged, Puts, OthersUnchanged}
 use Rattle.px_base.specs.Sources.{SourceState, SourceGoesOn}
 use Rattle.px_base.specs.Sinks.{SinkState, SinkGoesOn, AddsFront}
@@ -86,7 +86,7 @@ pub record PutsSent (old new : FilesState) (sent text : List ℕ) (e : SessionEn
   pub put : IsTrue old.tells → Puts old.contents new.contents sent text result
   pub others : IsTrue old.tells → OthersUnchanged old.contents new.contents sent
   pub cause : FilesCause old.put_faults new.put_faults result
-  pub counted : Rose old.puts new.puts
+  pub counted : IsOneMore old.puts new.puts
   pub status_is : s ≡ status_after e result
 
 -- memory was wanting in the session, or behind it, and SENT wasn't put

@@ -1,5 +1,5 @@
 -- Files that are read one after another.
-use Rattle.std.proofs.Common.{◌≡◌, ℕ, Bool, true, false, ◌||◌, not, cond, List, [], ◌∷◌, ◌++◌, Option, None, Some, Result, Ok, Err, refl, sym, ap, subst, rules, ◌∙◌}
+use Rattle.std.proofs.Common.{◌≡◌, ℕ, Bool, true, false, ◌||◌, not, cond, List, [], ◌∷◌, ◌++◌, Option, None, Some, Result, Ok, Err, refl, sym, ap, subst, rules, ◌∙◌, arith}
 use Rattle.std.specs.Cmp.Lexicographic.{bytes_decides}
 use Rattle.std.specs.Prelude.{All, Contains, IsTrue}
 use Rattle.std.specs.Str.{is_utf8}
@@ -14,7 +14,7 @@ use Rattle.px_config.specs.declared.main_files.MainFile.{MainFile}
 use Rattle.px_config.specs.declared.names.Places.{Places}
 use Rattle.px_config.specs.declared.sets.FileSet.{FileSet}
 use Rattle.px_config.specs.declared.sets.TheConstants.{FILE_LIMIT}
-use Rattle.px_config.specs.Gathering.{IsReadFault, OnlyReads, ReadsOneOf, all_items, gathered, item_of, items_by, named_items, names_behind, names_by, names_read, with_files, with_item}
+use Rattle.px_config.specs.Gathering.{IsReadFault, OnlyReads, ReadsEach, ReadsOneOf, all_items, gathered, item_of, items_by, named_items, names_behind, names_by, names_read, with_files, with_item}
 use Rattle.px_config.specs.MainFiles.{IsMainOf}
 use Rattle.px_config.specs.Names.{full_name, is_rooted, places_of, template_names}
 use Rattle.px_config.specs.Parts.{content_lines, file_lines}
@@ -50,6 +50,7 @@ reads_twice h k = record {
   later_same = λ t. k.later_same (h.tells_later_same ∙ t) ∙ h.later_same t;
   put_faults_same = k.put_faults_same ∙ h.put_faults_same;
   puts_same = k.puts_same ∙ h.puts_same;
+  turns_same = k.turns_same ∙ h.turns_same;
 }
 
 pub go_on : {a b c : FilesState} → FilesGoOn a b → FilesGoOn b c → FilesGoOn a c
@@ -86,19 +87,21 @@ pub record Gathers (old new : FilesState) (folder : Option (List ℕ)) (before i
   pub reads : OnlyReads old new
   pub goes_on : FilesGoOn old new
   pub faults_same : new.read_faults ≡ old.read_faults
+  pub once : ReadsEach old new before items
   pub items_are : IsTrue old.tells → with_files old.contents folder before names ≡ with_files old.contents folder items rest
   pub fits : All FitsItem before → All FitsItem items
   pub among : Among rest names
 
 pub gathers_more : {old mid new : FilesState} {folder : Option (List ℕ)} {before items after : List Item} {names rest others : List (List ℕ)} {name full : List ℕ}
     → Gathers old mid folder before items names rest → rest ≡ name ∷ others → full ≡ full_name folder name
-    → OnlyReads mid new → FilesGoOn mid new → new.read_faults ≡ mid.read_faults → (IsTrue mid.tells → after ≡ with_item mid.contents items full) → (All FitsItem items → All FitsItem after)
+    → OnlyReads mid new → FilesGoOn mid new → new.read_faults ≡ mid.read_faults → (IsTrue mid.tells → after ≡ with_item mid.contents items full) → (All FitsItem items → All FitsItem after) → ReadsEach mid new items after
     → Gathers old new folder before after names others
 unfolding with_files
-gathers_more {old} {mid} {new} {folder} {before} {items} {after} {names} {rest} {others} {name} {full} h first whole reads goes_on same added fits = record {
+gathers_more {old} {mid} {new} {folder} {before} {items} {after} {names} {rest} {others} {name} {full} h first whole reads goes_on same added fits once = record {
   goes_on = go_on h.goes_on goes_on;
   reads = reads_twice h.reads reads;
   faults_same = same ∙ h.faults_same;
+  once = omega (arith, h.once, once);
   items_are = λ t.
       h.items_are t ∙ ap (with_files old.contents folder items) first
       ∙ ap (λ i. with_files old.contents folder i others)

@@ -1,5 +1,5 @@
 -- Which files are read, and what of them is kept.
-use Rattle.std.specs.Prelude.{◌≡◌, ℕ, ◌||◌, not, Bool, Contains, List, [], ◌∷◌, ◌++◌, Option, Some, Result, Ok, Err, MatchResult, IsTrue, if◌then◌else◌}
+use Rattle.std.specs.Prelude.{◌≡◌, ℕ, ◌+◌, ◌≤◌, ◌||◌, not, Bool, Contains, List, [], ◌∷◌, ◌++◌, length, Option, Some, Result, Ok, Err, MatchResult, IsTrue, if◌then◌else◌}
 use Rattle.std.specs.Str.{is_utf8}
 use Rattle.px_base.specs.Causes.{Rose}
 use Rattle.px_base.specs.Contents.{Contents, FilesState, Unchanged, content_of}
@@ -57,6 +57,11 @@ pub record OnlyReads (old new : FilesState) : Type 0 where
   pub later_same : IsTrue old.tells_later → new.later ≡ old.later
   pub put_faults_same : new.put_faults ≡ old.put_faults
   pub puts_same : new.puts ≡ old.puts
+  pub turns_same : new.turns ≡ old.turns
+
+-- no more files were read than there are items more
+abbrev pub ReadsEach : FilesState → FilesState → List Item → List Item → Type 0
+ReadsEach old new before after = new.reads + length before ≤ old.reads + length after
 
 -- why files weren't gathered: the count of faults rose in a read, or memory was wanting
 abbrev pub GatherCause : ℕ → ℕ → LoadFault → Type 0

@@ -1,7 +1,7 @@
 // Reading the files of a configuration.
-ghost use Rattle.std.specs.Prelude.{◌≡◌, ◌++◌, ◌∷◌, [], ℕ, All, Err, IfOk, IfErr, IsTrue, Ok, OnOk, Some, option_copied};
+ghost use Rattle.std.specs.Prelude.{◌≡◌, ◌≤◌, ◌+◌, ◌++◌, ◌∷◌, [], ℕ, All, Err, IfOk, IfErr, IsTrue, Ok, OnOk, Some, option_copied};
 ghost use Rattle.px_base.specs.Contents.{FilesGoOn, FitsLimit, content_of};
-ghost use Rattle.px_config.specs.Gathering.{GatherCause, GatherCauses, IsReadFault, OnlyReads, ReadsOneOf, all_items, gathered, item_of, names_behind, names_read, with_files, with_item};
+ghost use Rattle.px_config.specs.Gathering.{GatherCause, GatherCauses, IsReadFault, OnlyReads, ReadsEach, ReadsOneOf, all_items, gathered, item_of, names_behind, names_read, with_files, with_item};
 ghost use Rattle.px_config.specs.MainFiles.{IsMainOf};
 ghost use Rattle.px_config.specs.Names.{places_of, template_names};
 ghost use Rattle.px_config.specs.Parts.{content_lines};
@@ -28,6 +28,7 @@ fn read_content<F: Files>(
 ) -> Result<Content, LoadFault>
     ensures content { IsTrue (F.state files.old).tells → IfOk result (λ c. c ≡ content_of FILE_LIMIT ((F.state files.old).contents name.now)) }
     ensures fits { IfOk result (FitsLimit FILE_LIMIT) }
+    ensures once { (F.state files.new).reads ≤ (F.state files.old).reads + 1 }
     ensures named { IfErr result (IsReadFault written.now) }
     ensures cause { GatherCauses (F.state files.old) (F.state files.new) result }
     ensures only_reads { OnlyReads (F.state files.old) (F.state files.new) }
@@ -63,6 +64,7 @@ fn read_item<F: Files>(
 ) -> Result<(), LoadFault>
     ensures items { IsTrue (F.state files.old).tells → OnOk result (items.new ≡ with_item (F.state files.old).contents items.old name) }
     ensures fits { OnOk result (All FitsItem items.old → All FitsItem items.new) }
+    ensures once { OnOk result (ReadsEach (F.state files.old) (F.state files.new) items.old items.new) }
     ensures named { IfErr result (IsReadFault written.now) }
     ensures cause { GatherCauses (F.state files.old) (F.state files.new) result }
     ensures only_reads { OnlyReads (F.state files.old) (F.state files.new) }
@@ -92,6 +94,7 @@ fn read_files<F: Files>(
 ) -> Result<(), LoadFault>
     ensures items { IsTrue (F.state files.old).tells → OnOk result (items.new ≡ with_files (F.state files.old).contents (option_copied folder.entry) items.old names.now) }
     ensures fits { OnOk result (All FitsItem items.old → All FitsItem items.new) }
+    ensures once { OnOk result (ReadsEach (F.state files.old) (F.state files.new) items.old items.new) }
     ensures named { IfErr result (ReadsOneOf names.now) }
     ensures cause { GatherCauses (F.state files.old) (F.state files.new) result }
     ensures only_reads { OnlyReads (F.state files.old) (F.state files.new) }
@@ -124,6 +127,7 @@ fn read_named<F: Files>(
 ) -> Result<(), LoadFault>
     ensures items { IsTrue (F.state files.old).tells → items.old ≡ item_of (F.state files.old).contents main.now ∷ [] → OnOk result (items.new ≡ all_items (F.state files.old).contents main.now places.now) }
     ensures fits { OnOk result (All FitsItem items.old → All FitsItem items.new) }
+    ensures once { OnOk result (ReadsEach (F.state files.old) (F.state files.new) items.old items.new) }
     ensures named { IsTrue (F.state files.old).tells → items.old ≡ item_of (F.state files.old).contents main.now ∷ [] → IfErr result (ReadsOneOf (names_behind (F.state files.old).contents main.now places.now)) }
     ensures cause { GatherCauses (F.state files.old) (F.state files.new) result }
     ensures only_reads { OnlyReads (F.state files.old) (F.state files.new) }
@@ -146,6 +150,7 @@ fn read_listed<F: Files>(
 ) -> Result<(), LoadFault>
     ensures items { IsTrue (F.state files.old).tells → OnOk result (items.new ≡ with_files (F.state files.old).contents places.now.confdir items.old (places.now.action_files ++ places.now.filter_files)) }
     ensures fits { OnOk result (All FitsItem items.old → All FitsItem items.new) }
+    ensures once { OnOk result (ReadsEach (F.state files.old) (F.state files.new) items.old items.new) }
     ensures named { IfErr result (ReadsOneOf (places.now.action_files ++ places.now.filter_files)) }
     ensures cause { GatherCauses (F.state files.old) (F.state files.new) result }
     ensures only_reads { OnlyReads (F.state files.old) (F.state files.new) }
@@ -166,6 +171,7 @@ fn read_templates<F: Files>(
 ) -> Result<(), LoadFault>
     ensures items { IsTrue (F.state files.old).tells → OnOk result (items.new ≡ with_files (F.state files.old).contents (Some folder.now) items.old template_names) }
     ensures fits { OnOk result (All FitsItem items.old → All FitsItem items.new) }
+    ensures once { OnOk result (ReadsEach (F.state files.old) (F.state files.new) items.old items.new) }
     ensures named { IfErr result (ReadsOneOf template_names) }
     ensures cause { GatherCauses (F.state files.old) (F.state files.new) result }
     ensures only_reads { OnlyReads (F.state files.old) (F.state files.new) }
@@ -184,6 +190,7 @@ fn read_included<F: Files>(
 ) -> Result<(), LoadFault>
     ensures items { IsTrue (F.state files.old).tells → OnOk result (items.new ≡ with_files (F.state files.old).contents (Some folder.now) items.old (all_included items.old folder.now)) }
     ensures fits { OnOk result (All FitsItem items.old → All FitsItem items.new) }
+    ensures once { OnOk result (ReadsEach (F.state files.old) (F.state files.new) items.old items.new) }
     ensures named { IfErr result (ReadsOneOf (all_included items.old folder.now)) }
     ensures cause { GatherCauses (F.state files.old) (F.state files.new) result }
     ensures only_reads { OnlyReads (F.state files.old) (F.state files.new) }
@@ -203,6 +210,7 @@ fn read_items<F: Files>(
 ) -> Result<List<(Text, Content)>, LoadFault>
     ensures items { IsTrue (F.state files.old).tells → content ≡ content_of FILE_LIMIT ((F.state files.old).contents main.now) → IfOk result (λ items. items ≡ all_items (F.state files.old).contents main.now places.now) }
     ensures fits { FitsLimit FILE_LIMIT content → IfOk result (All FitsItem) }
+    ensures once { IfOk result (ReadsEach (F.state files.old) (F.state files.new) ((main.now, content) ∷ [])) }
     ensures named { IsTrue (F.state files.old).tells → content ≡ content_of FILE_LIMIT ((F.state files.old).contents main.now) → IfErr result (ReadsOneOf (names_behind (F.state files.old).contents main.now places.now)) }
     ensures cause { GatherCauses (F.state files.old) (F.state files.new) result }
     ensures only_reads { OnlyReads (F.state files.old) (F.state files.new) }
@@ -225,6 +233,7 @@ fn read_behind<F: Files>(
     ensures set { IsTrue (F.state files.old).tells → content ≡ content_of FILE_LIMIT ((F.state files.old).contents main.now) → IfOk result (λ read. read.set ≡ record { main = main.now; items = all_items (F.state files.old).contents main.now (places_of main.now lines) }) }
     ensures file { IfOk result (λ read. IsMainOf main.now (Ok lines) read.main) }
     ensures fits { FitsLimit FILE_LIMIT content → IfOk result (λ read. All FitsItem read.set.items) }
+    ensures once { IfOk result (λ read. ReadsEach (F.state files.old) (F.state files.new) ((main.now, content) ∷ []) read.set.items) }
     ensures named { IsTrue (F.state files.old).tells → content ≡ content_of FILE_LIMIT ((F.state files.old).contents main.now) → IfErr result (ReadsOneOf (names_behind (F.state files.old).contents main.now (places_of main.now lines))) }
     ensures cause { GatherCauses (F.state files.old) (F.state files.new) result }
     ensures only_reads { OnlyReads (F.state files.old) (F.state files.new) }
@@ -268,6 +277,7 @@ pub(crate) fn gather_files<F: Files>(
     ensures set { IsTrue (F.state files.old).tells → IfOk result (λ read. read.set ≡ gathered (F.state files.old).contents main.now) }
     ensures file { IsTrue (F.state files.old).tells → IfOk result (λ read. IsMainOf main.now (content_lines (content_of FILE_LIMIT ((F.state files.old).contents main.now))) read.main) }
     ensures fits { IfOk result (λ read. All FitsItem read.set.items) }
+    ensures once { IfOk result (λ read. ReadsEach (F.state files.old) (F.state files.new) [] read.set.items) }
     ensures named { IsTrue (F.state files.old).tells → IfErr result (ReadsOneOf (names_read (F.state files.old).contents main.now)) }
     ensures cause { GatherCauses (F.state files.old) (F.state files.new) result }
     ensures only_reads { OnlyReads (F.state files.old) (F.state files.new) }
@@ -286,13 +296,15 @@ pub(crate) fn gather_files<F: Files>(
 
 /// Reads the files of a configuration: the main file of this name, the action files and the filter files that its lines
 /// name, the templates and the two images, and the texts that the templates include. Each is read once, and what reading
-/// gave is kept. Where the main file has no lines that can be read, it is the only one.
+/// gave is kept; so on a disk, where a file may change meanwhile, one reading of a file gives both what it names and what it says.
+/// Where the main file has no lines that can be read, it is the only one.
 ///
 /// `Read` comes only where the files' count of faults rose, with the name of one of these files as it is written, and no other
 /// fault than that and `Mem`.
 pub fn gather<F: Files>(alloc: Global, files: &mut F, main: &str) -> Result<FileSet, LoadFault>
     ensures set { IsTrue (F.state files.old).tells → IfOk result (λ set. set ≡ gathered (F.state files.old).contents main.now) }
     ensures fits { IfOk result (λ set. All FitsItem set.items) }
+    ensures once { IfOk result (λ set. ReadsEach (F.state files.old) (F.state files.new) [] set.items) }
     ensures named { IsTrue (F.state files.old).tells → IfErr result (ReadsOneOf (names_read (F.state files.old).contents main.now)) }
     ensures cause { GatherCauses (F.state files.old) (F.state files.new) result }
     ensures only_reads { OnlyReads (F.state files.old) (F.state files.new) }

@@ -1,9 +1,9 @@
 // What the files of a configuration stand for.
-ghost use Rattle.std.specs.Prelude.{◌≡◌, All, IsTrue, Ok, None, IfErr, IfOk, OnOk, length, sum_by};
+ghost use Rattle.std.specs.Prelude.{◌≡◌, [], All, IsTrue, Ok, None, IfErr, IfOk, OnOk, length, sum_by};
 ghost use Rattle.px_base.specs.Contents.{FilesGoOn};
 ghost use Rattle.px_config.specs.Actions.{seen_actions};
 ghost use Rattle.px_config.specs.Faults.{IsFault, IsNoRead};
-ghost use Rattle.px_config.specs.Gathering.{GatherCauses, OnlyReads, ReadsOneOf, gathered, names_read};
+ghost use Rattle.px_config.specs.Gathering.{GatherCauses, OnlyReads, ReadsEach, ReadsOneOf, gathered, names_read};
 ghost use Rattle.px_config.specs.MainFiles.{IsMainOf};
 ghost use Rattle.px_config.specs.Names.{places_of};
 ghost use Rattle.px_config.specs.Parts.{file_lines};
@@ -267,6 +267,7 @@ pub fn load<F: Files>(alloc: Global, files: &mut F, main: &str) -> Result<Config
     ensures config { IsTrue (F.state files.old).tells → IfOk result (λ config. spelled (gathered (F.state files.old).contents main.now) ≡ Ok (seen_config config)) }
     ensures refused { IsTrue (F.state files.old).tells → IfErr result (IsLoadFault (spelled (gathered (F.state files.old).contents main.now))) }
     ensures named { IsTrue (F.state files.old).tells → IfErr result (ReadsOneOf (names_read (F.state files.old).contents main.now)) }
+    ensures once { IsTrue (F.state files.old).tells → OnOk result (ReadsEach (F.state files.old) (F.state files.new) [] (gathered (F.state files.old).contents main.now).items) }
     ensures cause { LoadCauses (F.state files.old) (F.state files.new) result }
     ensures only_reads { OnlyReads (F.state files.old) (F.state files.new) }
     ensures go_on { FilesGoOn (F.state files.old) (F.state files.new) }

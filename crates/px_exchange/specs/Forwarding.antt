@@ -36,6 +36,7 @@ link_seen i o = record {
   sent = o.taken;
   read_failed = not (i.faults == 0);
   write_failed = not (o.faults == 0);
+  finished = o.finished;
 }
 
 -- the bytes of the answer that came over a link: all that its source offered, or, where that failed, those that were heard

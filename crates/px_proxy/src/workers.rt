@@ -37,7 +37,7 @@ impl Making for Brand {
     ghost use Rattle.px_doors.specs.Doors.{untold_doors};
 
     ghost made = { record {
-      files = untold_files 0 0 0;
+      files = untold_files 0 0 0 0 0;
       doors = untold_doors None 0 0;
       err = untold_sink 0 0;
       main = [];

@@ -36,7 +36,7 @@ pub goes_on_same : (p : ProxyOutside) → ProxyGoesOn p p
 goes_on_same p = record { files = search rules; doors = search rules; errors = search rules }
 
 reads_none : (f : FilesState) → OnlyReads f f
-reads_none f = record { tells_same = refl; tells_later_same = refl; unchanged = λ t name. refl; later_same = λ t. refl; put_faults_same = refl; puts_same = refl }
+reads_none f = record { tells_same = refl; tells_later_same = refl; unchanged = λ t name. refl; later_same = λ t. refl; put_faults_same = refl; puts_same = refl; turns_same = refl }
 
 -- the words aren't those of `serve`
 pub serve_refused : {S T : Type 0} (v : Views S T) (words : List (List ℕ)) (f : FilesState) (d : DoorsState) (e e' : SinkState) (s : Status)

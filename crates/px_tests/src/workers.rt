@@ -106,6 +106,8 @@ struct Origin<'c> {
     until: &'c AtomicU64,
     link_reads: u64,
     link_writes: u64,
+    opened: u64,
+    hung_up: u64,
     mark: u64,
 }
 
@@ -140,18 +142,24 @@ impl<'c> Dialer for Origin<'c> {
       reach = 0;
       link_reads = d.link_reads;
       link_writes = d.link_writes;
+      opened = d.opened;
+      hung_up = d.hung_up;
       mark = d.mark;
     } };
 
     fn dial(&mut self, _host: &[u8], _port: u16) -> Result<(Waiting<'c>, TapeOut), DialFault> {
         self.dialled.fetch_add(1, Ordering::SeqCst);
         match link(self.alloc, self.until) {
-            Ok(link) => Ok(link),
+            Ok(link) => {
+                self.opened = self.opened.saturating_add(1);
+                Ok(link)
+            }
             Err(Mem) => Err(DialFault::Mem),
         }
     }
 
     fn hang_up(&mut self, link_in: Waiting<'c>, link_out: TapeOut) {
+        self.hung_up = self.hung_up.saturating_add(1);
         if link_in.faults != 0 {
             self.link_reads = self.link_reads.saturating_add(1);
         }
@@ -216,6 +224,8 @@ fn row_conn<'c>(alloc: Global, seen: &'c Seen, mark: u64) -> Result<RowConn<'c>,
             until,
             link_reads: 0,
             link_writes: 0,
+            opened: 0,
+            hung_up: 0,
             mark,
         },
         clock: FixedClock::new(List::new(alloc)),
