@@ -12,7 +12,7 @@ use Rattle.px_base.specs.Numbers.{decimal as decimal_of}
 use Rattle.px_base.specs.Ports.{port}
 use Rattle.px_actions.specs.Hops.{NextHop, direct, parent, hop_by_name, bracketed_hop, host_and_port, is_hop_address_byte, is_closing_bracket, is_colon, is_host_byte, is_made_of, next_hop, parent_hop, hop_port}
 use Rattle.px_base.specs.DialNames.{Server, begins_with_byte, is_slash}
-use Rattle.px_socks.specs.Printed.{HasNone, IsPrintable, IsDialNameOf, printed}
+use Rattle.px_dial_names.specs.Printed.{HasNone, IsPrintable, IsDialNameOf, printed}
 use Rattle.px_decide.specs.Servers.{dial_name, word_lacks_port, named_server, server_by}
 
 -- ---- ports

@@ -3,7 +3,7 @@ use Rattle.std.proofs.Common.{◌≡◌, ℕ, List, [], ◌∷◌, Option, None,
 use Rattle.std.specs.Prelude.{◌==◌, ◌||◌, is_some, option_map}
 use Rattle.std.specs.Str.{byte}
 use Rattle.std.specs.List.{list_any}
-use Rattle.px_socks.specs.Printed.{has_colon}
+use Rattle.px_dial_names.specs.Printed.{has_colon}
 use Rattle.px_decide.specs.declared.forwards.ForwardLine.{ForwardLine}
 use Rattle.px_decide.specs.declared.servers.KeptServer.{KeptServer}
 use Rattle.px_decide.specs.Forwards.{has_socks}

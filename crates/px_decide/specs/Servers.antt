@@ -4,7 +4,7 @@ use Rattle.std.specs.List.{ends_with}
 use Rattle.std.specs.Str.{bytes_eq}
 use Rattle.px_actions.specs.Hops.{NextHop, direct, parent, next_hop}
 use Rattle.px_base.specs.DialNames.{Server}
-use Rattle.px_socks.specs.Printed.{printed}
+use Rattle.px_dial_names.specs.Printed.{printed}
 use Rattle.px_decide.specs.declared.servers.KeptServer.{KeptServer}
 
 -- a word that names a host has no port: it is the host alone, or ends with the bracket that closes it

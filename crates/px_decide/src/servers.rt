@@ -1,7 +1,7 @@
 // SOCKS servers of forward lines, and the hosts under which targets behind them are dialled.
 ghost use Rattle.std.specs.Prelude.{◌≡◌, ◌∷◌, [], ◌++◌, IfOk, OnOk, option_map};
 ghost use Rattle.std.specs.List.{list_any};
-ghost use Rattle.px_socks.specs.Printed.{has_colon, printed_host};
+ghost use Rattle.px_dial_names.specs.Printed.{has_colon, printed_host};
 ghost use Rattle.px_decide.specs.Servers.{dial_name, kept_server, word_lacks_port, named_server};
 ghost use Rattle.px_actions.specs.Hops.{is_colon};
 
@@ -87,7 +87,7 @@ fn push_host(name: &mut Text, host: &[u8]) -> Result<(), Mem>
     }
 }
 
-/// The dial name of a target's host behind a server, as px_socks reads it: `socks5://`, the server's host, in brackets where it
+/// The dial name of a target's host behind a server, as px_dial_names reads it: `socks5://`, the server's host, in brackets where it
 /// holds a colon, `:`, its port, `/`, and the target's host.
 pub(crate) fn dial_name(alloc: Global, server: &KeptServer, target: &[u8]) -> Result<Text, Mem>
     ensures { IfOk result (λ name. name ≡ dial_name (kept_server server.now) target.now) }

@@ -17,7 +17,7 @@ use Rattle.px_socks.specs.declared.servers.ServerStop.{ServerStop}
 use Rattle.px_socks.specs.declared.servers.ServerStop.TheVariants as stop
 use Rattle.px_socks.specs.Messages.{IsReply, IsAccepted, is_bound_address, Took, NoneAhead}
 use Rattle.px_socks.specs.Replies.{rest_length}
-use Rattle.px_socks.specs.Printed.{HasNone}
+use Rattle.px_dial_names.specs.Printed.{HasNone}
 use Rattle.px_socks.specs.Comings.{whole_length, reply_length, accepted_length, behind_handshake, through_server}
 use Rattle.px_socks.specs.Ends.{InnerSource, InnerSink, has_failed, source_behind, sink_behind}
 use Rattle.px_socks.specs.Notes.{no_handshake}

@@ -8,5 +8,4 @@ pub mod ServeLemmas
 pub mod DialLemmas
 pub mod HangLemmas
 pub mod HandshakeLemmas
-pub mod PrintedLemmas
 pub mod ComingLemmas

@@ -1,7 +1,5 @@
--- The definitions that the contracts cite. The meaning, in reading order: the handshake's bytes, how dial names are
--- printed, the ends of a link and their marks, the notes of a dialer, outer and inner dials, those to come, and what contracts see of it all.
+-- The definitions that the contracts cite. The meaning, in reading order: the handshake's bytes, the ends of a link and their marks, the notes of a dialer, outer and inner dials, those to come, and what contracts see of it all.
 pub mod Messages
-pub mod Printed
 pub mod Ends
 pub mod Marks
 pub mod Notes

@@ -9,10 +9,10 @@ ghost use Rattle.px_base.specs.DialNames.{is_dial_name, target_of, server_of};
 ghost use Rattle.px_socks.specs.Notes.{no_handshake, IsTooLong};
 
 use crate::handshakes::greeting_and_request;
-use crate::names::{DialName, read_name};
 use crate::servers::{ServerStop, dial_server};
 use crate::{DialNote, HandshakePassage, SocksSink, SocksSource};
 use px_base::{DialFault, Dialer, LocalDialer, Text};
+use px_dial_names::{DialName, read_name};
 use std::alloc::Global;
 use std::marker::Model;
 

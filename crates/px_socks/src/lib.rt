@@ -6,14 +6,11 @@ mod dialers;
 mod ends;
 mod handshakes;
 mod laws;
-mod names;
 mod notes;
 mod replies;
 mod servers;
 
 pub use dialers::SocksDialer;
 pub use ends::{HandshakePassage, SocksSink, SocksSource};
-pub use laws::{
-    accepted_bytes_are_counted, accepted_bytes_are_prefix_free, printed_names_are_read,
-};
+pub use laws::{accepted_bytes_are_counted, accepted_bytes_are_prefix_free};
 pub use notes::DialNote;

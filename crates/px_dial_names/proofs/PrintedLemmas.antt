@@ -7,7 +7,7 @@ use Rattle.std.proofs.Math.Seq.{take-append_seam, drop-append-add}
 use Rattle.std.proofs.lemmas.Grind.{common_steps}
 use Rattle.px_base.specs.Ports.{port}
 use Rattle.px_base.specs.DialNames.{server, begins_with_byte, bracketed_server, unbracketed, server_in, is_slash, server_of, target_of, is_dial_name}
-use Rattle.px_socks.specs.Printed.{HasNone, has_colon, printed_host, printed, IsPrintable}
+use Rattle.px_dial_names.specs.Printed.{HasNone, has_colon, printed_host, printed, IsPrintable}
 
 first_at : (p : ℕ → Bool) (xs : List ℕ) (y : ℕ) (ys : List ℕ) → HasNone p xs → p y ≡ true → position_or_len p (xs ++ y ∷ ys) ≡ length xs
 first_at p [] y ys h e = rw e refl
