@@ -116,7 +116,7 @@ pub record IsSessionServed (config : Config) (tags : List (List ℕ)) (answers :
 
 -- a dialer through SOCKS servers that is just made, over one in memory with these answers
 abbrev pub begun_socks : List Answer → KeptDialer
-begun_socks answers = record { inner = fresh_dialer answers; notes = []; names = 0; reach = 0; link_reads = 0; link_writes = 0 }
+begun_socks answers = record { inner = fresh_dialer answers; notes = []; names = 0; reach = 0; link_reads = 0; link_writes = 0; opened = 0; hung_up = 0 }
 
 -- the same through SOCKS servers: the session is one over the outer dials; each takes an answer too, but for one whose target no
 -- server can be told, and by a dial name it gives what stands behind the bytes that are accepted of the server. The inner dials are
