@@ -1,7 +1,6 @@
 //! The outside over TCP: both ends of a stream, a dialer and a listener. They count faults, and tell nothing.
 #![tactic(auto)]
 
-mod counts;
 mod ends;
 mod guests;
 mod listeners;
