@@ -30,11 +30,12 @@ outcome_behind p (outcome.Link seen) = outcome.Link (record {
   sent = drop (length p.messages) seen.sent;
   read_failed = seen.read_failed;
   write_failed = seen.write_failed;
+  finished = seen.finished;
 })
 
 -- what went over a link behind a handshake
 abbrev pub traffic_behind : HandshakePassage → Traffic → Traffic
-traffic_behind p t = record { heard = drop p.heard t.heard; sent = drop (length p.messages) t.sent; read_failed = t.read_failed; write_failed = t.write_failed }
+traffic_behind p t = record { heard = drop p.heard t.heard; sent = drop (length p.messages) t.sent; read_failed = t.read_failed; write_failed = t.write_failed; finished = t.finished }
 
 -- a dial of that host and port, behind a handshake over the inner one
 abbrev pub dial_behind : List ℕ → ℕ → HandshakePassage → Dial → Dial
