@@ -1,5 +1,5 @@
 -- A link that is hung up, in both lists.
-use Rattle.std.proofs.Common.{◌≡◌, ℕ, ◌+◌, ◌-◌, Bool, true, false, List, length, take, drop, sym, ap, subst, ◌∙◌, refl, arith, length-drop, inl, inr}
+use Rattle.std.proofs.Common.{◌≡◌, ℕ, ◌+◌, ◌-◌, true, List, length, take, drop, sym, ap, subst, ◌∙◌, refl, arith, length-drop, inl, inr}
 use Rattle.std.proofs.lemmas.List.{drop-take, drop_all, length-take}
 use Rattle.std.proofs.lemmas.Bool.{cases_lt}
 use Rattle.px_base.specs.Dials.{DialerState, traffic, is_open, finish}
