@@ -363,3 +363,11 @@ pub ended : {S T : Type 0} (v : Views S T) (base inner : List Dial) (kept : List
     → all_closed kept inner ≡ inner_at_end base v history
 ended v base inner kept history tells joins =
     all_closed_joined (over v history) kept inner joins.kept_joined ∙ ap (all_joined (over v history) kept) joins.inner_is ∙ ap (λ ks. all_joined (over v history) ks (inner_by base v history)) tells.kept_is
+
+-- ---- a look leaves a dialer that tells as it is
+
+pub tells_seen : {S T : Type 0} (v : Views S T) (base : List Dial) (old new : DialerState) (kept : List KeptState) (history : History Hearing Sending S T) → new ≡ old → HistoryTells v base old.dials kept history → HistoryTells v base new.dials kept history
+tells_seen v base old new kept history e h = rw e h
+
+pub joins_seen : {S T : Type 0} (v : Views S T) (base : List Dial) (old new : DialerState) (kept : List KeptState) (history : History Hearing Sending S T) → new ≡ old → Joins v base old.dials kept history → Joins v base new.dials kept history
+joins_seen v base old new kept history e h = rw e h

@@ -15,7 +15,8 @@ ghost use Rattle.px_link_pool.specs.Standing.{PoolStands, kept_state, kept_state
 use crate::bases::{Anew, Base};
 use crate::histories::{History, Past, dialled, hung_up, taken_again};
 use crate::lending::{handed, lend};
-use crate::shelves::{KeptLink, Shelf, done, fill, pop, shelve, take_at};
+use crate::resting::{Look, Sees, take_resting};
+use crate::shelves::{KeptLink, Shelf, done, fill, pop, shelve};
 use px_base::{DialFault, Dialer, LocalDialer, LocalSink, LocalSource, Sink, Source, Text, raised};
 use px_pool_ends::{Incoming, Outgoing};
 use std::alloc::Global;
@@ -137,7 +138,10 @@ fn close_oldest<D: LocalDialer>(
     }
 }
 
-impl<D: Dialer, N: Base + Send> Dialer for LinkPool<D, N> {
+impl<D: Dialer, N: Base + Send> Dialer for LinkPool<D, N>
+where
+    Look: Sees<D::In>,
+{
     type In = Incoming<D::In, D::Out>;
 
     type Out = Outgoing<D::In, D::Out>;
@@ -152,7 +156,7 @@ impl<D: Dialer, N: Base + Send> Dialer for LinkPool<D, N> {
         let name = Text::from_bytes(self.alloc, host)?;
         let noted = Snapshot::of(&name);
         let shelf = mem::replace(&mut self.kept, Shelf::Empty);
-        let (rest, found) = take_at(shelf, host, port);
+        let (rest, found) = take_resting(&mut self.inner, shelf, host, port);
         fill(&mut self.kept, rest);
         match found {
             Some(kept) => {
