@@ -1,5 +1,5 @@
 -- What a history tells: the pool's dials, the dials of the inner dialer, and the kept links.
-use Rattle.std.specs.Prelude.{◌≡◌, ◌↔◌, ℕ, ◌+◌, Bool, true, false, not, codes, ◌==◌, ◌&&◌, ◌||◌, nat_lt, if◌then◌else◌, List, [], ◌∷◌, ◌++◌, length, drop, Option, Some, None}
+use Rattle.std.specs.Prelude.{◌≡◌, ◌↔◌, ℕ, ◌+◌, ◌-◌, ◌^◌, min, Bool, true, false, not, codes, ◌==◌, ◌&&◌, ◌||◌, nat_lt, if◌then◌else◌, List, [], ◌∷◌, ◌++◌, length, drop, Option, Some, None}
 use Rattle.std.specs.Option.{is_none}
 use Rattle.std.specs.Str.{bytes_eq}
 use Rattle.px_base.specs.declared.dials.Dial.{Dial}
@@ -99,7 +99,7 @@ pub record HistoryTells {S T : Type 0} (v : Views S T) (base inner : List Dial) 
 
 -- one more where it is so; a count at its end stays there
 abbrev pub counted_up : Bool → ℕ → ℕ
-counted_up true n = if nat_lt n 18446744073709551615 then n + 1 else n
+counted_up true n = min (n + 1) (2 ^ 64 - 1)
 counted_up false n = n
 
 -- how many links were handed back for which memory was wanting while their answer was followed

@@ -1,12 +1,12 @@
 // The dialer that keeps links.
 ghost use Rattle.std.specs.Prelude.{◌≡◌, ◌≤◌, ◌-◌, length, ◌++◌, ◌∷◌, [], List, true, false, not, ◌==◌, ◌&&◌, IsTrue, IfOk, ℕ};
-ghost use Rattle.px_base.specs.Causes.{RisesWith};
+ghost use Rattle.px_base.specs.Causes.{RisesWith, IsOneMore};
 ghost use Rattle.px_base.specs.Dials.{DialerGoesOn, DialCause, HangsUp, IsFresh, IsTold, linked, dialed, is_open};
 ghost use Rattle.px_base.specs.declared.dials.Dial.{Dial};
 ghost use Rattle.px_pool_ends.specs.Incomings.{outer_source, inner_source};
 ghost use Rattle.px_pool_ends.specs.Outgoings.{outer_sink, inner_sink};
-ghost use Rattle.px_link_pool.specs.Histories.{dials_of, are_due, inner_of, kept_links, all_closed, counted_up, wanting_count, HistoryTells, AreJudged};
-ghost use Rattle.px_link_pool.specs.Joins.{Joins, dials_over, inner_at_end};
+ghost use Rattle.px_link_pool.specs.Histories.{dials_of, are_due, inner_of, kept_links, all_closed, wanting_count, HistoryTells, AreJudged};
+ghost use Rattle.px_link_pool.specs.Joins.{Joins, dials_over, are_home, inner_at_end};
 ghost use Rattle.px_link_pool.specs.Pools.{pool_state};
 ghost use Rattle.px_link_pool.specs.declared.histories.History.{Start};
 ghost use Rattle.px_link_pool.specs.Shelves.{items};
@@ -15,8 +15,9 @@ ghost use Rattle.px_link_pool.specs.Standing.{PoolStands, kept_state, kept_state
 use crate::bases::{Anew, Base};
 use crate::histories::{History, Past, dialled, hung_up, taken_again};
 use crate::lending::{handed, lend};
-use crate::shelves::{KeptLink, Shelf, done, fill, pop, shelve, take_at};
-use px_base::{DialFault, Dialer, LocalDialer, LocalSink, LocalSource, Sink, Source, Text};
+use crate::resting::{Look, Sees, take_resting};
+use crate::shelves::{KeptLink, Shelf, done, fill, pop, shelve};
+use px_base::{DialFault, Dialer, LocalDialer, LocalSink, LocalSource, Sink, Source, Text, raised};
 use px_pool_ends::{Incoming, Outgoing};
 use std::alloc::Global;
 use std::marker::PhantomData;
@@ -33,6 +34,8 @@ pub struct LinkPool<D: LocalDialer, N: Base = Anew> {
     history: Past<D::In, D::Out>,
     link_reads: u64,
     link_writes: u64,
+    opened: u64,
+    hung_up: u64,
     wanting: u64,
     ghost stands: { PoolStands (D.state inner) (dials_of inner_source inner_sink history) (kept_states D.In.state D.Out.state (items kept)) },
     ghost told: { IsTrue (D.state inner).tells → HistoryTells (record { ins = D.In.state; outs = D.Out.state }) N.dialled (D.state inner).dials (kept_states D.In.state D.Out.state (items kept)) history },
@@ -49,6 +52,8 @@ impl<D: LocalDialer, N: Base> LinkPool<D, N> {
         ensures history { result.history ≡ Start }
         ensures no_link_read_failed { result.link_reads ≡ 0 }
         ensures no_link_write_failed { result.link_writes ≡ 0 }
+        ensures none_opened { result.opened ≡ 0 }
+        ensures none_hung_up { result.hung_up ≡ 0 }
     {
         LinkPool {
             alloc,
@@ -58,6 +63,8 @@ impl<D: LocalDialer, N: Base> LinkPool<D, N> {
             history: History::Start,
             link_reads: 0,
             link_writes: 0,
+            opened: 0,
+            hung_up: 0,
             wanting: 0,
         }
     }
@@ -74,6 +81,7 @@ impl<D: LocalDialer, N: Base> LinkPool<D, N> {
     pub fn into_inner(self) -> D
         ensures joined { IsTrue (D.state self.inner).tells → (D.state result).dials ≡ inner_at_end N.dialled (record { ins = D.In.state; outs = D.Out.state }) self.history }
         ensures told { IsTrue (D.state self.inner).tells → dials_of outer_source outer_sink self.history ≡ dials_over (record { ins = D.In.state; outs = D.Out.state }) self.history }
+        ensures home { IsTrue (D.state self.inner).tells → IsTrue (are_home (record { ins = D.In.state; outs = D.Out.state }) self.history) }
         ensures due { IsTrue (D.state self.inner).tells → are_due (record { ins = D.In.state; outs = D.Out.state }) self.history ≡ true }
         ensures kept { IsTrue (D.state self.inner).tells → kept_states D.In.state D.Out.state (items self.kept) ≡ kept_links (record { ins = D.In.state; outs = D.Out.state }) self.history }
         ensures dials { IsTrue (D.state self.inner).tells → (D.state result).dials ≡ all_closed (kept_states D.In.state D.Out.state (items self.kept)) (inner_of N.dialled D.In.state D.Out.state self.history) }
@@ -88,6 +96,8 @@ impl<D: LocalDialer, N: Base> LinkPool<D, N> {
             history: _,
             link_reads: _,
             link_writes: _,
+            opened: _,
+            hung_up: _,
             wanting: _,
         } = self;
         let kept = close_oldest(&mut inner, kept);
@@ -128,12 +138,15 @@ fn close_oldest<D: LocalDialer>(
     }
 }
 
-impl<D: Dialer, N: Base + Send> Dialer for LinkPool<D, N> {
+impl<D: Dialer, N: Base + Send> Dialer for LinkPool<D, N>
+where
+    Look: Sees<D::In>,
+{
     type In = Incoming<D::In, D::Out>;
 
     type Out = Outgoing<D::In, D::Out>;
 
-    ghost state = { λ p. pool_state (D.state p.inner) p.history p.link_reads p.link_writes };
+    ghost state = { λ p. pool_state (D.state p.inner) p.history p.link_reads p.link_writes p.opened p.hung_up };
 
     fn dial(
         &mut self,
@@ -143,7 +156,7 @@ impl<D: Dialer, N: Base + Send> Dialer for LinkPool<D, N> {
         let name = Text::from_bytes(self.alloc, host)?;
         let noted = Snapshot::of(&name);
         let shelf = mem::replace(&mut self.kept, Shelf::Empty);
-        let (rest, found) = take_at(shelf, host, port);
+        let (rest, found) = take_resting(&mut self.inner, shelf, host, port);
         fill(&mut self.kept, rest);
         match found {
             Some(kept) => {
@@ -155,6 +168,7 @@ impl<D: Dialer, N: Base + Send> Dialer for LinkPool<D, N> {
                 } = kept;
                 let result = Ok(lend(self.alloc, source, sink, kept_host, kept_port));
                 self.history = taken_again(&self.history, noted, port, &result);
+                self.opened = raised(self.opened, true);
                 result
             }
             None => {
@@ -164,6 +178,7 @@ impl<D: Dialer, N: Base + Send> Dialer for LinkPool<D, N> {
                     Ok((source, sink)) => {
                         let result = Ok(lend(self.alloc, source, sink, name, port));
                         self.history = dialled(&self.history, noted, port, noted_asked, &result);
+                        self.opened = raised(self.opened, true);
                         result
                     }
                     Err(fault) => {
@@ -182,6 +197,7 @@ impl<D: Dialer, N: Base + Send> Dialer for LinkPool<D, N> {
         self.link_reads = raised(self.link_reads, link_in.has_failed());
         self.link_writes = raised(self.link_writes, link_out.has_failed());
         self.wanting = raised(self.wanting, link_in.has_lost());
+        self.hung_up = raised(self.hung_up, true);
         let (link, keeps) = handed(link_in, link_out);
         let noted_host = Snapshot::of(&link.host);
         let port = link.port;
@@ -209,13 +225,4 @@ impl<D: Dialer, N: Base + Send> Dialer for LinkPool<D, N> {
             None => {}
         }
     }
-}
-
-/// One more where it is so, and it stands at the end of its type.
-fn raised(count: u64, by: bool) -> u64
-    ensures later { count ≤ result }
-    ensures rises { (n : ℕ) → by ≡ not (n == 0) → RisesWith count result n }
-    ensures counted { result ≡ counted_up by count }
-{
-    if by { count.saturating_add(1) } else { count }
 }
