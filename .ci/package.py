@@ -4,7 +4,8 @@ page; then two instances behind haproxy, by packaging/haproxy.cfg, of which one 
 
 Usage: package.py PROGRAM
 
-Also: lintian finds nothing, and `systemd-analyze security` gives the units at most 2.5. What can't be had is skipped with the reason.
+Also: lintian finds nothing, no link of the packaged manual is dead, and `systemd-analyze security` gives the units at most 2.5. What
+can't be had is skipped with the reason.
 Says what failed, and ends with 1 then.
 """
 import gzip
