@@ -1,2 +1,3 @@
 pub mod Untold
 pub mod Bounds
+pub mod Tried

@@ -9,6 +9,7 @@ ghost use Rattle.px_sockets.specs.Untold.{untold_dialer, AreNew};
 use crate::ends::{EndsFault, ends_with};
 use crate::shared_sockets::{SocketSide, Work};
 use crate::times::{between, now_millis};
+use crate::tries::{NetTries, try_in_turn};
 use crate::{SocketSink, SocketSource, Times, both_ends};
 use px_base::{DialFault, Dialer, Sink, Source, as_text, raised};
 use std::alloc::Global;
@@ -89,31 +90,13 @@ pub fn connect_in_turn<R: Net<Listener = TcpListener, Stream = TcpStream> + rt::
     rt: &R,
     times: &Times,
     left: Duration,
-    mut addresses: HostAddrs,
+    addresses: HostAddrs,
 ) -> Result<TcpStream, DialFault>
     ensures refusal { IfErr result (λ fault. fault ≡ DialFault.NotReached) }
 {
-    let began = now_millis(rt);
-    let mut next = addresses.next();
-    for _ in 0..u64::MAX {
-        let Some(address) = next else {
-            return Err(DialFault::NotReached);
-        };
-        next = addresses.next();
-        let left = left.saturating_sub(between(began, now_millis(rt)));
-        let wait = if next.is_some() {
-            left.min(times.address)
-        } else {
-            left
-        };
-        if wait.is_zero() {
-            return Err(DialFault::NotReached);
-        }
-        if let Ok(stream) = rt.connect_timeout(address, wait) {
-            return Ok(stream);
-        }
-    }
-    Err(DialFault::NotReached)
+    let left = u64::try_from(left.as_millis()).unwrap_or(u64::MAX);
+    let until = now_millis(rt).saturating_add(left);
+    try_in_turn(&mut NetTries::new(rt), times.address, until, addresses)
 }
 
 /// A stream to the first address of a host that answers in time. An address in text isn't looked up, and a host that isn't UTF-8
