@@ -17,7 +17,7 @@ use Rattle.px_pool_ends.specs.Outgoings.{Sending, outer_sink, inner_sink, sent, 
 use Rattle.px_link_pool.specs.declared.histories.History.{History}
 use Rattle.px_link_pool.specs.declared.shelves.KeptLink.{KeptLink}
 use Rattle.px_link_pool.specs.declared.shelves.Shelf.{Shelf}
-use Rattle.px_link_pool.specs.Histories.{Views, dials_of, kept_links, is_there, from_there, with_closed, all_closed, HistoryTells}
+use Rattle.px_link_pool.specs.Histories.{Views, dials_of, kept_links, is_there, from_there, with_closed, all_closed, inner_of, are_due, HistoryTells}
 use Rattle.px_pool_ends.specs.Names.{passed_so_far}
 use Rattle.px_link_pool.specs.Joins.{again_over, is_home, are_home, fresh_over, dials_over, anew, joined_with, over, traffic_by, with_joined, inner_by, all_joined, inner_at_end, is_joined, are_joined, open_marks, names, Joins}
 use Rattle.px_pool_ends.specs.Names.{Passed, lent_mark}
@@ -371,3 +371,24 @@ tells_seen v base old new kept history e h = rw e h
 
 pub joins_seen : {S T : Type 0} (v : Views S T) (base : List Dial) (old new : DialerState) (kept : List KeptState) (history : History Hearing Sending S T) → new ≡ old → Joins v base old.dials kept history → Joins v base new.dials kept history
 joins_seen v base old new kept history e h = rw e h
+
+-- ---- the pool keeps none
+
+pub none_stand : {S T : Type 0} (ins : S → SourceState) (outs : T → SinkState) (inner : DialerState) (outer : List Dial) (ks : List (KeptLink S T)) → length ks ≡ 0 → PoolStands inner outer (kept_states ins outs ks) → PoolStands inner outer []
+none_stand ins outs inner outer [] h s = s
+none_stand ins outs inner outer (k ∷ ks) h s = absurd (omega (arith, h))
+
+pub rested_tells : {S T : Type 0} (v : Views S T) (base inner new : List Dial) (kept : List KeptState) (before after : History Hearing Sending S T) → HistoryTells v base inner kept before → new ≡ all_closed kept inner
+    → inner_of base v.ins v.outs after ≡ all_closed kept (inner_of base v.ins v.outs before) → kept_links v after ≡ [] → are_due v after ≡ are_due v before → HistoryTells v base new [] after
+rested_tells v base inner new kept before after was closed i k d = record { inner_is = closed ∙ ap (all_closed kept) was.inner_is ∙ sym i; kept_is = sym k; due = d ∙ was.due }
+
+pub rested_joins : {S T : Type 0} (v : Views S T) (base inner new : List Dial) (kept : List KeptState) (before after : History Hearing Sending S T) → Joins v base inner kept before → new ≡ inner_at_end base v before
+    → inner_by base v after ≡ inner_at_end base v before → over v after ≡ over v before → are_home v after ≡ are_home v before → dials_over v after ≡ dials_over v before
+    → dials_of outer_source outer_sink after ≡ dials_of outer_source outer_sink before → dials_of inner_source inner_sink after ≡ dials_of inner_source inner_sink before → Joins v base new [] after
+rested_joins v base inner new kept before after was closed by went homes lent coded plain = record {
+  inner_is = closed ∙ sym by;
+  kept_joined = refl;
+  home = homes ∙ was.home;
+  dials_is = coded ∙ was.dials_is ∙ sym lent;
+  named = rw (coded, plain, went) was.named;
+}

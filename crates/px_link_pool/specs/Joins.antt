@@ -15,7 +15,7 @@ use Rattle.px_link_pool.specs.Shelves.{is_place}
 use Rattle.px_link_pool.specs.Histories.{Views, dials_of, kept_links, from_there}
 use Rattle.px_link_pool.specs.Standing.{KeptState}
 use Rattle.px_link_pool.specs.declared.shelves.KeptLink.{KeptLink}
-use Rattle.px_link_pool.specs.declared.histories.History.{History, Start, Dialled', Again', HungUp'}
+use Rattle.px_link_pool.specs.declared.histories.History.{History, Start, Dialled', Again', HungUp', Rested'}
 
 -- a link that is new begins with where it is dialled to, and what it offers
 abbrev pub anew : List ℕ → ℕ → ℕ → Result LinkState DialFault → Passed → Passed
@@ -35,6 +35,7 @@ over v (Dialled' shape before host port asked given) mark = anew host.value port
 over v (Again' shape before host port given) mark = over v before mark
 over v (HungUp' shape before host port link_in link_out closing) mark =
     joined_with ((inner_source link_in.value).mark == mark) link_in.value link_out.value (over v before mark)
+over v (Rested' shape before kept) mark = over v before mark
 
 -- the traffic of an inner link over which that went; whether its end was said is the inner sink's
 abbrev pub traffic_by : Passed → SourceState → SinkState → Traffic
@@ -45,6 +46,11 @@ abbrev pub with_joined : {S T : Type 0} → (S → SourceState) → (T → SinkS
 with_joined ins outs went None ds = ds
 with_joined ins outs went (Some k) ds = finish (ins k.source).mark (traffic_by (went (ins k.source).mark) (ins k.source) (outs k.sink)) ds
 
+-- the kept links are hung up, oldest first, and what went over each is that
+abbrev pub all_joined : (ℕ → Passed) → List KeptState → List Dial → List Dial
+all_joined went [] ds = ds
+all_joined went (k ∷ ks) ds = all_joined went ks (finish k.link_in.mark (traffic_by (went k.link_in.mark) k.link_in k.link_out) ds)
+
 -- the dials of the inner dialer in order, each link that is hung up told by the pool's dials over it
 abbrev pub inner_by : {S T : Type 0} → List Dial → Views S T → History Hearing Sending S T → List Dial
 inner_by base v Start = base
@@ -52,11 +58,7 @@ inner_by base v (Dialled' shape before host port asked given) = inner_by base v 
 inner_by base v (Again' shape before host port given) = inner_by base v before
 inner_by base v (HungUp' shape before host port link_in link_out closing) =
     with_joined v.ins v.outs (over v (HungUp' shape before host port link_in link_out closing)) closing.value (inner_by base v before)
-
--- the kept links are hung up, oldest first, and what went over each is that
-abbrev pub all_joined : (ℕ → Passed) → List KeptState → List Dial → List Dial
-all_joined went [] ds = ds
-all_joined went (k ∷ ks) ds = all_joined went ks (finish k.link_in.mark (traffic_by (went k.link_in.mark) k.link_in k.link_out) ds)
+inner_by base v (Rested' shape before kept) = all_joined (over v before) (kept_links v before) (inner_by base v before)
 
 -- the dials of the inner dialer after the pool, told by the pool's dials
 abbrev pub inner_at_end : {S T : Type 0} → List Dial → Views S T → History Hearing Sending S T → List Dial
@@ -90,6 +92,7 @@ dials_over v Start = []
 dials_over v (Dialled' shape before host port asked given) = dials_over v before ++ fresh_over host.value port.value (linked v.ins v.outs asked.value)
 dials_over v (Again' shape before host port given) = dials_over v before ++ again_over host.value port.value (over v before) (from_there host.value port.value (kept_links v before))
 dials_over v (HungUp' shape before host port link_in link_out closing) = finish (outer_source link_in.value).mark (traffic (outer_source link_in.value) (outer_sink link_out.value)) (dials_over v before)
+dials_over v (Rested' shape before kept) = dials_over v before
 
 -- the first of those links, if any, was dialled to that host and port
 abbrev pub is_home : List ℕ → ℕ → (ℕ → Passed) → List KeptState → Bool
@@ -102,6 +105,7 @@ are_home v Start = true
 are_home v (Dialled' shape before host port asked given) = are_home v before
 are_home v (Again' shape before host port given) = is_home host.value port.value (over v before) (from_there host.value port.value (kept_links v before)) && are_home v before
 are_home v (HungUp' shape before host port link_in link_out closing) = are_home v before
+are_home v (Rested' shape before kept) = are_home v before
 
 -- the marks of the open links in order
 abbrev pub open_mark : DialOutcome → List ℕ

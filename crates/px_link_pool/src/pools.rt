@@ -13,7 +13,7 @@ ghost use Rattle.px_link_pool.specs.Shelves.{items};
 ghost use Rattle.px_link_pool.specs.Standing.{PoolStands, kept_state, kept_states, is_told};
 
 use crate::bases::{Anew, Base};
-use crate::histories::{History, Past, dialled, hung_up, taken_again};
+use crate::histories::{History, Past, dialled, hung_up, rested, taken_again};
 use crate::lending::{handed, lend};
 use crate::resting::{Look, Sees, take_resting};
 use crate::shelves::{KeptLink, Shelf, done, fill, pop, shelve};
@@ -100,13 +100,40 @@ impl<D: LocalDialer, N: Base> LinkPool<D, N> {
             hung_up: _,
             wanting: _,
         } = self;
-        let kept = close_oldest(&mut inner, kept);
-        let kept = close_oldest(&mut inner, kept);
-        let kept = close_oldest(&mut inner, kept);
-        let kept = close_oldest(&mut inner, kept);
-        done(kept);
+        close_all(&mut inner, kept);
         inner
     }
+
+    /// Hangs up the kept links, the oldest first, so that none is kept. As a dialer the pool stays what it was.
+    pub fn rest(&mut self)
+        ensures same { pool_state (D.state self.new.inner) self.new.history self.new.link_reads self.new.link_writes self.new.opened self.new.hung_up ≡ pool_state (D.state self.old.inner) self.old.history self.old.link_reads self.old.link_writes self.old.opened self.old.hung_up }
+        ensures none_kept { items self.new.kept ≡ [] }
+        ensures wanting { self.new.wanting ≡ self.old.wanting }
+        ensures joined { IsTrue (D.state self.old.inner).tells → (D.state self.new.inner).dials ≡ inner_at_end N.dialled (record { ins = D.In.state; outs = D.Out.state }) self.old.history }
+        ensures goes_on { DialerGoesOn (D.state self.old.inner) (D.state self.new.inner) }
+    {
+        let kept = mem::replace(&mut self.kept, Shelf::Empty);
+        let noted = Snapshot::of(&kept);
+        close_all(&mut self.inner, kept);
+        self.history = rested(&self.history, noted);
+    }
+}
+
+/// Hangs up the kept links, the oldest first.
+fn close_all<D: LocalDialer>(inner: &mut D, kept: Shelf<KeptLink<D::In, D::Out>>)
+    requires { (outer : List Dial) × PoolStands (D.state inner.old) outer (kept_states D.In.state D.Out.state (items kept)) }
+    ensures stands { (outer : List Dial) → PoolStands (D.state inner.old) outer (kept_states D.In.state D.Out.state (items kept)) → PoolStands (D.state inner.new) outer [] }
+    ensures dials { IsTrue (D.state inner.old).tells → (D.state inner.new).dials ≡ all_closed (kept_states D.In.state D.Out.state (items kept)) (D.state inner.old).dials }
+    ensures tells { (D.state inner.new).tells ≡ (D.state inner.old).tells }
+    ensures names { (D.state inner.new).names ≡ (D.state inner.old).names }
+    ensures reach { (D.state inner.new).reach ≡ (D.state inner.old).reach }
+    ensures goes_on { DialerGoesOn (D.state inner.old) (D.state inner.new) }
+{
+    let kept = close_oldest(inner, kept);
+    let kept = close_oldest(inner, kept);
+    let kept = close_oldest(inner, kept);
+    let kept = close_oldest(inner, kept);
+    done(kept);
 }
 
 /// Hangs up the oldest kept link, if there is one.
@@ -118,6 +145,8 @@ fn close_oldest<D: LocalDialer>(
     ensures stands { (outer : List Dial) → PoolStands (D.state inner.old) outer (kept_states D.In.state D.Out.state (items kept)) → PoolStands (D.state inner.new) outer (kept_states D.In.state D.Out.state (items result)) }
     ensures dials { IsTrue (D.state inner.old).tells → all_closed (kept_states D.In.state D.Out.state (items result)) (D.state inner.new).dials ≡ all_closed (kept_states D.In.state D.Out.state (items kept)) (D.state inner.old).dials }
     ensures tells { (D.state inner.new).tells ≡ (D.state inner.old).tells }
+    ensures names { (D.state inner.new).names ≡ (D.state inner.old).names }
+    ensures reach { (D.state inner.new).reach ≡ (D.state inner.old).reach }
     ensures goes_on { DialerGoesOn (D.state inner.old) (D.state inner.new) }
     ensures fewer { length (items result) ≡ length (items kept) - 1 }
     ensures most { length (items kept) ≤ 4 }
