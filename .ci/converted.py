@@ -49,23 +49,34 @@ JOBS = [
 FOLDER = {
     "config": "confdir /etc/privoxy\nactionsfile /etc/privoxy/my.action\nactionsfile gone.action\nfilterfile my.filter\n"
     "listen-address 0.0.0.0:8119\nlisten-address 192.168.1.2:8118\nforward-socks5t .onion 127.0.0.1:9050 .\nforward-socks4a .i2p 127.0.0.1:4447 .\n"
-    "forward / me:secret@p.test:3128\nforward .near .\ntoggle on\nbuffer-limit 99999\ndebug 1\n",
+    "forward / me:secret@p.test:3128\nforward .near .\ntoggle on\nbuffer-limit 99999\ndebug 1\nlogfile l\n"
+    "permit-access 192.168.1.0/24\ntrustfile trust\nenforce-blocks 0\naccept-intercepted-requests 0\nclient-specific-tag guest Of a guest\n"
+    "templdir /etc/privoxy/own\nconnection-sharing 1\nforward .far/(?!x)y p.test\n",
     "my.action": "{{alias}}\nads = +block\n{ads}\n.a.test/x/(?!(?:.*/)?y)\n.b.test/z(?!w)\nhttp://c.test/\n{+hide-referrer{Block} "
     "-hide-user-agent{x} +limit-connect{0-443} +add-header{Host: x} +nonsense}\n/caf\xe9\n",
     "my.filter": "FILTER: one Gr\xfc\xdfe\ns/a/b/\ns/(?R)/x/\nFILTER: one\ns/a/c/\n",
 }
 # Lines of the files that are made, and words of the report.
 MADE = {
-    "config": ["actionsfile from-privoxy.action", "actionsfile my.action", "#actionsfile gone.action", "listen-address 127.0.0.1:8119",
-               "#listen-address 192.168.1.2:8118", "forward-socks5t .onion 127.0.0.1:9050 .", "forward-socks4a .i2p 127.0.0.1:4447 .", "#forward / me:secret@p.test:3128",
-               "forward .near .", "toggle 1", "buffer-limit 16384", "#debug 1"],
+    "config": ["actionsfile from-privoxy.action", "actionsfile my.action", "actionsfile gone.action", "listen-address 127.0.0.1:8119",
+               "#listen-address 192.168.1.2:8118", "forward-socks5t .onion 127.0.0.1:9050 .", "forward-socks4a .i2p 127.0.0.1:4447 .", "forward / me:secret@p.test:3128",
+               "forward .near .", "toggle 1", "buffer-limit 16384", "#debug 1", "client-specific-tag guest Of a guest",
+               "#templdir /etc/privoxy/own", "forward .far/y p.test"],
     "my.action": ["ads = +block{}", "{ads}", ".a.test/x/", "{-block}", ".a.test/x/(?:(?:.*/)?y)", r".b.test/z(?:\z|[^Ww])", "c.test/",
                   "{+hide-referrer{block} -hide-user-agent +limit-connect{-443}}", r"/caf\xE9"],
     "my.filter": ["FILTER: one Gr\u00fc\u00dfe", "s/a/b/", "#s/(?R)/x/", "#FILTER: one", "#s/a/c/"],
     "from-privoxy.action": ["{+prevent-compression}", "/"],
 }
-REPORT = ["filter one: nearly the same (1 of 2 jobs left out)", "line 3: `(?R` has no form here", "`+nonsense`: no such action", "a second filter one",
-          "gone.action: the file isn't there", "is kept, and `check` refuses it (29): SOCKS4", "`debug` has no effect: there is no log"]
+HEADS = ["First: who is served, and by which way", "One line a kind", "No longer does what it did", "Line by line"]
+# Words that the report's first part has, and none of the others.
+FIRST = ["config:3: `actionsfile gone.action` is kept", "`listen-address 0.0.0.0:8119` became 127.0.0.1:8119", "`listen-address 192.168.1.2:8118`",
+         "`forward-socks4a .i2p 127.0.0.1:4447 .` is kept, and `check` refuses it (29): SOCKS4", "`forward / me:secret@p.test:3128` is kept",
+         "`permit-access 192.168.1.0/24` has no effect", "`trustfile trust` has no effect", "`client-specific-tag guest`: no client of `serve` can carry",
+         "`templdir /etc/privoxy/own`: Helmthread's pages", "/old/templates: Helmthread's pages"]
+# Lines of the second part, which is one line a kind, and words of the rest.
+KINDS = ["1 filters: 0 the same, 1 nearly the same, 0 nothing left", "without effect: `debug`, `logfile` (there is no log)",
+         "without effect: `accept-intercepted-requests` (requests that were led here without the browser's knowledge aren't served)"]
+REST = ["filter one: nearly the same (1 of 2 jobs left out)", "line 3: `(?R` has no form here", "`+nonsense`: no such action", "a second filter one"]
 
 
 def job_rows(fail):
@@ -82,13 +93,37 @@ def job_rows(fail):
     return made
 
 
+def put(folder, files):
+    for name, text in files.items():
+        with open(os.path.join(folder, name), "w", encoding="latin-1") as file:
+            file.write(text)
+
+
+def report_row(text, fail):
+    """Whether the report has its four parts, and in each what belongs there."""
+    places = [text.find(head) for head in HEADS]
+    if places[0] != 0 or places != sorted(places):
+        fail("the report", "its parts are missing, or stand otherwise\n" + text)
+        return
+    first, kinds, _, rest = (text[start:end] for start, end in zip(places, [*places[1:], None]))
+    for words in FIRST:
+        if words not in first or words in kinds + rest:
+            fail("the report's first part", "it alone should have `%s`\n%s" % (words, text))
+    for line in KINDS:
+        if "  %s\n" % line not in kinds:
+            fail("the report's kinds", "lack the line `%s`\n%s" % (line, kinds))
+    if "link-reuse" not in kinds:
+        fail("the report's kinds", "connection-sharing doesn't name link-reuse\n" + kinds)
+    for words in REST:
+        if words not in rest:
+            fail("the report", "lacks `%s`\n%s" % (words, text))
+
+
 def folder_row(folder, fail):
     """The folder, its files and its report."""
     old, new = os.path.join(folder, "old"), os.path.join(folder, "new")
-    os.mkdir(old)
-    for name, text in FOLDER.items():
-        with open(os.path.join(old, name), "w", encoding="latin-1") as file:
-            file.write(text)
+    os.makedirs(os.path.join(old, "templates"))
+    put(old, FOLDER)
     ran = subprocess.run([sys.executable, SCRIPT, old, new], capture_output=True, text=True, timeout=60)
     if ran.returncode:
         fail("the folder", ran.stderr)
@@ -103,9 +138,7 @@ def folder_row(folder, fail):
         lines = file.read().splitlines()
     if lines.index(".a.test/x/") > lines.index(r".b.test/z(?:\z|[^Ww])"):
         fail("the folder", "the pair doesn't stand in front")
-    for words in REPORT:
-        if words not in ran.stdout:
-            fail("the report", "lacks `%s`\n%s" % (words, ran.stdout))
+    report_row(ran.stdout, fail)
     again = subprocess.run([sys.executable, SCRIPT, old, new], capture_output=True, text=True, timeout=60)
     if again.returncode != 1 or "isn't empty" not in again.stderr:
         fail("a folder that is there", again.stderr)
@@ -122,6 +155,65 @@ def loaded(program, folder, made, fail):
         fail(program, ran.stdout + ran.stderr)
 
 
+def converted(folder, files, fail, row):
+    """The new folder of these files, the lines of its config, and the report's first part."""
+    old, new = os.path.join(folder, row), os.path.join(folder, row + ".new")
+    os.mkdir(old)
+    put(old, files)
+    ran = subprocess.run([sys.executable, SCRIPT, old, new], capture_output=True, text=True, timeout=300)
+    if ran.returncode:
+        fail(row, "status %d, %s" % (ran.returncode, ran.stderr))
+        return None
+    with open(os.path.join(new, "config"), encoding="utf-8") as file:
+        return new, file.read().splitlines(), ran.stdout.partition(HEADS[1])[0]
+
+
+def hosts_file(many):
+    """An actions file of so many hosts of 60 bytes below an alias, between two other sections."""
+    hosts = "".join("h%06d.%s.test\n" % (at, "x" * 47) for at in range(many))
+    return "{{alias}}\nads = +block{In the list.}\n{+prevent-compression}\n/\n{ \\\nads }\n%s{-block}\n.h000001.%s.test\n" % (hosts, "x" * 47)
+
+
+def asked(program, folder, host):
+    """Whether a host is blocked for the alias's reason, or what went wrong."""
+    url = "http://%s/" % host
+    ran = subprocess.run([program, "show", "config", url], cwd=folder, capture_output=True, text=True, timeout=300)
+    return "+block{In the list.}" in ran.stdout if ran.returncode == 0 else ran.stderr
+
+
+def limit_rows(folder, programs, fail):
+    """Lists that are too long for a file, or for all patterns; files that can't be taken over."""
+    config = "actionsfile hosts.action\nactionsfile last.action\n"
+    last = {"last.action": "{+block{Last.}}\nlast.test\n"}
+    many = converted(folder, {"config": config, "hosts.action": hosts_file(30000), **last}, fail, "a long list")
+    too_many = converted(folder, {"config": config, "hosts.action": hosts_file(45000), **last}, fail, "too many patterns")
+    broken = converted(folder, {"config": config, "hosts.action": "{+block{x}\n.a.test\n", **last}, fail, "a broken file")
+    seventeen = {"%d.action" % at: "{+block{x}}\n.a.test\n" for at in range(17)}
+    files = converted(folder, {"config": "".join("actionsfile %s\n" % it for it in seventeen), **seventeen}, fail, "many files")
+    if not (many and too_many and broken and files):
+        return
+    named = [line.split()[1] for line in many[1] if line.startswith("actionsfile")]
+    if named[:2] != ["from-privoxy.action", "hosts.action"] or len(named) < 4 or named[-1] != "last.action":
+        fail("a long list", "its parts aren't named: %s" % named)
+    if "pattern-limit 40000" not in many[1] or max(os.path.getsize(os.path.join(many[0], it)) for it in named) > 1048576:
+        fail("a long list", "no pattern-limit, or a part is too long")
+    if "patterns of its blocks aren't read" not in too_many[2]:
+        fail("too many patterns", "the report's first part doesn't say it\n" + too_many[2])
+    if "this file isn't taken over" not in broken[2] or "actionsfile last.action" not in broken[1]:
+        fail("a broken file", "the report doesn't say first what is lost, or the rest isn't taken over\n" + broken[2])
+    if "`check` refuses more than 16" not in files[2]:
+        fail("many files", "the report's first part doesn't say it\n" + files[2])
+    for program in programs:
+        for row, made, patterns in (("a long list", many, 30004), ("too many patterns", too_many, 40000), ("a broken file", broken, 2)):
+            ran = subprocess.run([program, "check", "config"], cwd=made[0], capture_output=True, text=True, timeout=300)
+            if ran.returncode or " %d patterns," % patterns not in ran.stdout:
+                fail(row, "check: " + ran.stdout + ran.stderr)
+        for at, blocked in ((0, True), (1, False), (29999, True), (30000, False)):
+            host = "h%06d.%s.test" % (at, "x" * 47)
+            if asked(program, many[0], host) is not blocked:
+                fail("a long list", "%s: %s" % (host, asked(program, many[0], host)))
+
+
 def main():
     programs = [os.path.abspath(program) for program in sys.argv[1:]]
     if not programs:
@@ -136,6 +228,7 @@ def main():
     with tempfile.TemporaryDirectory() as folder:
         made = job_rows(fail)
         folder_row(folder, fail)
+        limit_rows(folder, programs, fail)
         for program in programs:
             loaded(program, folder, made, fail)
     print("converted.py: %d jobs and a folder, %s" % (len(JOBS), "%d failed" % len(failures) if failures else "all as expected"))

@@ -6,8 +6,16 @@ import re
 
 from . import jobs, tables
 from .expressions import Reader, Unread
-from .lines import FILE_LIMIT, LINE_LIMIT, is_utf8, logical, shown
-from .linting_actions import MOST_PATTERNS, PATTERN_LIMIT, ActionLints
+from .lines import (
+    FILE_LIMIT,
+    LINE_LIMIT,
+    MOST_PATTERNS,
+    PATTERN_LIMIT,
+    is_utf8,
+    logical,
+    shown,
+)
+from .linting_actions import ActionLints
 from .linting_patterns import PatternLints
 from .nearness import near
 from .scanning import scan

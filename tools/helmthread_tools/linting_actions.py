@@ -6,8 +6,6 @@ from . import tables
 from .nearness import near
 from .letters import is_alnum
 
-# How many patterns there may be, and how many at most `pattern-limit` may allow.
-PATTERN_LIMIT, MOST_PATTERNS = 20000, 40000
 BLOCKS = ("alias", "settings", "description")
 VALUES = {
     "field": "a field line as `X-Note: hello`, of no field that belongs to a connection",
