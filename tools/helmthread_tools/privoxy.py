@@ -22,6 +22,7 @@ PATTERNS_LEFT = "patterns that have no form here"
 TAGS_LEFT = "client tags that stand twice"
 IN_FRONT = "patterns with look-around stand in front of their file, with a section {-block} behind them"
 NEW_VALUES = "values became ones that are taken here"
+IDLE = "sections without a pattern became comments"
 PARTED = "patterns behind a `}` became lines of their own"
 
 
@@ -196,9 +197,12 @@ class ActionsFile:
 
     def convert(self):
         """The converted file's bytes."""
-        for line in self.lines:
+        for at, line in enumerate(self.lines):
             if line.text == "":
                 self.out += as_it_stands(line)
+            elif self.is_idle(at):
+                self.report.note(self.place(line), "%s has no pattern" % shown(line.text), IDLE)
+                self.out += out_of_use(line)
             elif line.text.startswith("{"):
                 self.heading(line)
             elif self.block == "alias":
@@ -219,6 +223,16 @@ class ActionsFile:
             ]
             self.out[at:at] = head + self.front + [""]
         return joined(self.out)
+
+    def is_idle(self, at):
+        """Whether a section begins in this line, and another one right below it."""
+        pair = [line.text for line in self.lines[at : at + 2]]
+        return (
+            len(pair) == 2
+            and all(text.startswith("{") for text in pair)
+            and not pair[0].startswith("{{")
+            and tables.heading_end(pair[0]) == len(pair[0]) - 1
+        )
 
     def place(self, line):
         return "%s:%d" % (self.name, line.number)

@@ -105,6 +105,23 @@ DIRECTIVES = (
 SOCKS4 = ("forward-socks4", "forward-socks4a")
 SOCKS5 = ("forward-socks5", "forward-socks5t")
 
+# The pages of the proxy's own, and the conditions that a template may have.
+PAGES = (
+    "blocked",
+    "connect-denied",
+    "no-such-domain",
+    "connect-failed",
+    "forwarding-failed",
+    "send-failed",
+    "no-server-data",
+    "bad-reply",
+    "invalid-request",
+    "head-too-long",
+    "bad-rewrite",
+)
+CONDITIONS = ("block-reason", "parent")
+
+PRIVOXYS_FOLDER = "/etc/privoxy"
 # Directives of Privoxy's that aren't read here, each with what that means.
 ELSEWHERE = {
     "accept-intercepted-requests": "requests that were led here without the browser's knowledge aren't served",
