@@ -4,15 +4,23 @@
 Usage: converted.py PROGRAM..   Each job that is made is loaded by the programs, too. Says which row failed, and ends with 1 then.
 """
 import os
+import re
+import shutil
 import subprocess
 import sys
 import tempfile
 
 HERE = os.path.dirname(os.path.abspath(__file__))
+TOP = os.path.realpath(os.path.join(HERE, ".."))
 SCRIPT = os.path.join(HERE, "..", "tools", "helmthread-from-privoxy")
 sys.path.insert(0, os.path.join(HERE, "..", "tools"))
 from helmthread_tools import jobs  # noqa: E402
 from helmthread_tools.expressions import Unread  # noqa: E402
+
+# The manual's commands for the service of the package, and the file that the service reads.
+COMMANDS = re.compile(r"^```\n(sudo helmthread-from-privoxy .*?)^```$", re.M | re.S)
+READS = re.compile(r"^ExecStartPre=/usr/bin/helmthread check (\S+)$", re.M)
+NOBODY = 65534
 
 PAGE, HEADER = True, False
 # A job of Privoxy's, what it runs on, and the job that it becomes; None where it has no form.
@@ -214,6 +222,48 @@ def limit_rows(folder, programs, fail):
                 fail("a long list", "%s: %s" % (host, asked(program, many[0], host)))
 
 
+def text_of(*names):
+    with open(os.path.join(TOP, *names), encoding="utf-8") as file:
+        return file.read()
+
+
+def without_rights():
+    """Makes the present process one of a user who may read what all may read."""
+    if os.getuid() == 0:
+        os.setgid(NOBODY)
+        os.setuid(NOBODY)
+
+
+def service_row(folder, program, fail):
+    """The manual's way from Privoxy's folder to the service of the package: the file that its unit reads for the instance px is there,
+    and a user of no rights may load it, also where files are made for their owner alone."""
+    old, etc, programs = (os.path.join(folder, it) for it in ("service", "etc", "bin"))
+    for it in (old, etc, programs):
+        os.makedirs(it, exist_ok=True)
+    os.chmod(folder, 0o755)
+    put(old, {"config": "confdir /etc/privoxy\nactionsfile u.action\n", "u.action": "{+block{x}}\n.a.test\n"})
+    shutil.copy(program, os.path.join(programs, "helmthread"))
+    os.chmod(os.path.join(programs, "helmthread"), 0o755)
+    link = os.path.join(programs, "helmthread-from-privoxy")
+    if not os.path.lexists(link):
+        os.symlink(os.path.realpath(SCRIPT), link)
+    found = COMMANDS.search(text_of("docs", "MANUAL.md"))
+    unit = READS.search(text_of("packaging", "helmthread@.service"))
+    if not found or not unit:
+        fail("the service", "the manual has no commands for it, or the unit no file")
+        return
+    lines = [line.replace("sudo ", "") for line in found[1].splitlines() if "systemctl" not in line]
+    told = "\n".join(lines).replace("/etc/privoxy", old).replace("/etc/helmthread", etc)
+    paths = {**os.environ, "PATH": programs + ":" + os.environ["PATH"]}
+    ran = subprocess.run(["bash", "-euc", "umask 077\n" + told], env=paths, capture_output=True, text=True, timeout=300)
+    main = unit[1].replace("%i", "px").replace("/etc/helmthread", etc)
+    words = [os.path.join(programs, "helmthread"), "check", main]
+    checked = subprocess.run(words, cwd="/", preexec_fn=without_rights, capture_output=True, text=True, timeout=300)
+    if ran.returncode or checked.returncode or not checked.stdout.startswith("ok: 2 action files"):
+        fail("the service", "%s\n%s%s%s" % (told, ran.stderr, checked.stdout, checked.stderr))
+    shutil.rmtree(etc)
+
+
 def main():
     programs = [os.path.abspath(program) for program in sys.argv[1:]]
     if not programs:
@@ -231,6 +281,7 @@ def main():
         limit_rows(folder, programs, fail)
         for program in programs:
             loaded(program, folder, made, fail)
+            service_row(folder, program, fail)
     print("converted.py: %d jobs and a folder, %s" % (len(JOBS), "%d failed" % len(failures) if failures else "all as expected"))
     return 1 if failures else 0
 
