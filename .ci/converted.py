@@ -176,6 +176,23 @@ def converted(folder, files, fail, row):
         return new, file.read().splitlines(), ran.stdout.partition(HEADS[1])[0]
 
 
+def tags_row(folder, fail):
+    """A way that hangs on a tag that no client carries, or that a tagger with a job left out makes."""
+    files = {
+        "config": "actionsfile t.action\nfilterfile t.filter\n",
+        "t.filter": "CLIENT-HEADER-TAGGER: agents\ns/(?R)/$0/\nCLIENT-HEADER-TAGGER: whole\ns/a/b/\n",
+        "t.action": "{+forward-override{forward 127.0.0.1:9}}\nTAG:^x$\nCLIENT-TAG:^tor$\n{+block{x}}\nTAG:^y$\nCLIENT-TAG:^z$\n",
+    }
+    made = converted(folder, files, fail, "tags")
+    if not made:
+        return
+    for words in ("t.action:2: the way hangs on a tag, and jobs of taggers are left out (agents)", "t.action:3: `CLIENT-TAG:^tor$`: no client"):
+        if words not in made[2]:
+            fail("tags", "the report's first part lacks `%s`\n%s" % (words, made[2]))
+    if "t.action:5" in made[2] or "t.action:6" in made[2]:
+        fail("tags", "the first part names what says no way\n" + made[2])
+
+
 def hosts_file(many):
     """An actions file of so many hosts of 60 bytes below an alias, between two other sections."""
     hosts = "".join("h%06d.%s.test\n" % (at, "x" * 47) for at in range(many))
@@ -196,9 +213,10 @@ def limit_rows(folder, programs, fail):
     many = converted(folder, {"config": config, "hosts.action": hosts_file(30000), **last}, fail, "a long list")
     too_many = converted(folder, {"config": config, "hosts.action": hosts_file(45000), **last}, fail, "too many patterns")
     broken = converted(folder, {"config": config, "hosts.action": "{+block{x}\n.a.test\n", **last}, fail, "a broken file")
+    empty = converted(folder, {"config": "actionsfile\n" + config, **last}, fail, "a line without a name")
     seventeen = {"%d.action" % at: "{+block{x}}\n.a.test\n" for at in range(17)}
     files = converted(folder, {"config": "".join("actionsfile %s\n" % it for it in seventeen), **seventeen}, fail, "many files")
-    if not (many and too_many and broken and files):
+    if not (many and too_many and broken and empty and files):
         return
     named = [line.split()[1] for line in many[1] if line.startswith("actionsfile")]
     if named[:2] != ["from-privoxy.action", "hosts.action"] or len(named) < 4 or named[-1] != "last.action":
@@ -207,6 +225,10 @@ def limit_rows(folder, programs, fail):
         fail("a long list", "no pattern-limit, or a part is too long")
     if "patterns of its blocks aren't read" not in too_many[2]:
         fail("too many patterns", "the report's first part doesn't say it\n" + too_many[2])
+    with open(os.path.join(too_many[0], "hosts.action.left-out"), encoding="utf-8") as file:
+        left = [line.split(".")[0] for line in file if line.startswith("h0")]
+    if left != ["h%06d" % at for at in range(45000 - 5004, 45000)]:
+        fail("too many patterns", "not the last 5,004 hosts are left out: %s" % left[:1] + left[-1:])
     if "this file isn't taken over" not in broken[2] or "actionsfile last.action" not in broken[1]:
         fail("a broken file", "the report doesn't say first what is lost, or the rest isn't taken over\n" + broken[2])
     if "`check` refuses more than 16" not in files[2]:
@@ -216,7 +238,7 @@ def limit_rows(folder, programs, fail):
             ran = subprocess.run([program, "check", "config"], cwd=made[0], capture_output=True, text=True, timeout=300)
             if ran.returncode or " %d patterns," % patterns not in ran.stdout:
                 fail(row, "check: " + ran.stdout + ran.stderr)
-        for at, blocked in ((0, True), (1, False), (29999, True), (30000, False)):
+        for at, blocked in ((1, False), (29999, True)):
             host = "h%06d.%s.test" % (at, "x" * 47)
             if asked(program, many[0], host) is not blocked:
                 fail("a long list", "%s: %s" % (host, asked(program, many[0], host)))
@@ -278,6 +300,7 @@ def main():
     with tempfile.TemporaryDirectory() as folder:
         made = job_rows(fail)
         folder_row(folder, fail)
+        tags_row(folder, fail)
         limit_rows(folder, programs, fail)
         for program in programs:
             loaded(program, folder, made, fail)

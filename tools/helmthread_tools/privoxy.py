@@ -533,7 +533,8 @@ class MainFile:
         return name.lower(), rest[0] if rest else ""
 
     def file_line(self, line, directive, value, renamed):
-        new, place = renamed[value], "config:%d" % line.number
+        place = "config:%d" % line.number
+        new = renamed.get(value, Lost("it names no file", False))
         if isinstance(new, Lost):
             if new.may_lead:
                 why = "%s, and it may say which way requests go" % new.why
