@@ -155,6 +155,13 @@ MISTAKES = [
     (A, "{+block{x}}\na.test/(foo", "u.action:2:", "a `(` without `)`", "\\("),
     (A, "{+block{x}}\na.test/s?q=1/search?q=", "u.action:2:", "`s?q=`", "s\\?q="),
     (A, "{+block{x}}\na.test/*/ads", "u.action:2:", "any number of slashes", "a.test/.*/ads"),
+    (
+        A,
+        "{+forward-override{forward-socks5 127.0.0.1:9050 .}}\n.onion",
+        "u.action:1:",
+        "`+forward-override{forward-socks5 127.0.0.1:9050 .}`",
+        "A line `forward-socks5 PATTERN 127.0.0.1:9050 .` in config",
+    ),
     (A, "{+block{x}}\n*.a.test/x", "u.action:2:", "neither a.test nor a.b.a.test", ". .a.test/x"),
     (A, "{+block{x}}\n\n{-block}\na.test", "u.action:1:", "`{+block{x}}`: the section has no pattern", "A pattern in the line below"),
     (A, "{+block{x}}\na.test\n{ \\\n-block \\\n}\n\n# The end.", "u.action:3:", "the section has no pattern", "A pattern in the line below"),
@@ -237,6 +244,7 @@ MISTAKES = [
         "line 4 of config (confdir is",
     ),
     (C, "actionsfile uu.action", "uu.action:0:", "looked for there", "Did you mean `u.action`?"),
+    (C, "actionsfile gone.action", "gone.action:0:", "looked for there", ". Named in line 4"),
     (C, "filterfile f", "f:0:", "looked for there", "Did you mean `f.filter`?"),
     (C, "forward *.a.test p.test", "config:4:", "neither a.test nor a.b.a.test", ". .a.test"),
     (

@@ -477,7 +477,10 @@ class Linter(ActionLints, PatternLints, TemplateLints):
             return ""
         there = [it for it in os.listdir(folder) if os.path.isfile(os.path.join(folder, it))]
         whole = [name + ending for ending in (".action", ".filter") if name + ending in there]
-        guess = whole[0] if whole else near(name, there)
+        # (endings alone make no two names alike)
+        stem = os.path.splitext(name)[0]
+        alike = [it for it in there if near(stem, [os.path.splitext(it)[0]], 0.6)]
+        guess = whole[0] if whole else near(name, alike)
         return "Did you mean `%s`? " % guess if guess else ""
 
     # Filter files.

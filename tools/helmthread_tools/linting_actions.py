@@ -256,7 +256,7 @@ class ActionLints:
                 write = {
                     "ports": "+%s{443}" % key,
                     "minutes": "+%s{%s}" % (key, digits[0] if digits else "60"),
-                    "parent": "+%s{forward HOST:PORT}" % key,
+                    "parent": self.other_way(key, value),
                     "field": "+%s{X-Note: hello}" % key,
                 }.get(rule, "+%s{VALUE}" % key)
                 self.say(
@@ -271,6 +271,14 @@ class ActionLints:
                 self.no_templates(0)
         elif key in tables.FIXED_WORDS and value not in tables.FIXED_WORDS[key]:
             self.fixed_word(name, number, word, key, value)
+
+    def other_way(self, key, value):
+        """What to write in place of a value that says which way requests go."""
+        words = value.split()
+        if words[:1] and words[0] in tables.SOCKS5:
+            line = "`%s PATTERN %s`" % (words[0], " ".join(words[1:]))
+            return "A line %s in %s for each pattern of the section" % (line, self.main)
+        return "+%s{forward HOST:PORT}" % key
 
     def fixed_word(self, name, number, word, key, value):
         """A value beside those that mean something of their own."""

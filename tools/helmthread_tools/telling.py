@@ -217,4 +217,5 @@ def report_lines(report, to):
             "`check` refuses %d of the lines until you have decided on them; they stand first above."
             % len(report.kept)
         )
+    lines.append("Lines are counted in Privoxy's files.")
     return lines + ["Now try: helmthread check " + config]
