@@ -199,6 +199,10 @@ def limits(folder, fail):
     stopped("over what may be set", hosts(40000), ["--config", "c"], 39900, ["the most"], ["--several", "`pattern-limit"])
     config("actionsfile other.action\n")
     stopped("over the limit of a main file", hosts(30000), ["--config", "c"], 19900, [line + " in c", "room for 39900"], ["--several"])
+    config("actionsfile other.action\npattern-limit 100\n")
+    ran = convert(folder, GOOD, ["--config", "c"], "whole.action")
+    if ran.returncode != 3 or line not in ran.stderr or lines_of(os.path.join(folder, "whole.action")) != 2 + 30000:
+        fail("no room for one host", "status %d, or the file was written: %s" % (ran.returncode, ran.stderr))
     long = convert(folder, hosts(18000, 55), [])
     size, taken = os.path.getsize(os.path.join(folder, "made.action")), re.search(r"behind (\d+) of 18000", long.stderr)
     if long.returncode != 3 or not 1048400 < size <= 1048576 or "--several" not in long.stderr or line in long.stderr or not taken:
