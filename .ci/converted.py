@@ -1,7 +1,8 @@
 #!/usr/bin/env python3
-"""Converts jobs and a small folder with tools/helmthread-from-privoxy, and compares with what was worked out by hand.
+"""Converts jobs and small folders with tools/helmthread-from-privoxy, and compares with what was worked out by hand.
 
-Usage: converted.py PROGRAM..   Each job that is made is loaded by the programs, too. Says which row failed, and ends with 1 then.
+Usage: converted.py PROGRAM..   Each job that is made is loaded by the programs, too, and so are lists that are over a limit, and what the
+manual's commands make for the service of the package. Says which row failed, and ends with 1 then.
 """
 import os
 import re
@@ -305,7 +306,7 @@ def main():
         for program in programs:
             loaded(program, folder, made, fail)
             service_row(folder, program, fail)
-    print("converted.py: %d jobs and a folder, %s" % (len(JOBS), "%d failed" % len(failures) if failures else "all as expected"))
+    print("converted.py: %d jobs and some folders, %s" % (len(JOBS), "%d failed" % len(failures) if failures else "all as expected"))
     return 1 if failures else 0
 
 

@@ -1,5 +1,5 @@
 #!/usr/bin/env python3
-"""Runs tools/helmthread-from-hosts over lists, loads what it makes with the built programs, and asks `show`.
+"""Runs tools/helmthread-from-hosts over lists and over sources that are none, loads what it makes with the built programs, and asks `show`.
 
 Usage: from_hosts.py PROGRAM..  Says which row failed, and ends with 1 then.
 """

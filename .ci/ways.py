@@ -138,10 +138,15 @@ def begin_loopback(folder):
     with socket.socket(socket.AF_INET, socket.SOCK_DGRAM) as it:
         up, running = 0x1, 0x40
         fcntl.ioctl(it, 0x8914, struct.pack("16sH14x", b"lo", up | running))
-    path = os.path.join(folder, "resolv.conf")
-    with open(path, "w", encoding="ascii") as file:
-        file.write("nameserver 127.0.0.1\noptions timeout:1 attempts:1\n")
-    subprocess.run(["mount", "--bind", path, "/etc/resolv.conf"], check=True)
+    texts = {
+        "/etc/resolv.conf": "nameserver 127.0.0.1\noptions timeout:1 attempts:1\n",
+        "/etc/nsswitch.conf": "hosts: files dns\n",
+    }
+    for place, text in texts.items():
+        path = os.path.join(folder, os.path.basename(place))
+        with open(path, "w", encoding="ascii") as file:
+            file.write(text)
+        subprocess.run(["mount", "--bind", path, place], check=True)
 
 
 def convert(folder, files):
