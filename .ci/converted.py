@@ -62,7 +62,7 @@ FOLDER = {
     "permit-access 192.168.1.0/24\ntrustfile trust\nenforce-blocks 0\naccept-intercepted-requests 0\nclient-specific-tag guest Of a guest\n"
     "templdir /etc/privoxy/own\nconnection-sharing 1\nforward .far/(?!x)y p.test\n",
     "my.action": "{{alias}}\nads = +block\n{ads}\n.a.test/x/(?!(?:.*/)?y)\n.b.test/z(?!w)\nhttp://c.test/\n{+hide-referrer{Block} "
-    "-hide-user-agent{x} +limit-connect{0-443} +add-header{Host: x} +nonsense}\n/caf\xe9\n",
+    "-hide-user-agent{x} +limit-connect{0-443} +add-header{Host: x} +nonsense}\n/caf\xe9\n{+limit-connect{https}}\n.p.test\n",
     "my.filter": "FILTER: one Gr\xfc\xdfe\ns/a/b/\ns/(?R)/x/\nFILTER: one\ns/a/c/\n",
 }
 # Lines of the files that are made, and words of the report.
@@ -80,7 +80,7 @@ HEADS = ["First: who is served, and by which way", "One line a kind", "No longer
 # Words that the report's first part has, and none of the others.
 FIRST = ["config:3: `actionsfile gone.action` is kept", "`listen-address 0.0.0.0:8119` became 127.0.0.1:8119", "`listen-address 192.168.1.2:8118`",
          "`forward-socks4a .i2p 127.0.0.1:4447 .` is kept, and `check` refuses it (29): SOCKS4", "`forward / me:secret@p.test:3128` is kept",
-         "`permit-access 192.168.1.0/24` has no effect", "`trustfile trust` has no effect", "`client-specific-tag guest`: no client of `serve` can carry",
+         "`+limit-connect{https}`: a value that isn't taken here", "`permit-access 192.168.1.0/24` has no effect", "`trustfile trust` has no effect", "`client-specific-tag guest`: no client of `serve` can carry",
          "`templdir /etc/privoxy/own`: Helmthread's pages", "/old/templates: Helmthread's pages"]
 # Lines of the second part, which is one line a kind, and words of the rest.
 KINDS = ["1 filters: 0 the same, 1 nearly the same, 0 nothing left", "without effect: `debug`, `logfile` (there is no log)",

@@ -389,9 +389,11 @@ class ActionsFile:
             if mended:
                 self.report.note(place, "`%s` became {%s}" % (shown(word), mended), NEW_VALUES)
                 return ["+%s{%s}" % (name, mended)]
-            self.report.leave(
-                place, "`%s`: a value that isn't taken here" % shown(word), ACTIONS_LEFT
-            )
+            why = "`%s`: a value that isn't taken here" % shown(word)
+            if rule == "ports":
+                self.report.way(place, why + "; without it tunnels may go to all ports")
+            else:
+                self.report.leave(place, why, ACTIONS_LEFT)
             return []
         return [word]
 
