@@ -1,5 +1,5 @@
 -- The addresses of a host, one behind the other.
-use Rattle.std.proofs.Common.{◌≡◌, ℕ, zero, suc, Result, Ok, Err, ◌+◌, ◌<◌, List, [], ◌∷◌, ◌++◌, length, take, slice_index_or, Some, sym, ap, subst, ◌∙◌, refl, arith, append_assoc}
+use Rattle.std.proofs.Common.{◌≡◌, ℕ, zero, suc, Result, Ok, Err, ◌<◌, List, [], ◌∷◌, ◌++◌, length, take, slice_index_or, Some, sym, ap, subst, ◌∙◌, refl, arith, append_assoc}
 use Rattle.std.specs.Prelude.{IfOk}
 use Rattle.std.specs.List.{Contains}
 use Rattle.std.specs.Net.Socket.{socket_ip, socket_port}

@@ -1,6 +1,4 @@
-use Rattle.std.proofs.Common.{◌∙◌, sym, subst}
 use Rattle.std.specs.Net.ToAddrs.{host_addrs}
-use Rattle.std.specs.List.{Contains}
 use Rattle.px_sockets.proofs.AddressLemmas.{none_before, one_more, among}
 use Rattle.px_sockets.proofs.listeners.bind_first.Goals as goal
 

@@ -1,4 +1,3 @@
-use Rattle.std.proofs.Common.{sym}
 use Rattle.px_sockets.specs.Bounds.{IsAddressOf}
 use Rattle.px_sockets.proofs.AddressLemmas.{address_of, holds_of}
 use Rattle.px_sockets.proofs.listeners.SocketListener.listen.Goals as goal
