@@ -115,24 +115,30 @@ fn bind_first(
 
 /// Takes connections at an address of this machine, and looks after those that end. Letting it go waits until all that ended are
 /// closed, for as long as the times say at most.
+#[derive(Drop)]
 pub struct SocketListener<'r> {
-    alloc: Global,
-    rt: &'r HostRuntime,
-    times: Times,
-    listener: TcpListener,
+    gate: Gate<'r>,
+    /// The address that was bound.
+    bound: SocketAddr,
     /// The host for which it listens.
     pub host: Text,
     /// The port for which it listens; 0 is any that is free.
     pub asked: u16,
-    /// The address that was bound.
-    bound: SocketAddr,
+    /// The port at which it listens: for port 0 the one that was free.
+    pub port: u16,
+}
+
+/// What listens, and the connections that it gave. Letting it go waits for those that ended.
+struct Gate<'r> {
+    alloc: Global,
+    rt: &'r HostRuntime,
+    times: Times,
+    listener: TcpListener,
     /// A second handle of the listener, by which its waits are bounded.
     handle: TcpStream,
     /// How long one accept of the system waits; none waits for good.
     wait: Option<Duration>,
     guests: Guests,
-    /// The port at which it listens: for port 0 the one that was free.
-    pub port: u16,
 }
 
 /// What becomes of an accept that failed.
@@ -224,16 +230,18 @@ impl<'r> SocketListener<'r> {
         let second = listener.try_clone();
         match (listener.local_addr(), second) {
             (Ok(address), Ok(second)) => Ok(SocketListener {
-                alloc,
-                rt,
-                times,
-                listener,
+                gate: Gate {
+                    alloc,
+                    rt,
+                    times,
+                    listener,
+                    handle: TcpStream::from(OwnedFd::from(second)),
+                    wait: None,
+                    guests: Guests::new(alloc),
+                },
+                bound,
                 host,
                 asked,
-                bound,
-                handle: TcpStream::from(OwnedFd::from(second)),
-                wait: None,
-                guests: Guests::new(alloc),
                 port: address.port(),
             }),
             (Err(error), _) | (_, Err(error)) => Err(listen_fault(&error)),
@@ -245,6 +253,18 @@ impl<'r> SocketListener<'r> {
     /// again, for as long as the times say. At a refusal the connection is closed. While it waits, it looks after connections that
     /// ended: what their clients still send is thrown away before they are closed.
     pub fn accept(&mut self, mark: u64) -> Result<Caller<'r>, CallerFault>
+        ensures new { IfOk result (λ caller. AreNew mark (⟦<SocketSource<'r> as Source>⟧.state caller.client_in) (⟦<SocketSink<'r> as Sink>⟧.state caller.client_out)) }
+        ensures host_same { self.new.host ≡ self.old.host }
+        ensures asked_same { self.new.asked ≡ self.old.asked }
+        ensures bound_same { self.new.bound ≡ self.old.bound }
+    {
+        self.gate.accept(mark)
+    }
+}
+
+impl<'r> Gate<'r> {
+    /// The next connection, as the listener gives it.
+    fn accept(&mut self, mark: u64) -> Result<Caller<'r>, CallerFault>
         ensures { IfOk result (λ caller. AreNew mark (⟦<SocketSource<'r> as Source>⟧.state caller.client_in) (⟦<SocketSink<'r> as Sink>⟧.state caller.client_out)) }
     {
         if self.guests.make_room().is_err() {
@@ -325,20 +345,16 @@ impl<'r> SocketListener<'r> {
     }
 }
 
-impl Drop for SocketListener<'_> {
+impl Drop for Gate<'_> {
     fn drop(self) {
-        let SocketListener {
+        let Gate {
             alloc: _,
             rt,
             times,
             listener: _,
-            host: _,
-            asked: _,
-            bound: _,
             handle: _,
             wait: _,
             guests,
-            port: _,
         } = self;
         guests.see_out(rt, times.linger);
     }
