@@ -11,7 +11,7 @@ mod resting;
 mod shelves;
 
 pub use bases::{Anew, Base};
-pub use histories::History;
+pub use histories::{History, Past};
 pub use laws::marks_are_one;
 pub use pools::LinkPool;
 pub use resting::{Look, Sees};

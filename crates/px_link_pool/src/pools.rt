@@ -77,6 +77,13 @@ impl<D: LocalDialer, N: Base> LinkPool<D, N> {
         self.wanting
     }
 
+    /// What was dialled and hung up so far. It takes no bytes.
+    pub fn history(&self) -> Snapshot<Past<D::In, D::Out>>
+        ensures { result.value ≡ self.now.history }
+    {
+        Snapshot::of(&self.history)
+    }
+
     /// Hangs up the kept links, the oldest first, and hands the inner dialer back.
     pub fn into_inner(self) -> D
         ensures joined { IsTrue (D.state self.inner).tells → (D.state result).dials ≡ inner_at_end N.dialled (record { ins = D.In.state; outs = D.Out.state }) self.history }

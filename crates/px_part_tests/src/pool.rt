@@ -118,6 +118,41 @@ fn hosts_and_ports_are_kept_apart(rt: HostRuntime) {
     same(&rt, pool.into_inner().links().len(), 1);
 }
 
+#[test]
+fn a_link_kept_for_one_port_is_none_of_another(rt: HostRuntime) {
+    let alloc = rt.alloc();
+    let bytes = two_answers(&rt, alloc);
+    let mut answers = List::new(alloc);
+    add_link(&rt, alloc, &mut answers, bytes.as_bytes(), &[40, 40], &[]);
+    add_link(&rt, alloc, &mut answers, ANSWER.as_bytes(), &[], &[]);
+    let dialer = MemDialer::new(alloc, answers).expect(&rt, "memory");
+    let mut pool = LinkPool::<MemDialer>::new(alloc, dialer);
+    same(&rt, visit(&mut pool, "a.test", 8080, CLOSES), Some(40));
+    same(&rt, visit(&mut pool, "a.test", 80, CLOSES), Some(40));
+    same(&rt, visit(&mut pool, "a.test", 8080, CLOSES), Some(40));
+    let dialer = pool.into_inner();
+    same(&rt, dialer.links().len(), 2);
+    for link in dialer.links() {
+        let requests = if link.port == 8080 { 2 } else { 1 };
+        was_shared(&rt, link, ANSWER.len().saturating_mul(requests), requests);
+    }
+}
+
+#[test]
+fn a_pool_at_rest_keeps_none(rt: HostRuntime) {
+    let alloc = rt.alloc();
+    let bytes = two_answers(&rt, alloc);
+    let mut pool = over_one(&rt, alloc, bytes.as_bytes(), &[40, 40]);
+    same(&rt, visit(&mut pool, "a.test", 80, CLOSES), Some(40));
+    pool.rest();
+    same(&rt, visit(&mut pool, "a.test", 80, CLOSES), None);
+    let dialer = pool.into_inner();
+    same(&rt, dialer.links().len(), 1);
+    for link in dialer.links() {
+        was_shared(&rt, link, 40, 1);
+    }
+}
+
 /// Whether a second dial finds the link kept, where the first one sent that request and heard that answer.
 fn is_kept(rt: &impl Abort, alloc: Global, request: &str, answer: &str) -> bool {
     let mut pool = over_one(rt, alloc, answer.as_bytes(), &[]);
