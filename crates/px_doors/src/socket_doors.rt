@@ -3,6 +3,7 @@ ghost use Rattle.std.specs.Prelude.{◌≡◌, IfOk, None, option_map};
 ghost use Rattle.px_sockets.specs.Untold.{AreNew};
 ghost use Rattle.px_doors.specs.Conns.{parted_as};
 ghost use Rattle.px_doors.specs.Doors.{DoorsGoesOn, Parts, untold_doors};
+ghost use Rattle.px_doors.specs.SocketDoors.{told_by};
 
 use crate::{AcceptFault, Conn, Doors, ListenAddress, Parted};
 use px_base::{Clock, Dialer, Failed, Sink, Source, SystemClock, as_text};
@@ -39,7 +40,6 @@ pub struct SocketDoors<'r> {
     rt: &'r HostRuntime,
     times: Times,
     listener: Option<SocketListener<'r>>,
-    listens_at: Option<ListenAddress>,
     accepted: u64,
     faults: u64,
 }
@@ -54,7 +54,6 @@ impl<'r> SocketDoors<'r> {
             rt,
             times,
             listener: None,
-            listens_at: None,
             accepted: 0,
             faults: 0,
         }
@@ -106,7 +105,8 @@ fn next_caller<'r>(
     listener: &mut Option<SocketListener<'r>>,
     mark: u64,
 ) -> Result<Caller<'r>, CallerFault>
-    ensures { IfOk result (λ caller. AreNew mark (⟦<SocketSource<'r> as Source>⟧.state caller.client_in) (⟦<SocketSink<'r> as Sink>⟧.state caller.client_out)) }
+    ensures new { IfOk result (λ caller. AreNew mark (⟦<SocketSource<'r> as Source>⟧.state caller.client_in) (⟦<SocketSink<'r> as Sink>⟧.state caller.client_out)) }
+    ensures told_same { told_by listener.new ≡ told_by listener.old }
 {
     match listener {
         Some(listener) => listener.accept(mark),
@@ -123,7 +123,7 @@ impl<'r> Doors for SocketDoors<'r> {
 
     type Time = SystemClock<'r, HostRuntime>;
 
-    ghost state = { λ d. untold_doors d.listens_at d.accepted d.faults };
+    ghost state = { λ d. untold_doors (told_by d.listener) d.accepted d.faults };
 
     fn listen(&mut self, address: ListenAddress) -> Result<(), Failed> {
         let host = address.host.as_bytes();
@@ -131,7 +131,6 @@ impl<'r> Doors for SocketDoors<'r> {
             Ok(listener) => {
                 tell_listening(self.rt, &address);
                 self.listener = Some(listener);
-                self.listens_at = Some(address);
                 Ok(())
             }
             Err(fault) => {
@@ -170,6 +169,15 @@ impl<'r> Doors for SocketDoors<'r> {
             Err(CallerFault::Mem) => Err(AcceptFault::Mem),
         }
     }
+
+    /// The client's socket is left to the doors' listener, which closes it when its client has had the time to read to the end.
+    fn leave(client_in: &mut SocketSource<'r>, client_out: &mut SocketSink<'r>) {
+        client_in.close();
+        client_out.close();
+    }
+
+    /// It keeps none.
+    fn rest(_dialer: &mut SocksDialer<SocketDialer<'r>>) {}
 
     fn part(&mut self, parted: SocketParted<'r>)
         ensures parts { Parts (⟦<SocketDoors<'r> as Doors>⟧.state self.old) (⟦<SocketDoors<'r> as Doors>⟧.state self.new) (parted_as ⟦<SocketSource<'r> as Source>⟧.state ⟦<SocketSink<'r> as Sink>⟧.state ⟦<SocksDialer<SocketDialer<'r>> as Dialer>⟧.state ⟦<SystemClock<'r, HostRuntime> as Clock>⟧.state parted.entry) }
