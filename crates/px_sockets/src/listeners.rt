@@ -89,11 +89,7 @@ fn bind_loopback(rt: &HostRuntime, address: SocketAddr) -> io::Result<Bound>
 }
 
 /// Binds the first of these addresses that has that port, is one of this machine alone and can be bound.
-fn bind_first(
-    rt: &HostRuntime,
-    mut addresses: HostAddrs,
-    port: u16,
-) -> Result<Bound, ListenFault>
+fn bind_first(rt: &HostRuntime, mut addresses: HostAddrs, port: u16) -> Result<Bound, ListenFault>
     ensures here { IfOk result (λ bound. IsLoopback bound.address) }
     ensures port { IfOk result (λ bound. socket_port bound.address ≡ port) }
     ensures among { IfOk result (λ bound. Contains (host_addrs addresses) bound.address) }
