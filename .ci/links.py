@@ -30,7 +30,7 @@ PIECE_LEAST, PIECE_MOST = 12, 25
 # So many requests before each server, so many of them on a connection, and the seconds between them. Where a server does something at a
 # moment behind its answer (`origins`), no request is near to that moment: who is late by more than LATE waits for BEHIND first.
 MANY, EACH = 1000, 50
-ANY = (0, 0.06, 0.005, 0.03, 0, 0.01, 0.06, 0.02, 0.04, 0.001)
+ANY = (0, 0.06, 0.005, 0.03, 0.015, 0.01, 0.06, 0.02, 0.04, 0.008)
 AROUND_REST = (0, 0.06, 0.005, 0.06, 0, 0.01, 0.06, 0.015, 0.06, 0.001)
 AROUND_LATE_ANSWER = (0, 0.06, 0, 0.045, 0, 0.002, 0.06, 0.05, 0.04, 0.001)
 LATE, BEHIND = 0.008, 0.06
@@ -42,9 +42,9 @@ AROUND_A_FIFTH = ANY * 2 + (0.3,)
 PLAIN = (
     ("a server that keeps its links", origins.keeps, ANY, 0, MANY // EACH, MANY // EACH),
     ("a server that closes behind each answer", origins.closes, ANY, 10, MANY - 10, MANY),
-    ("a server that closes links at rest", origins.closes_at_rest, AROUND_REST, 0, MANY // 3, 4 * MANY // 5),
-    ("a server that answers late and closes", origins.answers_late_and_closes, AROUND_LATE_ANSWER, 0, MANY // 3, 4 * MANY // 5),
-    ("a server that answers late and keeps the link", origins.answers_late_and_keeps, AROUND_LATE_ANSWER, 0, MANY // 3, 4 * MANY // 5),
+    ("a server that closes links at rest", origins.closes_at_rest, AROUND_REST, 0, MANY // 3, 9 * MANY // 10),
+    ("a server that answers late and closes", origins.answers_late_and_closes, AROUND_LATE_ANSWER, 0, MANY // 3, 9 * MANY // 10),
+    ("a server that answers late and keeps the link", origins.answers_late_and_keeps, AROUND_LATE_ANSWER, 0, MANY // 3, 9 * MANY // 10),
     ("a server that closes slowly", origins.closes_slowly, ANY, 0, MANY, MANY),
 )
 REAL = (("nginx", AROUND_A_SECOND, MANY // 7, MANY // 4), ("haproxy", AROUND_A_FIFTH, MANY // EACH, MANY // 4))
