@@ -31,6 +31,7 @@ PIECE_LEAST, PIECE_MOST = 12, 25
 # moment behind its answer (`origins`), no request is near to that moment: who is late by more than LATE waits for BEHIND first.
 MANY, EACH = 1000, 50
 ANY = (0, 0.06, 0.005, 0.03, 0.015, 0.01, 0.06, 0.02, 0.04, 0.008)
+SELDOM_AT_ONCE = ANY + ANY[1:]
 AROUND_REST = (0, 0.06, 0.005, 0.06, 0, 0.01, 0.06, 0.015, 0.06, 0.001)
 AROUND_LATE_ANSWER = (0, 0.06, 0, 0.045, 0, 0.002, 0.06, 0.05, 0.04, 0.001)
 LATE, BEHIND = 0.008, 0.06
@@ -41,7 +42,7 @@ AROUND_A_FIFTH = ANY * 2 + (0.3,)
 # very moment in which its link is lent), and how many links there are at least and at most.
 PLAIN = (
     ("a server that keeps its links", origins.keeps, ANY, 0, MANY // EACH, MANY // EACH),
-    ("a server that closes behind each answer", origins.closes, ANY, 10, MANY - 10, MANY),
+    ("a server that closes behind each answer", origins.closes, SELDOM_AT_ONCE, 10, MANY - 10, MANY),
     ("a server that closes links at rest", origins.closes_at_rest, AROUND_REST, 0, MANY // 3, 9 * MANY // 10),
     ("a server that answers late and closes", origins.answers_late_and_closes, AROUND_LATE_ANSWER, 0, MANY // 3, 9 * MANY // 10),
     ("a server that answers late and keeps the link", origins.answers_late_and_keeps, AROUND_LATE_ANSWER, 0, MANY // 3, 9 * MANY // 10),
