@@ -9,6 +9,7 @@ import http.client
 import http.server
 import os
 import resource
+import select
 import shutil
 import socket
 import subprocess
@@ -292,35 +293,57 @@ def idle_clients(program):
             check("a client that sends byte by byte is let go", ended_after(link, 50, 70, b"GET http://127.0.0.1/ HTTP/1.1"))
 
 
+def descriptors_of(process):
+    """The numbers of a process's descriptors."""
+    return {int(name) for name in os.listdir("/proc/%d/fd" % process.pid)}
+
+
+def leave_no_descriptor(process):
+    """Allows a process no descriptor beside those below the first free number, and gives what it was allowed before."""
+    used = descriptors_of(process)
+    before = resource.prlimit(process.pid, resource.RLIMIT_NOFILE)
+    resource.prlimit(process.pid, resource.RLIMIT_NOFILE, (min(set(range(len(used) + 1)) - used), before[1]))
+    return before
+
+
+def up_to_unanswered(port):
+    """Clients that ask and rest, up to the first one that isn't answered in two seconds: an accept that waits has its descriptor already."""
+    clients = []
+    for _ in range(5):
+        clients.append(socket.create_connection(("127.0.0.1", port), timeout=WAIT))
+        clients[-1].sendall(b"GET http://ad.test/ HTTP/1.1\r\nHost: ad.test\r\n\r\n")
+        if not select.select(clients[-1:], [], [], 2)[0]:
+            return clients
+    check("without descriptors a client that isn't answered is expected, and %d are answered" % len(clients), False)
+    return clients
+
+
 def without_descriptors(program):
     """No descriptor is left for a connection: it is accepted once there is one. What lasts for ten seconds ends the proxy."""
-    asked = b"GET http://ad.test/ HTTP/1.1\r\nConnection: close\r\n\r\n"
     with running(program, "actionsfile u.action\n", stderr=subprocess.DEVNULL) as (port, proxy):
-        raw(port, asked)
         time.sleep(1)
-        used = len(os.listdir("/proc/%d/fd" % proxy.pid))
-        most = resource.prlimit(proxy.pid, resource.RLIMIT_NOFILE)
-        resource.prlimit(proxy.pid, resource.RLIMIT_NOFILE, (used, most[1]))
-        raw(port, asked)
-        with socket.create_connection(("127.0.0.1", port), timeout=WAIT) as link:
-            link.sendall(asked)
-            time.sleep(2)
-            resource.prlimit(proxy.pid, resource.RLIMIT_NOFILE, most)
-            check("a connection waits for a descriptor", read_all(link).startswith(b"HTTP/1.1 403"))
+        before = leave_no_descriptor(proxy)
+        clients = up_to_unanswered(port)
+        resource.prlimit(proxy.pid, resource.RLIMIT_NOFILE, before)
+        check("a connection waits for a descriptor", clients[-1].recv(65536).startswith(b"HTTP/1.1 403"))
+        for client in clients:
+            client.close()
         time.sleep(1)
-        resource.prlimit(proxy.pid, resource.RLIMIT_NOFILE, (used, most[1]))
-        raw(port, asked)
+        leave_no_descriptor(proxy)
+        clients = up_to_unanswered(port)
         began = time.monotonic()
         check("without descriptors the proxy ends", proxy.wait(timeout=WAIT) == 7)
-        check("but not at once", time.monotonic() - began > 8)
+        check("but not at once", time.monotonic() - began > 6)
+        for client in clients:
+            client.close()
 
 
 def sockets_of(process):
     """How many sockets a process has beside the one at which it listens."""
     found = set()
-    for name in os.listdir("/proc/%d/fd" % process.pid):
+    for number in descriptors_of(process):
         with contextlib.suppress(OSError):
-            found.add(os.readlink("/proc/%d/fd/%s" % (process.pid, name)))
+            found.add(os.readlink("/proc/%d/fd/%d" % (process.pid, number)))
     return sum(it.startswith("socket:") for it in found) - 1
 
 
