@@ -3,7 +3,7 @@ ghost use Rattle.std.specs.Prelude.{◌≡◌, IfOk, None, option_map};
 ghost use Rattle.px_sockets.specs.Untold.{AreNew};
 ghost use Rattle.px_doors.specs.Conns.{parted_as};
 ghost use Rattle.px_doors.specs.Doors.{DoorsGoesOn, Parts, untold_doors};
-ghost use Rattle.px_doors.specs.SocketDoors.{told_by};
+ghost use Rattle.px_doors.specs.SocketDoors.{told_address};
 
 use crate::{AcceptFault, Conn, Doors, ListenAddress, Parted};
 use px_base::{Clock, Dialer, Failed, Sink, Source, SystemClock, as_text};
@@ -106,7 +106,7 @@ fn next_caller<'r>(
     mark: u64,
 ) -> Result<Caller<'r>, CallerFault>
     ensures new { IfOk result (λ caller. AreNew mark (⟦<SocketSource<'r> as Source>⟧.state caller.client_in) (⟦<SocketSink<'r> as Sink>⟧.state caller.client_out)) }
-    ensures told_same { told_by listener.new ≡ told_by listener.old }
+    ensures told_same { told_address listener.new ≡ told_address listener.old }
 {
     match listener {
         Some(listener) => listener.accept(mark),
@@ -123,7 +123,7 @@ impl<'r> Doors for SocketDoors<'r> {
 
     type Time = SystemClock<'r, HostRuntime>;
 
-    ghost state = { λ d. untold_doors (told_by d.listener) d.accepted d.faults };
+    ghost state = { λ d. untold_doors (told_address d.listener) d.accepted d.faults };
 
     fn listen(&mut self, address: ListenAddress) -> Result<(), Failed> {
         let host = address.host.as_bytes();

@@ -13,7 +13,7 @@ use Rattle.px_pool_ends.specs.Names.{Passed, passed_so_far, lent_mark}
 use Rattle.px_pool_ends.specs.Closings.{IsImage, replaced, as_it_is}
 use Rattle.px_pool_ends.specs.declared.steps.Step.{Step}
 use Rattle.px_pool_ends.specs.Steps.{SendingSteps, Decides, unfinished, replaces, passes}
-use Rattle.px_pool_ends.specs.Outgoings.{Sending, last_refusal, pending, taken_and_pending, behind_head, written_bytes, image, outer_sink, KeepsSending, IsSent, SendsBytes, EndsBehind, StopCause, Wrote}
+use Rattle.px_pool_ends.specs.Outgoings.{Sending, last_refusal, pending, taken_and_pending, behind_head, written_bytes, image, outer_sink, KeepsSending, IsSent, SendsBytes, FinishesBehind, StopCause, Wrote}
 use Rattle.px_pool_ends.proofs.HeadLemmas.{none_in_none, no_closing}
 
 open_before : (a b : Bool) → (IsTrue a → IsTrue b) → b ≡ false → a ≡ false
@@ -161,7 +161,7 @@ nothing_behind begun out taken at z e =
 image_open : (s : Sending) → KeepsSending s → IsTrue s.sink.tells → s.finished ≡ false → IsImage (written_bytes s) (image s) s.replaced
 image_open s k tells still = image_of s.finished s.holding s.replaced s.head s.out (behind_head s) k.decides (λ h. (nothing_behind s.begun.taken s.out s.sink.taken s.at (k.none_sent h) (k.none_taken h tells)).1) still
 
-pub keeps_ended : (s : Sending) (fin : SinkState) (to : ℕ) (stopped : Option SinkFault) → KeepsSending s → s.finished ≡ false → EndsBehind s.sink fin s.out s.at to → (stopped ≡ None → to ≡ length s.out) → (stopped ≡ Some fault.Failed → Rose s.begun.faults fin.faults) → (stopped ≡ None → s.faults ≡ 0 → fin.faults ≡ s.begun.faults)
+pub keeps_ended : (s : Sending) (fin : SinkState) (to : ℕ) (stopped : Option SinkFault) → KeepsSending s → s.finished ≡ false → FinishesBehind s.sink fin s.out s.at to → (stopped ≡ None → to ≡ length s.out) → (stopped ≡ Some fault.Failed → Rose s.begun.faults fin.faults) → (stopped ≡ None → s.faults ≡ 0 → fin.faults ≡ s.begun.faults)
     → KeepsSending (record { sink = fin; begun = s.begun; begun_in = s.begun_in; host = s.host; port = s.port; head = s.head; out = s.out; at = to; holding = false; replaced = s.replaced; method = s.method; stopped = stopped; faults = s.faults; finished = true })
 keeps_ended s fin to stopped k still h all rose clean = record {
   within = h.within;

@@ -121,7 +121,7 @@ pub record SendsBytes (old new : SinkState) (bytes : List ℕ) (from to : ℕ) :
   pub goes_on : SinkGoesOn old new
 
 -- bytes are sent in order, up to a place, and then the end is said
-pub record EndsBehind (old new : SinkState) (bytes : List ℕ) (from to : ℕ) : Type 0 where
+pub record FinishesBehind (old new : SinkState) (bytes : List ℕ) (from to : ℕ) : Type 0 where
   pub within : to ≤ length bytes
   pub joined : IsTrue old.tells → new.taken ++ drop to bytes ≡ old.taken ++ drop from bytes
   pub finished : IsTrue old.tells → IsTrue new.finished

@@ -3,7 +3,7 @@ ghost use Rattle.std.specs.Prelude.{◌≡◌, ◌==◌, not, ◌<◌, ◌≤◌
 ghost use Rattle.px_base.specs.Causes.{Rose};
 ghost use Rattle.px_base.specs.Sinks.{SinkState, SinkCause, Finishes, SinkGoesOn};
 ghost use Rattle.px_pool_ends.specs.Closings.{IsMethodOf};
-ghost use Rattle.px_pool_ends.specs.Outgoings.{Sending, outer_sink, last_refusal as last_refusal_spec, SendsBytes, EndsBehind, StopCause, Wrote, IsSent};
+ghost use Rattle.px_pool_ends.specs.Outgoings.{Sending, outer_sink, last_refusal as last_refusal_spec, SendsBytes, FinishesBehind, StopCause, Wrote, IsSent};
 
 use crate::steps::{Step, step_on};
 use px_base::{LocalSink, LocalSource, Sink, SinkFault, Source, Text};
@@ -63,7 +63,7 @@ fn send<O: LocalSink>(sink: &mut O, bytes: &[u8], at: &mut usize) -> Result<(), 
 fn send_last<O: LocalSink>(sink: &mut O, bytes: &[u8], at: &mut usize) -> Result<(), SinkFault>
     requires within { at.old ≤ length bytes.now }
     requires open { (O.state sink.old).finished ≡ false }
-    ensures ends { EndsBehind (O.state sink.old) (O.state sink.new) bytes.now at.old at.new }
+    ensures ends { FinishesBehind (O.state sink.old) (O.state sink.new) bytes.now at.old at.new }
     ensures all { OnOk result (at.new ≡ length bytes.now) }
     ensures cause { StopCause (O.state sink.old) (O.state sink.new) result }
 {
