@@ -15,6 +15,7 @@ import subprocess
 import sys
 import tempfile
 import time
+from pathlib import Path
 
 ROOT = os.path.dirname(os.path.dirname(os.path.dirname(os.path.abspath(__file__))))
 FIELDS = """Host: www.example.com
@@ -50,14 +51,24 @@ def allocations(program, words, given=b""):
     return int(re.search(r"total heap usage: ([\d,]+) allocs", said)[1].replace(",", ""))
 
 
-def session(folder, requests, answer=PLAIN, more=0, config=os.path.join(ROOT, "conf", "config")):
-    """The words of `pass` and its input: so many requests on one connection, each with so many fields more."""
+def with_own_links(folder):
+    """The main file of conf/, but that each request makes a link of its own: here an entry of ORIGIN has one answer."""
+    conf = os.path.join(ROOT, "conf")
+    text = Path(conf, "config").read_text(encoding="utf-8")
+    main = Path(folder, "main")
+    main.write_text(f"{text}\nconfdir {conf}\nlink-reuse 0\n", encoding="utf-8")
+    return str(main)
+
+
+def session(folder, requests, answer=PLAIN, more=0, config=None):
+    """The words of `pass` and its input: so many requests on one connection, each with so many fields more; under conf/ where no
+    configuration is given."""
     origin = os.path.join(folder, "origin")
     with open(origin, "wb") as file:
         file.write((b"%d\n" % len(answer) + answer) * requests)
     fields = [*FIELDS, *(f"X-Field-{number}: a value of some length" for number in range(more))]
     heads = ("\r\n".join([f"GET http://www.example.com/page/{number} HTTP/1.1", *fields, "", ""]) for number in range(requests))
-    return ["pass", config, origin, os.path.join(folder, "sent")], "".join(heads).encode()
+    return ["pass", config or with_own_links(folder), origin, os.path.join(folder, "sent")], "".join(heads).encode()
 
 
 def chunked(many):
