@@ -14,5 +14,5 @@ pub use bases::{Anew, Base};
 pub use histories::{History, Past};
 pub use laws::marks_are_one;
 pub use pools::LinkPool;
-pub use resting::{Look, Sees};
+pub use resting::{LocalSees, Look, Sees};
 pub use shelves::{KeptLink, Shelf};

@@ -10,7 +10,7 @@ use px_base::{LocalDialer, LocalSource, Rests};
 
 /// How a pool looks at the source of a kept link. It is a trait of the look and not of the source: the checker would take the
 /// local source of a bound on a dialer's source for another one than the dialer's.
-pub trait Sees<S: LocalSource> {
+pub trait Sees<S: LocalSource>: Send {
     /// Whether the link can't be used again. A source that tells its bytes has never ended so, and stays what it is.
     fn has_ended(source: &mut S) -> bool
         ensures told { IsTrue (S.state source.old).tells → (result ≡ false) × (source.new ≡ source.old) }
@@ -26,13 +26,26 @@ impl<S: Rests> Sees<S> for Look {
     }
 }
 
+/// The look as one thread knows it: `Sees` without `Send`.
+pub trait LocalSees<S: LocalSource> {
+    fn has_ended(source: &mut S) -> bool
+        ensures told { IsTrue (S.state source.old).tells → (result ≡ false) × (source.new ≡ source.old) }
+        ensures goes_on { SourceGoesOn (S.state source.old) (S.state source.new) };
+}
+
+impl<S: LocalSource, L: Sees<S>> LocalSees<S> for L {
+    fn has_ended(source: &mut S) -> bool {
+        <L as Sees<S>>::has_ended(source)
+    }
+}
+
 /// The link, if it can be used again. One that has ended is hung up.
 fn look_at<D: LocalDialer>(
     inner: &mut D,
     link: KeptLink<D::In, D::Out>,
 ) -> Option<KeptLink<D::In, D::Out>>
 where
-    Look: Sees<D::In>,
+    Look: LocalSees<D::In>,
     requires told { IsTrue (D.state inner.old).tells → IsTrue (D.In.state link.source).tells }
     requires ready { IsTrue (is_ready (kept_state D.In.state D.Out.state link)) }
     ensures same_link { IsTrue (D.state inner.old).tells → result ≡ Some link }
@@ -51,7 +64,7 @@ where
         host,
         port,
     } = link;
-    if Look::has_ended(&mut source) {
+    if <Look as LocalSees<D::In>>::has_ended(&mut source) {
         inner.hang_up(source, sink);
         None
     } else {
@@ -75,7 +88,7 @@ pub fn take_resting<D: LocalDialer>(
     Option<KeptLink<D::In, D::Out>>,
 )
 where
-    Look: Sees<D::In>,
+    Look: LocalSees<D::In>,
     requires told { IsTrue (D.state inner.old).tells → IsTrue (are_told (kept_states D.In.state D.Out.state (items shelf))) }
     requires ready { IsTrue (are_ready (kept_states D.In.state D.Out.state (items shelf))) }
     ensures taken { IsTrue (D.state inner.old).tells → result.1 ≡ find (is_at host.now port) (items shelf) }
