@@ -6,13 +6,13 @@ use std::alloc::Global;
 use std::process::Abort;
 
 /// A request that asks to close its link.
-const CLOSES: &str = "GET / HTTP/1.1\r\nHost: a.test\r\nConnection: close\r\n\r\n";
+pub(crate) const CLOSES: &str = "GET / HTTP/1.1\r\nHost: a.test\r\nConnection: close\r\n\r\n";
 
 /// The same as it goes out over a shared link.
 const STAYS: &str = "GET / HTTP/1.1\r\nHost: a.test\r\nConnection: keep-alive\r\n\r\n";
 
 /// An answer of 40 bytes.
-const ANSWER: &str = "HTTP/1.1 200 OK\r\nContent-Length: 2\r\n\r\nhi";
+pub(crate) const ANSWER: &str = "HTTP/1.1 200 OK\r\nContent-Length: 2\r\n\r\nhi";
 
 /// Adds a link of those bytes, which come in those cuts, and whose sink fails in those writes.
 fn add_link(
@@ -43,7 +43,12 @@ fn over_one(rt: &impl Abort, alloc: Global, bytes: &[u8], cuts: &[usize]) -> Lin
 }
 
 /// Dials, sends the request, reads once, and hangs up. Gives how many bytes were heard, and `None` where no link was had.
-fn visit<D: Dialer>(dialer: &mut D, host: &str, port: u16, request: &str) -> Option<usize> {
+pub(crate) fn visit<D: Dialer>(
+    dialer: &mut D,
+    host: &str,
+    port: u16,
+    request: &str,
+) -> Option<usize> {
     match dialer.dial(host.as_bytes(), port) {
         Ok((mut link_in, mut link_out)) => {
             let sent = write_all(&mut link_out, request.as_bytes());
