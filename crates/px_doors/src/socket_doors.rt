@@ -1,7 +1,8 @@
 // Doors over TCP.
 ghost use Rattle.std.specs.Prelude.{◌≡◌, IfOk, None, option_map};
 ghost use Rattle.px_sockets.specs.Untold.{AreNew};
-ghost use Rattle.px_doors.specs.Conns.{parted_as};
+ghost use Rattle.px_sockets.specs.Bounds.{IsAddressText};
+ghost use Rattle.px_doors.specs.Conns.{parted_as, conn_as, IsFreshConn, HasMark};
 ghost use Rattle.px_doors.specs.Doors.{DoorsGoesOn, Parts, untold_doors};
 ghost use Rattle.px_doors.specs.SocketDoors.{told_address};
 
@@ -106,11 +107,40 @@ fn next_caller<'r>(
     mark: u64,
 ) -> Result<Caller<'r>, CallerFault>
     ensures new { IfOk result (λ caller. AreNew mark (⟦<SocketSource<'r> as Source>⟧.state caller.client_in) (⟦<SocketSink<'r> as Sink>⟧.state caller.client_out)) }
+    ensures peer { IfOk result (λ caller. IsAddressText caller.peer.address) }
     ensures told_same { told_address listener.new ≡ told_address listener.old }
 {
     match listener {
         Some(listener) => listener.accept(mark),
         None => Err(CallerFault::Failed),
+    }
+}
+
+/// The connection of a caller: its dialer goes through SOCKS servers where a host is a dial name, and has its mark.
+fn conn_of<'r>(
+    alloc: Global,
+    rt: &'r HostRuntime,
+    times: Times,
+    caller: Caller<'r>,
+    mark: u64,
+) -> SocketConn<'r>
+    requires new { AreNew mark (⟦<SocketSource<'r> as Source>⟧.state caller.client_in) (⟦<SocketSink<'r> as Sink>⟧.state caller.client_out) }
+    ensures fresh { IsFreshConn (conn_as ⟦<SocketSource<'r> as Source>⟧.state ⟦<SocketSink<'r> as Sink>⟧.state ⟦<SocksDialer<SocketDialer<'r>> as Dialer>⟧.state ⟦<SystemClock<'r, HostRuntime> as Clock>⟧.state result) }
+    ensures mark { HasMark mark (conn_as ⟦<SocketSource<'r> as Source>⟧.state ⟦<SocketSink<'r> as Sink>⟧.state ⟦<SocksDialer<SocketDialer<'r>> as Dialer>⟧.state ⟦<SystemClock<'r, HostRuntime> as Clock>⟧.state result) }
+    ensures peer { result.peer.address ≡ caller.entry.peer.address }
+{
+    let Caller {
+        client_in,
+        client_out,
+        peer,
+    } = caller;
+    let dialer = SocketDialer::of_client(alloc, rt, times, &client_in, mark);
+    Conn {
+        client_in,
+        client_out,
+        dialer: SocksDialer::new(alloc, dialer),
+        clock: SystemClock::new(rt),
+        peer,
     }
 }
 
@@ -145,20 +175,7 @@ impl<'r> Doors for SocketDoors<'r> {
     fn accept(&mut self) -> Result<Option<SocketConn<'r>>, AcceptFault> {
         match next_caller(&mut self.listener, self.accepted) {
             Ok(caller) => {
-                let dialer = SocketDialer::of_client(
-                    self.alloc,
-                    self.rt,
-                    self.times,
-                    &caller.client_in,
-                    self.accepted,
-                );
-                let conn = Conn {
-                    client_in: caller.client_in,
-                    client_out: caller.client_out,
-                    dialer: SocksDialer::new(self.alloc, dialer),
-                    clock: SystemClock::new(self.rt),
-                    peer: caller.peer,
-                };
+                let conn = conn_of(self.alloc, self.rt, self.times, caller, self.accepted);
                 self.accepted += 1;
                 Ok(Some(conn))
             }

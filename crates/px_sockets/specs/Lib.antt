@@ -1,3 +1,4 @@
 pub mod Untold
 pub mod Bounds
 pub mod Tried
+pub mod Guests

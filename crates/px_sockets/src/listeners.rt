@@ -5,7 +5,7 @@ ghost use Rattle.std.specs.Net.Text.{ip_text};
 ghost use Rattle.std.specs.Str.{is_utf8};
 ghost use Rattle.std.specs.Net.Socket.{socket_port};
 ghost use Rattle.std.specs.Net.ToAddrs.{host_addrs};
-ghost use Rattle.px_sockets.specs.Bounds.{IsLoopback, IsAddressOf};
+ghost use Rattle.px_sockets.specs.Bounds.{IsLoopback, IsAddressOf, IsAddressText};
 ghost use Rattle.px_sockets.specs.Untold.{AreNew};
 
 use crate::ends::EndsFault;
@@ -250,6 +250,7 @@ impl<'r> SocketListener<'r> {
     /// ended: what their clients still send is thrown away before they are closed.
     pub fn accept(&mut self, mark: u64) -> Result<Caller<'r>, CallerFault>
         ensures new { IfOk result (λ caller. AreNew mark (⟦<SocketSource<'r> as Source>⟧.state caller.client_in) (⟦<SocketSink<'r> as Sink>⟧.state caller.client_out)) }
+        ensures peer { IfOk result (λ caller. IsAddressText caller.peer.address) }
         ensures host_same { self.new.host ≡ self.old.host }
         ensures asked_same { self.new.asked ≡ self.old.asked }
         ensures bound_same { self.new.bound ≡ self.old.bound }
@@ -261,7 +262,8 @@ impl<'r> SocketListener<'r> {
 impl<'r> Gate<'r> {
     /// The next connection, as the listener gives it.
     fn accept(&mut self, mark: u64) -> Result<Caller<'r>, CallerFault>
-        ensures { IfOk result (λ caller. AreNew mark (⟦<SocketSource<'r> as Source>⟧.state caller.client_in) (⟦<SocketSink<'r> as Sink>⟧.state caller.client_out)) }
+        ensures new { IfOk result (λ caller. AreNew mark (⟦<SocketSource<'r> as Source>⟧.state caller.client_in) (⟦<SocketSink<'r> as Sink>⟧.state caller.client_out)) }
+        ensures peer { IfOk result (λ caller. IsAddressText caller.peer.address) }
     {
         if self.guests.make_room().is_err() {
             return Err(CallerFault::Mem);
