@@ -289,6 +289,7 @@ fn serve_published<R: Threads + Wait + Sync, F: Files, A: Doors, E: Sink>(
     requires begun { DoorsBegun (A.state parts.doors) }
     requires first { BeginsWithSpelling loaded (published publisher) }
     requires some { 0 < vec_len readers }
+    requires workers { vec_len readers ≡ serve.workers }
     requires pair { All (λ r. reader_pair r ≡ pair_of publisher) readers.items }
     ensures serves { ServesPublished
         (record { files = F.state parts.files; doors = A.state parts.doors; err = E.state parts.err; main = serve.entry.config.now; loaded = loaded; pair = pair_of publisher; most = serve.entry.most })
@@ -306,7 +307,7 @@ fn serve_published<R: Threads + Wait + Sync, F: Files, A: Doors, E: Sink>(
         Ok(desk) => {
             let served = serve_all(rt, alloc, desk, readers);
             Ended {
-                status: status_of_serving(served.end),
+                status: status_of_serving(served.closing),
                 parts: served.parts,
                 counts: served.counts,
             }
