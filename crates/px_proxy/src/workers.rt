@@ -314,6 +314,15 @@ fn give_back<N: Making, L: Ledger, F: Files, A: Doors, E: Sink, R: Wait>(
     unreachable!()
 }
 
+/// Lets go of what a connection that was served holds of the system: its client's socket, and the links that its dialer keeps. It
+/// is done before the desk is asked for, which a worker may hold while it waits for the next client.
+fn let_go<A: Doors>(parted: &mut Parted<A::In, A::Out, A::Dial, A::Time>)
+    ensures same { parted_as A.In.state A.Out.state A.Dial.state A.Time.state parted.new ≡ parted_as A.In.state A.Out.state A.Dial.state A.Time.state parted.old }
+{
+    A::leave(&mut parted.conn.client_in, &mut parted.conn.client_out);
+    A::rest(&mut parted.conn.dialer);
+}
+
 /// Serves connections with one store, as long as they are handed out with its entry. Gives the first that isn't, if one comes.
 fn serve_while_stored<N: Making, L: Ledger, F: Files, A: Doors, E: Sink, R: Threads + Wait + Sync>(
     rt: &R,
@@ -338,13 +347,14 @@ fn serve_while_stored<N: Making, L: Ledger, F: Files, A: Doors, E: Sink, R: Thre
 {
     let mut task = task;
     'same: for _ in rt.forever() {
-        let parted = served::<N, R, A::In, A::Out, A::Dial, A::Time>(
+        let mut parted = served::<N, R, A::In, A::Out, A::Dial, A::Time>(
             alloc,
             &Way::AtOnce(rt),
             store,
             reader,
             task,
         );
+        let_go::<A>(&mut parted);
         give_back(rt, shared, mine, reader, parted);
         match take(rt, shared, mine, reader) {
             Some(next) => {

@@ -271,6 +271,10 @@ impl<'c> Doors for WaitingDoors<'c> {
         }
     }
 
+    fn leave(_client_in: &mut TapeIn, _client_out: &mut Told<'c>) {}
+
+    fn rest(_dialer: &mut Origin<'c>) {}
+
     fn part(&mut self, parted: RowParted<'c>)
         ensures parts { TakesPart (⟦<WaitingDoors<'c> as Doors>⟧.state self.old) (⟦<WaitingDoors<'c> as Doors>⟧.state self.new) (parted_as ⟦<TapeIn as Source>⟧.state ⟦<Told<'c> as Sink>⟧.state ⟦<Origin<'c> as Dialer>⟧.state ⟦<FixedClock as Clock>⟧.state parted.entry) }
         ensures listens { (⟦<WaitingDoors<'c> as Doors>⟧.state self.new).listens_at ≡ (⟦<WaitingDoors<'c> as Doors>⟧.state self.old).listens_at }
