@@ -129,6 +129,7 @@ where
         session,
         dialer,
         wanting: _,
+        history: _,
     } = serve_shared(
         alloc,
         way,

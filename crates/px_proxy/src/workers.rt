@@ -441,6 +441,7 @@ fn work<N: Making, L: Ledger, F: Files, A: Doors, E: Sink, R: Threads + Wait + S
 }
 
 /// What no worker has of both books.
+#[derive(Drop)]
 struct AllShares<N: Ledger, L: Ledger> {
     out: Share<N>,
     told: Share<L>,
