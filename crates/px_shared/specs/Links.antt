@@ -45,7 +45,7 @@ abbrev pub offers_heard : DialOutcome → DialOutcome
 offers_heard outcome.NoName = outcome.NoName
 offers_heard outcome.NotReached = outcome.NotReached
 offers_heard (outcome.Open mark offered) = outcome.Open mark offered
-offers_heard (outcome.Link seen) = outcome.Link (record { offered = seen.heard; heard = seen.heard; sent = seen.sent; read_failed = seen.read_failed; write_failed = seen.write_failed; finished = seen.finished })
+offers_heard (outcome.Link seen) = outcome.Link (record { offered = seen.heard; heard = seen.heard; sent = seen.sent; read_failed = seen.read_failed; write_failed = seen.write_failed })
 
 -- the dials, each offering just what was heard
 abbrev pub offering_heard : List Dial → List Dial
@@ -64,8 +64,6 @@ with_heard d = record {
   reach = d.reach;
   link_reads = d.link_reads;
   link_writes = d.link_writes;
-  opened = d.opened;
-  hung_up = d.hung_up;
   mark = d.mark;
 }
 
