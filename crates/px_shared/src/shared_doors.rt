@@ -3,6 +3,7 @@ ghost use Rattle.std.specs.Prelude.{◌≡◌, ◌<◌, [], IsTrue, length};
 ghost use Rattle.px_doors.specs.Conns.{parted_as};
 ghost use Rattle.px_doors.specs.Doors.{DoorsGoesOn, Parts};
 ghost use Rattle.px_link_pool.specs.Pools.{pool_state};
+ghost use Rattle.px_link_pool.specs.Shelves.{items};
 ghost use Rattle.px_shared.specs.Partings.{parted_of};
 ghost use Rattle.px_shared.specs.SharedDoors.{EachComesOf, IsBelow, with_pools};
 
@@ -131,7 +132,10 @@ where
     }
 
     /// Hangs up the links that the connection's pool keeps.
-    fn rest(dialer: &mut LinkPool<A::Dial>) {
+    fn rest(dialer: &mut LinkPool<A::Dial>)
+        ensures dialer_same { ⟦<LinkPool<A::Dial> as Dialer>⟧.state dialer.new ≡ ⟦<LinkPool<A::Dial> as Dialer>⟧.state dialer.old }
+        ensures none_kept { items dialer.new.kept ≡ [] }
+    {
         dialer.rest();
     }
 
