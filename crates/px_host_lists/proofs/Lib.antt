@@ -1,0 +1,5 @@
+pub mod HeldLemmas
+pub mod ListedLemmas
+pub mod ReadingLemmas
+pub mod SlotLemmas
+pub mod WordLemmas

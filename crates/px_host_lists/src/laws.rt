@@ -1,0 +1,34 @@
+// The values of the constants, and that what a list names are hosts.
+ghost use Rattle.std.specs.Prelude.{◌≡◌, ◌∷◌, [], All, List, ℕ, true};
+ghost use Rattle.px_host_lists.specs.Names.{is_host};
+ghost use Rattle.px_host_lists.specs.Readings.{list_entries};
+
+use crate::{
+    BANG, BYTE_LIMIT, CARET, CARRIAGE_RETURN, COLON, COMMA, DOLLAR, DOT, FACTOR, FRONT_MARK, HASH,
+    HOST_LENGTH, HOST_LIMIT, LABEL_LENGTH, LINE_FEED, MODULUS,
+};
+
+/// Each entry of a file is a host.
+pub fn entries_are_hosts()
+    ensures { (bytes : List ℕ) → All (λ entry. is_host entry.host ≡ true) (list_entries bytes) }
+{}
+
+/// The bytes and the limits of the rules.
+pub fn constants()
+    ensures bytes { BYTE_LIMIT ≡ 67108864 }
+    ensures hosts { HOST_LIMIT ≡ 2000000 }
+    ensures host_length { HOST_LENGTH ≡ 253 }
+    ensures label_length { LABEL_LENGTH ≡ 63 }
+    ensures front_mark { FRONT_MARK ≡ 239 ∷ 187 ∷ 191 ∷ [] }
+    ensures bang { BANG ≡ 33 }
+    ensures caret { CARET ≡ 94 }
+    ensures carriage_return { CARRIAGE_RETURN ≡ 13 }
+    ensures colon { COLON ≡ 58 }
+    ensures comma { COMMA ≡ 44 }
+    ensures dollar { DOLLAR ≡ 36 }
+    ensures dot { DOT ≡ 46 }
+    ensures hash { HASH ≡ 35 }
+    ensures line_feed { LINE_FEED ≡ 10 }
+    ensures factor { FACTOR ≡ 16777619 }
+    ensures modulus { MODULUS ≡ 4294967296 }
+{}
