@@ -1,3 +1,4 @@
+pub mod AddressLemmas
 pub mod HeldLemmas
 pub mod ListedLemmas
 pub mod ReadingLemmas

@@ -1,5 +1,6 @@
 // The values of the constants, and that what a list names are hosts.
-ghost use Rattle.std.specs.Prelude.{◌≡◌, ◌∷◌, [], All, List, ℕ, true};
+ghost use Rattle.std.specs.Prelude.{◌≡◌, ◌∷◌, [], All, List, ℕ, false, true};
+ghost use Rattle.px_host_lists.specs.Addresses.{is_ip_address};
 ghost use Rattle.px_host_lists.specs.Names.{is_host};
 ghost use Rattle.px_host_lists.specs.Readings.{list_entries};
 
@@ -11,6 +12,11 @@ use crate::{
 /// Each entry of a file is a host.
 pub fn entries_are_hosts()
     ensures { (bytes : List ℕ) → All (λ entry. is_host entry.host ≡ true) (list_entries bytes) }
+{}
+
+/// No address is a host.
+pub fn addresses_are_no_hosts()
+    ensures { (text : List ℕ) → is_ip_address text ≡ true → is_host text ≡ false }
 {}
 
 /// The bytes and the limits of the rules.
