@@ -18,20 +18,22 @@ use Rattle.px_host_lists.specs.declared.gathering.Gathered.{Gathered}
 
 -- ---- the items of a line by its words
 
-pub items_of_none : (line : List ℕ) → used_words line ≡ [] → items_on line ≡ []
+pub items-none : (line : List ℕ) → used_words line ≡ [] → items_on line ≡ []
 unfolding items_on
-items_of_none line e = ap items_in_words e
+items-none line e = ap items_in_words e
 
 items_by : (word : List ℕ) (more : List (List ℕ)) (b : Bool) → is_ip_address word ≡ b → items_in_words (word ∷ more) ≡ cond b (items_behind more) (rule_item word more ∷ [])
 items_by word more b e = ap (λ v. cond v (items_behind more) (rule_item word more ∷ [])) e
 
-pub items_of_address : (line word : List ℕ) (more : List (List ℕ)) → used_words line ≡ word ∷ more → is_ip_address word ≡ true → items_on line ≡ items_behind more
+pub items-address : (line word : List ℕ) (more : List (List ℕ)) → used_words line ≡ word ∷ more → is_ip_address word ≡ true → items_on line ≡ items_behind more
 unfolding items_on
-items_of_address line word more e is = ap items_in_words e ∙ items_by word more true is
+items-address line word more e is = ap items_in_words e ∙ items_by word more true is
 
-pub items_of_other : (line word : List ℕ) (more : List (List ℕ)) → used_words line ≡ word ∷ more → is_ip_address word ≡ false → items_on line ≡ rule_item word more ∷ []
+pub items-other : (line word : List ℕ) (more : List (List ℕ)) → used_words line ≡ word ∷ more → is_ip_address word ≡ false → items_on line ≡ rule_item word more ∷ []
 unfolding items_on
-items_of_other line word more e is = ap items_in_words e ∙ items_by word more false is
+items-other line word more e is = ap items_in_words e ∙ items_by word more false is
+
+pub ruleset line_rules = (items-none, items-address, items-other)
 
 -- ---- the first host beyond the limit
 
@@ -143,7 +145,7 @@ further-first said first number parts line more other next e cut is n =
 -- ---- the last line
 
 pub nothing-more : (held : List HostEntry) (number : ℕ) (line : List ℕ) → used_words line ≡ [] → held ≡ held ++ entries_on number (items_on line)
-nothing-more held number line e = sym (append-nil held) ∙ ap (λ items. held ++ entries_on number items) (sym (items_of_none line e))
+nothing-more held number line e = sym (append-nil held) ∙ ap (λ items. held ++ entries_on number items) (sym (items-none line e))
 
 pub ended-entries : (all held : List HostEntry) (number : ℕ) (parts : List (List ℕ)) (line : List ℕ) (next : List HostEntry) → all ≡ held ++ entries_from number parts → parts ≡ line ∷ [] →
     next ≡ held ++ entries_on number (items_on line) → all ≡ next

@@ -1,5 +1,5 @@
 -- Lists of hosts: which line of a list names a host, or a host above it.
-use Rattle.std.specs.Prelude.{◌≡◌, ℕ, ◌-◌, ◌==◌, Bool, if◌then◌else◌, List, [], ◌∷◌, length, take, slice_index, Option, None, Some, is_some}
+use Rattle.std.specs.Prelude.{◌≡◌, ℕ, ◌-◌, ◌==◌, ◌||◌, Bool, false, if◌then◌else◌, List, [], ◌∷◌, length, take, slice_index, Option, None, Some, is_some}
 use Rattle.std.specs.Option.{option_or}
 use Rattle.std.specs.Str.{str_eq_ignore_ascii_case}
 use Rattle.px_host_lists.specs.declared.TheConstants.{DOT}
@@ -33,6 +33,15 @@ listed_line entries host = first_listed entries (without_end_dot host)
 
 abbrev pub is_listed : List HostEntry → List ℕ → Bool
 is_listed entries host = is_some (listed_line entries host)
+
+-- whether a name is what stands behind a dot of a host, without case
+abbrev pub is_named_above : List ℕ → List ℕ → Bool
+is_named_above name [] = false
+is_named_above name (b ∷ bytes) = if b == DOT then str_eq_ignore_ascii_case name bytes || is_named_above name bytes else is_named_above name bytes
+
+-- whether a name stands for a host: it is the host, or what stands behind one of its dots
+abbrev pub is_named_by : List ℕ → List ℕ → Bool
+is_named_by name host = str_eq_ignore_ascii_case name host || is_named_above name host
 
 -- what stands behind the first dot, if there is one
 unfoldable pub behind_dot : List ℕ → Option (List ℕ)

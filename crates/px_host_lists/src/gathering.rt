@@ -43,7 +43,7 @@ impl Gathered {
     }
 
     /// Adds the hosts of a line, and tells whether something stands there that is none.
-    #[tactic(auto, using(crate::proofs::ReadingLemmas::items_of_none, crate::proofs::ReadingLemmas::items_of_address, crate::proofs::ReadingLemmas::items_of_other))]
+    #[tactic(auto, using(crate::proofs::ReadingLemmas::line_rules))]
     pub(crate) fn take_line(&mut self, number: u32, line: &[u8]) -> Result<bool, ListFault>
         requires gathered { IsGathered self.old }
         ensures gathered { OnOk result (IsGathered self.new) }

@@ -1,6 +1,8 @@
 // The values of the constants, and that what a list names are hosts.
 ghost use Rattle.std.specs.Prelude.{◌≡◌, ◌∷◌, [], All, List, ℕ, false, true};
+ghost use Rattle.std.specs.List.{list_any};
 ghost use Rattle.px_host_lists.specs.Addresses.{is_ip_address};
+ghost use Rattle.px_host_lists.specs.Hosts.{HostEntry, is_listed, is_named_by, without_end_dot};
 ghost use Rattle.px_host_lists.specs.Names.{is_host};
 ghost use Rattle.px_host_lists.specs.Readings.{list_entries};
 
@@ -12,6 +14,11 @@ use crate::{
 /// Each entry of a file is a host.
 pub fn entries_are_hosts()
     ensures { (bytes : List ℕ) → All (λ entry. is_host entry.host ≡ true) (list_entries bytes) }
+{}
+
+/// A host is on a list where an entry's name stands for it, whichever that is.
+pub fn listed_by_an_entry()
+    ensures { (entries : List HostEntry) (host : List ℕ) → is_listed entries host ≡ list_any (λ entry. is_named_by entry.host (without_end_dot host)) entries }
 {}
 
 /// No address is a host.

@@ -14,7 +14,7 @@ mod slots;
 mod words;
 
 pub use faults::ListFault;
-pub use laws::{addresses_are_no_hosts, constants, entries_are_hosts};
+pub use laws::{addresses_are_no_hosts, constants, entries_are_hosts, listed_by_an_entry};
 pub use lists::HostList;
 pub use readings::{ListNotes, ReadList, read_list};
 
