@@ -19,7 +19,7 @@ import time
 from concurrent.futures import ThreadPoolExecutor
 
 import serve
-from serve import WAIT, check, free_port, guarded, raw, read_all, running, wait_for
+from serve import WAIT, check, free_port, guarded, raw, read_all, reset, running, wait_for
 
 # The page: so many pictures, from so many hosts, which come one after another at each host.
 PICTURES, HOSTS = 40, 12
@@ -142,8 +142,7 @@ def stalling(port, origin):
         links.append(link)
     dead = socket.create_connection(("127.0.0.1", port), timeout=WAIT)
     dead.sendall(head)
-    dead.setsockopt(socket.SOL_SOCKET, socket.SO_LINGER, b"\x01\x00\x00\x00\x00\x00\x00\x00")
-    dead.close()
+    reset(dead)
     return links
 
 
@@ -372,8 +371,7 @@ def main():
             (counted, (program, origin)),
         ):
             guarded(part, *words)
-    print("clients: %d failed" % serve.failed)
-    sys.exit(1 if serve.failed else 0)
+    serve.finished()
 
 
 if __name__ == "__main__":

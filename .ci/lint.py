@@ -155,6 +155,16 @@ MISTAKES = [
     (A, "{+block{x}}\na.test/(foo", "u.action:2:", "a `(` without `)`", "\\("),
     (A, "{+block{x}}\na.test/s?q=1/search?q=", "u.action:2:", "`s?q=`", "s\\?q="),
     (A, "{+block{x}}\na.test/*/ads", "u.action:2:", "any number of slashes", "a.test/.*/ads"),
+    (
+        A,
+        "{+forward-override{forward-socks5 127.0.0.1:9050 .}}\n.onion",
+        "u.action:1:",
+        "`+forward-override{forward-socks5 127.0.0.1:9050 .}`",
+        "A line `forward-socks5 PATTERN 127.0.0.1:9050 .` in config",
+    ),
+    (A, "{+block{x}}\n*.a.test/x", "u.action:2:", "neither a.test nor a.b.a.test", ". .a.test/x"),
+    (A, "{+block{x}}\n\n{-block}\na.test", "u.action:1:", "`{+block{x}}`: the section has no pattern", "A pattern in the line below"),
+    (A, "{+block{x}}\na.test\n{ \\\n-block \\\n}\n\n# The end.", "u.action:3:", "the section has no pattern", "A pattern in the line below"),
     (A, "{+block{x}}\na..test", "u.action:2:", "two dots side by side", "a.test"),
     (A, "{+block{x}}\ntag:^X$", "u.action:2:", "`tag:`", "TAG:^X$"),
     (A, "{{aliases}}\n{+block{x}}\n/", "u.action:1:", "`{{aliases}}`", "{{alias}}"),
@@ -163,7 +173,7 @@ MISTAKES = [
         A,
         "{{alias}}\nads = +block{x}\nads = +block{y}\n{ads}\n/",
         "u.action:3:",
-        "`ads`",
+        "above, in line 2",
         "Another name",
     ),
     (A, "{+block{caf\xe9}}\n/", "u.action:1:", "isn't UTF-8", "iconv -f windows-1252 -t utf-8"),
@@ -233,6 +243,31 @@ MISTAKES = [
         "looked for there",
         "line 4 of config (confdir is",
     ),
+    (C, "actionsfile uu.action", "uu.action:0:", "looked for there", "Did you mean `u.action`?"),
+    (C, "actionsfile gone.action", "gone.action:0:", "looked for there", ". Named in line 4"),
+    (C, "filterfile f", "f:0:", "looked for there", "Did you mean `f.filter`?"),
+    (C, "forward *.a.test p.test", "config:4:", "neither a.test nor a.b.a.test", ". .a.test"),
+    (
+        C,
+        "user-manual here\nlogdir /var/log\nenable-edit-actions 0",
+        "config:4:",
+        "`user-manual`: this is a configuration of Privoxy's",
+        "helmthread-from-privoxy . TO",
+    ),
+    (
+        "templates/blocked",
+        "<h1>No</h1>\n@if-parent-start a if-parent-end@ @if-block-reason-start<p>@block-reason@</p>",
+        "templates/blocked:2:",
+        "`@if-block-reason-start`",
+        "if-block-reason-end@",
+    ),
+    (
+        "templates/head",
+        "# One.\n<head>\n@if-parent-start\n",
+        "templates/head:3:",
+        "`@if-parent-start`",
+        "if-parent-end@",
+    ),
     (C, 'actionsfile "u.action"', "config:4:", "quotes", "actionsfile u.action"),
     (C, "actionsfile ~/u.action", "config:4:", "`~` isn't replaced", "/home/you/u.action"),
     (C, "actionsfile g.filter", "config:4:", "`g.filter`", "filterfile g.filter"),
@@ -245,6 +280,12 @@ MISTAKES = [
         "a description is missing",
         "client-specific-tag guest What it is for",
     ),
+]
+# Lines of the actions file that nothing is said of.
+QUIET = [
+    "{+block{x}}\n#a.test\n{-block}\nb.test",
+    "{+block{x}}\n# below it\na.test\n{-block}\nb.*.test\n192.168.*.*",
+    "{{alias}}\nads = +block{x}\n{ads}\na.test",
 ]
 FILTERS = "FILTER: webbugs\ns@x@y@g\nCLIENT-HEADER-FILTER: marks\ns@^X-Mark:.*@@i\n"
 
@@ -260,8 +301,8 @@ def lint(config):
     return ran.returncode, ran.stdout
 
 
-def mistake(folder, kind, text, place, word, write):
-    """Whether the mistake is helped, and what was said."""
+def said_of(folder, kind, text, main="config"):
+    """What is said of a configuration with this text in one of its files."""
     files = {
         A: "{+block{x}}\na.test/\n",
         F: "FILTER: other\ns@a@b@\n",
@@ -269,27 +310,53 @@ def mistake(folder, kind, text, place, word, write):
         "g.filter": FILTERS,
     }
     files[kind] = files[C] + text + "\n" if kind == C else text + "\n"
+    files[main] = files.pop(C)
+    shutil.copytree(os.path.join(CONF, "templates"), os.path.join(folder, "templates"))
     for name, content in files.items():
         with open(os.path.join(folder, name), "w", encoding="latin-1") as file:
             file.write(content)
-    shutil.copytree(
-        os.path.join(CONF, "templates"), os.path.join(folder, "templates"), dirs_exist_ok=True
-    )
+    home = os.getcwd()
     os.chdir(folder)
-    said = Linter("config").run()
+    said = Linter(main).run()
+    os.chdir(home)
+    return said
+
+
+def mistake(folder, kind, text, place, word, write):
+    """Whether the mistake is helped, and what was said."""
+    said = said_of(folder, kind, text)
     helped = [line for line in said if line.startswith(place) and word in line and write in line]
     return bool(helped) and len(said) <= 2, "\n".join(said)
 
 
+def quiet(fail):
+    """What nothing is said of, and the main file by its own name."""
+    for text in QUIET:
+        with tempfile.TemporaryDirectory() as folder:
+            said = said_of(folder, A, text)
+        if said:
+            fail("something is said of %r:\n%s" % (text, "\n".join(said)))
+    with tempfile.TemporaryDirectory() as folder:
+        said = said_of(folder, C, "toggle on\nactionsfile nosuch.action", "a.config")
+    wanted = ["a.config:4: `on`", "nosuch.action:0: `"]
+    if [line[: len(it)] for line, it in zip(said, wanted)] != wanted or "line 5 of a.config" not in said[-1]:
+        fail("the main file a.config isn't named so:\n" + "\n".join(said))
+
+
 def main():
-    failed, home = 0, os.getcwd()
+    failed = 0
+
+    def fail(text):
+        nonlocal failed
+        failed += 1
+        print("lint.py: " + text)
+
     for row in MISTAKES:
         with tempfile.TemporaryDirectory() as folder:
             helped, said = mistake(folder, *row)
-            os.chdir(home)
         if not helped:
-            failed += 1
-            print("lint.py: %r isn't helped:\n%s" % (row[1], said.rstrip()))
+            fail("%r isn't helped:\n%s" % (row[1], said.rstrip()))
+    quiet(fail)
     with tempfile.TemporaryDirectory() as folder:
         with open(os.path.join(folder, "config"), "w", encoding="utf-8") as file:
             file.write("toggle on\n")

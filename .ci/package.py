@@ -4,9 +4,11 @@ page; then two instances behind haproxy, by packaging/haproxy.cfg, of which one 
 
 Usage: package.py PROGRAM
 
-Also: lintian finds nothing, and `systemd-analyze security` gives the units at most 2.5. What can't be had is skipped with the reason.
+Also: lintian finds nothing, no link of the packaged manual is dead, and `systemd-analyze security` gives the units at most 2.5. What
+can't be had is skipped with the reason.
 Says what failed, and ends with 1 then.
 """
+import gzip
 import http.server
 import os
 import re
@@ -24,6 +26,8 @@ HERE = os.path.dirname(os.path.abspath(__file__))
 PACKAGING = os.path.join(HERE, "..", "packaging")
 UNITS = ("helmthread.service", "helmthread@.service")
 MOST_EXPOSED = 2.5
+# (the name of a machine without a domain isn't one for lintian)
+NAMED = ("--maintainer", "Test of the package <test@example.org>")
 PAGE = b'<html><body>a<img src="/t.gif" width="1" height="1">b</body></html>'
 CLEAN = b"<html><body>a<!-- tiny image taken out -->b</body></html>"
 failed = 0
@@ -111,7 +115,7 @@ def made(program, folder):
             print("package.py: skipped, since %s can't be had" % tool)
             return None
     ran = subprocess.run(
-        [sys.executable, os.path.join(PACKAGING, "make-deb"), "--program", program, folder],
+        [sys.executable, os.path.join(PACKAGING, "make-deb"), "--program", program, *NAMED, folder],
         capture_output=True,
         text=True,
         timeout=600,
@@ -206,6 +210,27 @@ def installed(root, net):
     )
 
 
+def anchors(text):
+    """What a link into a page may name: its headings."""
+    return {
+        re.sub(r"[^\w -]", "", it).strip().lower().replace(" ", "-")
+        for it in re.findall(r"^#+ (.*)$", text, re.MULTILINE)
+    }
+
+
+def links(root):
+    """Each link of the packaged pages leads to a file of the package, or to a heading of the page."""
+    doc = os.path.join(root, "usr/share/doc/helmthread")
+    for name in ("MANUAL.md.gz", "PROFILE.md.gz"):
+        with gzip.open(os.path.join(doc, name), "rt", encoding="utf-8") as file:
+            text = file.read()
+        found = re.findall(r"\]\(([^)]+)\)", text)
+        known = {"#" + it for it in anchors(text)} | set(os.listdir(doc))
+        dead = [it for it in found if it not in known and not it.startswith("http")]
+        check("the links of " + name, not dead, dead)
+        check("the manual has links", found or name != "MANUAL.md.gz")
+
+
 def behind_haproxy(root, net, folder):
     """Two instances; one is stopped under load, and no request of a connection made from then on is lost."""
     haproxy = shutil.which("haproxy", path="/usr/sbin:/usr/bin")
@@ -289,6 +314,7 @@ def main():
             threading.Thread(target=server.serve_forever, daemon=True).start()
             exposure(root)
             installed(root, server.server_address[1])
+            links(root)
             behind_haproxy(root, server.server_address[1], folder)
             server.shutdown()
     print("package.py: %d failed" % failed)

@@ -9,6 +9,7 @@ import http.client
 import http.server
 import os
 import resource
+import select
 import shutil
 import socket
 import subprocess
@@ -17,8 +18,10 @@ import tempfile
 import threading
 import time
 
+import origins
+from origins import WAIT, free_port, wait_for
+
 LARGE = bytes(range(256)) * 40960
-WAIT = 20
 
 # Half of an answer, and of a body, that comes in two steps.
 HALF = 40000
@@ -30,19 +33,32 @@ MEGABYTE = LARGE[:1 << 20]
 # So many seconds one side of a tunnel is silent while the other sends.
 SILENT = 65
 
+# So few descriptors a proxy has for 60 clients.
+FEW = 40
+
 # A page with an image that is there to count readers, and what conf/ makes of it.
 PAGE = b'<p>Hello<img src="/count.gif" width="1" height="1"></p>'
 CLEAN = b"<p>Hello<!-- tiny image taken out --></p>"
 CONF = os.path.join(os.path.dirname(os.path.abspath(__file__)), "..", "conf")
 
-failed = 0
+passed = failed = 0
+counting = threading.Lock()
 
 
 def check(name, holds):
-    global failed
-    if not holds:
-        failed += 1
-        print("failed:", name)
+    global passed, failed
+    with counting:
+        if holds:
+            passed += 1
+        else:
+            failed += 1
+            print("failed:", name)
+
+
+def finished():
+    """Says how much passed and failed, and ends the script."""
+    print("%d passed, %d failed" % (passed, failed))
+    sys.exit(1 if failed else 0)
 
 
 class Origin(http.server.BaseHTTPRequestHandler):
@@ -170,21 +186,29 @@ def send_slowly(link):
     link.shutdown(socket.SHUT_WR)
 
 
-def free_port():
-    with socket.create_server(("127.0.0.1", 0)) as listener:
-        return listener.getsockname()[1]
+def comes(seconds, holds):
+    """Whether something comes to hold within so many seconds."""
+    end = time.monotonic() + seconds
+    while not holds():
+        if time.monotonic() > end:
+            return False
+        time.sleep(0.01)
+    return True
 
 
-def wait_for(port):
-    """Waits until somebody listens at a port. The connection that tells is one that the proxy serves."""
-    end = time.monotonic() + WAIT
-    while time.monotonic() < end:
-        try:
-            socket.create_connection(("127.0.0.1", port), timeout=WAIT).close()
-            return True
-        except OSError:
-            time.sleep(0.05)
-    return False
+def reset(link):
+    """Closes a connection so that the other side sees it broken."""
+    link.setsockopt(socket.SOL_SOCKET, socket.SO_LINGER, b"\x01\x00\x00\x00\x00\x00\x00\x00")
+    link.close()
+
+
+def kept_client(port, origin):
+    """A client that has its answer from an origin that keeps links, and rests."""
+    client = socket.create_connection(("127.0.0.1", port), timeout=WAIT)
+    client.sendall(b"GET http://127.0.0.1:%d/kept HTTP/1.1\r\nHost: x\r\n\r\n" % origin)
+    got = client.recv(65536)
+    check("a client that rests is answered `/kept over ..`, and there is %r" % got[-60:], b"/kept over " in got)
+    return client
 
 
 def read_all(link):
@@ -269,27 +293,99 @@ def idle_clients(program):
             check("a client that sends byte by byte is let go", ended_after(link, 50, 70, b"GET http://127.0.0.1/ HTTP/1.1"))
 
 
+def descriptors_of(process):
+    """The numbers of a process's descriptors."""
+    return {int(name) for name in os.listdir("/proc/%d/fd" % process.pid)}
+
+
+def leave_no_descriptor(process):
+    """Allows a process no descriptor beside those below the first free number, and gives what it was allowed before."""
+    used = descriptors_of(process)
+    before = resource.prlimit(process.pid, resource.RLIMIT_NOFILE)
+    resource.prlimit(process.pid, resource.RLIMIT_NOFILE, (min(set(range(len(used) + 1)) - used), before[1]))
+    return before
+
+
+def up_to_unanswered(port):
+    """Clients that ask and rest, up to the first one that isn't answered in two seconds: an accept that waits has its descriptor already."""
+    clients = []
+    for _ in range(5):
+        clients.append(socket.create_connection(("127.0.0.1", port), timeout=WAIT))
+        clients[-1].sendall(b"GET http://ad.test/ HTTP/1.1\r\nHost: ad.test\r\n\r\n")
+        if not select.select(clients[-1:], [], [], 2)[0]:
+            return clients
+    check("without descriptors a client that isn't answered is expected, and %d are answered" % len(clients), False)
+    return clients
+
+
 def without_descriptors(program):
     """No descriptor is left for a connection: it is accepted once there is one. What lasts for ten seconds ends the proxy."""
-    asked = b"GET http://ad.test/ HTTP/1.1\r\nConnection: close\r\n\r\n"
     with running(program, "actionsfile u.action\n", stderr=subprocess.DEVNULL) as (port, proxy):
-        raw(port, asked)
         time.sleep(1)
-        used = len(os.listdir("/proc/%d/fd" % proxy.pid))
-        most = resource.prlimit(proxy.pid, resource.RLIMIT_NOFILE)
-        resource.prlimit(proxy.pid, resource.RLIMIT_NOFILE, (used, most[1]))
-        raw(port, asked)
-        with socket.create_connection(("127.0.0.1", port), timeout=WAIT) as link:
-            link.sendall(asked)
-            time.sleep(2)
-            resource.prlimit(proxy.pid, resource.RLIMIT_NOFILE, most)
-            check("a connection waits for a descriptor", read_all(link).startswith(b"HTTP/1.1 403"))
+        before = leave_no_descriptor(proxy)
+        clients = up_to_unanswered(port)
+        resource.prlimit(proxy.pid, resource.RLIMIT_NOFILE, before)
+        check("a connection waits for a descriptor", clients[-1].recv(65536).startswith(b"HTTP/1.1 403"))
+        for client in clients:
+            client.close()
         time.sleep(1)
-        resource.prlimit(proxy.pid, resource.RLIMIT_NOFILE, (used, most[1]))
-        raw(port, asked)
+        leave_no_descriptor(proxy)
+        clients = up_to_unanswered(port)
         began = time.monotonic()
         check("without descriptors the proxy ends", proxy.wait(timeout=WAIT) == 7)
-        check("but not at once", time.monotonic() - began > 8)
+        check("but not at once", time.monotonic() - began > 6)
+        for client in clients:
+            client.close()
+
+
+def sockets_of(process):
+    """How many sockets a process has beside the one at which it listens."""
+    found = set()
+    for number in descriptors_of(process):
+        with contextlib.suppress(OSError):
+            found.add(os.readlink("/proc/%d/fd/%d" % (process.pid, number)))
+    return sum(it.startswith("socket:") for it in found) - 1
+
+
+def given_back(program):
+    """A client that goes leaves no descriptor behind for longer than a second, though nobody else comes."""
+    origin = origins.LinkOrigin()
+    for main in ("link-reuse 0\n", "link-reuse 1\n"):
+        with running(program, main, ("8",)) as (port, proxy):
+            # (the one that told that it listens has gone)
+            time.sleep(1)
+            for leave in (None, socket.socket.close, reset):
+                if leave:
+                    leave(kept_client(port, origin.port))
+                    comes(1, lambda: sockets_of(proxy) == 0)
+                left = sockets_of(proxy)
+                told = "%s, %s" % (main.strip(), "a client goes by " + leave.__name__ if leave else "a client that said nothing goes")
+                check("%s: no socket is expected a second later, and there are %d" % (told, left), left == 0)
+
+
+def few_descriptors(program):
+    """More clients with kept links than there are descriptors, who then all go: the next one is served at once, and the proxy goes on."""
+    origin = origins.LinkOrigin()
+    with running(program, "link-reuse 1\n", ("64",), stderr=subprocess.DEVNULL) as (port, proxy):
+        resource.prlimit(proxy.pid, resource.RLIMIT_NOFILE, (FEW, FEW))
+        clients = [socket.create_connection(("127.0.0.1", port), timeout=WAIT) for _ in range(60)]
+        for client in clients:
+            client.sendall(b"GET http://127.0.0.1:%d/kept HTTP/1.1\r\nHost: x\r\n\r\n" % origin.port)
+        time.sleep(3)
+        check("with %d descriptors, some of 60 clients have a kept link, and there are %d" % (FEW, origin.open), 5 < origin.open < FEW)
+        for client in clients:
+            client.close()
+        began = time.monotonic()
+        try:
+            kept_client(port, origin.port).close()
+        except OSError as fault:
+            check("an answer is expected behind clients that went, and there is %r" % fault, False)
+        took = time.monotonic() - began
+        check("behind clients that went, an answer is expected within a second, and took %.1f s" % took, took <= 1)
+        time.sleep(15)
+        check("a proxy is expected to go on 15 seconds later, and its status is %s" % proxy.poll(), proxy.poll() is None)
+        if proxy.poll() is None:
+            kept_client(port, origin.port).close()
 
 
 def nobody_reads(program):
@@ -304,7 +400,7 @@ def nobody_reads(program):
 
 def at_their_times(program):
     """Starts what waits by the proxy's own times, each with a proxy of its own, side by side."""
-    tries = [silent_client, silent_origin, idle_clients, without_descriptors, nobody_reads]
+    tries = [silent_client, silent_origin, idle_clients, without_descriptors, given_back, few_descriptors, nobody_reads]
     threads = [threading.Thread(target=guarded, args=(it, program)) for it in tries]
     for thread in threads:
         thread.start()
@@ -397,9 +493,8 @@ def resets(port):
     """Clients that go away in a head and before their answer end nothing else."""
     for sent in (b"GET http://127", b"GET http://127.0.0.1:1/ HTTP/1.1\r\n\r\n"):
         link = socket.create_connection(("127.0.0.1", port), timeout=WAIT)
-        link.setsockopt(socket.SOL_SOCKET, socket.SO_LINGER, b"\x01\x00\x00\x00\x00\x00\x00\x00")
         link.sendall(sent)
-        link.close()
+        reset(link)
 
 
 def tunnel(port, echo):
@@ -579,8 +674,7 @@ def main():
             newcomer(program, folder, server.server_address[1])
     for thread in waiting:
         thread.join()
-    print("serve: %d failed" % failed)
-    sys.exit(1 if failed else 0)
+    finished()
 
 
 if __name__ == "__main__":

@@ -87,7 +87,8 @@ def configured(folder, name, port, of_privoxy):
     if name == "conf":
         shutil.copytree(ROOT / "conf", place)
         text = (place / "config").read_text(encoding="utf-8")
-        text = re.sub(r"(?m)^listen-address.*$", "", text)
+        # (each request makes a link of its own here, as Privoxy's do)
+        text = re.sub(r"(?m)^(listen-address|link-reuse) .*$", "", text)
     else:
         place.mkdir()
         text = ""

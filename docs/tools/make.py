@@ -88,12 +88,44 @@ def first_sentence(lines):
     return (found[1] if found else text).strip()
 
 
-class Function:
-    """A function: its name, with its type's for a method, the first sentence of its comment, and the labels of its clauses."""
+# What decides where a head of a function ends: clauses and conditions have braces of their own, whatever stands between them.
+HEAD_TOKEN = re.compile(r'"(?:[^"\\]|\\.)*"|//[^\n]*|\b(ensures|requires)(?: \*)?(?: (\w+))? \{|[()\[\]{};]')
+BRACE = re.compile(r'"(?:[^"\\]|\\.)*"|[{}]')
 
-    def __init__(self, name, comment, head):
+
+def closing(text, at):
+    """The place of the brace that closes the one at this place."""
+    depth = 0
+    for found in BRACE.finditer(text, at):
+        depth += {"{": 1, "}": -1}.get(found[0], 0)
+        if depth == 0:
+            return found.start()
+    raise Stale(f"docs/tools/make.py finds no end of the clause {text[at : at + 60]!r}")
+
+
+def head_parts(text):
+    """The conditions and clauses of the function that begins there, each with its word, its label (or nothing) and its text."""
+    at, depth = 0, 0
+    while True:
+        found = HEAD_TOKEN.search(text, at)
+        if not found or depth == 0 and found[0] in ("{", ";"):
+            return
+        at = found.end()
+        if found[1]:
+            end = closing(text, at - 1)
+            yield found[1], found[2], " ".join(text[at:end].split())
+            at = end + 1
+        depth += (found[0] in ("(", "[")) - (found[0] in (")", "]"))
+
+
+class Function:
+    """A function: its name, with its type's for a method, the first sentence of its comment, and its conditions and clauses, each with
+    its label and its text."""
+
+    def __init__(self, name, comment, text):
         self.name, self.about = name, first_sentence(comment)
-        self.clauses = re.findall(r"(?m)^\s+ensures(?: (\w+))? \{", head)
+        parts = list(head_parts(text))
+        self.conditions, self.clauses = ([it[1:] for it in parts if it[0] == word] for word in ("requires", "ensures"))
 
 
 def block_of(line):
@@ -106,17 +138,6 @@ def block_of(line):
         return None, False, False
     found = re.match(r"impl(?:<.*?>)? (\w+)", line)
     return (found[1], True, False) if found else (None, True, False)
-
-
-def head_end(lines, at):
-    """The line behind the head of the function that begins there: where its body opens, or its declaration ends."""
-    indent = re.match(r" *", lines[at])[0]
-    for number in range(at, len(lines)):
-        line = lines[number]
-        opens = re.search(r" \{(?: .*\})?$", line) and not re.match(r"\s+(ensures|requires)", line)
-        if opens or line.endswith(";") or line in (indent + "{", indent + "{}"):
-            return number
-    return len(lines) - 1
 
 
 def functions(text):
@@ -134,8 +155,7 @@ def functions(text):
         elif found and (found[2] or is_trait and is_public):
             name = f"{under}::{found[3]}" if found[1] else found[3]
             if not found[1] or under:
-                head = "\n".join(lines[at : head_end(lines, at) + 1])
-                yield under if found[1] else found[3], Function(name, comment, head)
+                yield under if found[1] else found[3], Function(name, comment, "\n".join(lines[at:]))
         if not said and not re.match(r"\s*#\[", line):
             comment = []
 
@@ -164,20 +184,28 @@ def cell(text):
 
 
 def calls():
-    """docs/PROOFS.md: each crate with its calls, their clauses, and its wrong bodies."""
+    """docs/PROOFS.md: each crate with its calls, their conditions and clauses, and its wrong bodies."""
     out = []
     for crate in crates().values():
         out += [f"### {crate.name}", "", crate.about, ""]
-        rows = [f"| `{it.name}` | {cell(it.about)} | {clauses_text(it.clauses)} |" for it in calls_of(crate)]
-        out += (["| Call | What it does | Clauses |", "|---|---|---|", *rows, ""]) if rows else []
+        rows = [call_row(it) for it in calls_of(crate)]
+        out += (["| Call | What it does | Conditions | Clauses |", "|---|---|---|---|", *rows, ""]) if rows else []
         edits = [edit_line(it) for it in crate.files("must-fail/*.edit")]
         out += [f"Wrong bodies: {', '.join(edits)}.", ""] if edits else []
     return "\n".join(out).rstrip("\n")
 
 
-def clauses_text(labels):
-    named = [f"`{it}`" for it in labels if it]
-    return ", ".join(named) if named else "its clause" if labels else ""
+def call_row(function):
+    conditions = ", ".join(f"`{label or text}`" for label, text in function.conditions)
+    return f"| `{function.name}` | {cell(function.about)} | {cell(conditions)} | {clauses_text(function.clauses)} |"
+
+
+def clauses_text(clauses):
+    """The labels of the clauses, and how many have none."""
+    named = [f"`{label}`" for label, _ in clauses if label]
+    many = len(clauses) - len(named)
+    unnamed = ["its clause" if many == 1 and not named else f"{many} without a name"] if many else []
+    return ", ".join(named + unnamed)
 
 
 def floors():

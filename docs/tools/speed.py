@@ -1,8 +1,11 @@
 #!/usr/bin/env python3
 """Counts what the program spends: instructions (valgrind's callgrind), allocations (memcheck) and time. docs/SPEED.md has the figures.
 
-Each figure is a difference of two runs of `pass` or `check` that differ in the number of one thing, so that what a start costs drops
-out. It counts the program's own instructions alone, and so gives the same on each machine.
+Each count but that of `check` of conf/, which is a whole run, is a difference of two runs of `pass` or `check` that differ in the
+number of one thing, so that what a start costs drops out. Only the program's own instructions are counted, so they are the same on
+each machine.
+
+It prints the table of docs/SPEED.md, with its day, as it stands there.
 
 Run: docs/tools/speed.py PROGRAM     PROGRAM: crates/px_main/out/px_main
 """
@@ -12,6 +15,7 @@ import subprocess
 import sys
 import tempfile
 import time
+from pathlib import Path
 
 ROOT = os.path.dirname(os.path.dirname(os.path.dirname(os.path.abspath(__file__))))
 FIELDS = """Host: www.example.com
@@ -47,14 +51,24 @@ def allocations(program, words, given=b""):
     return int(re.search(r"total heap usage: ([\d,]+) allocs", said)[1].replace(",", ""))
 
 
-def session(folder, requests, answer=PLAIN, more=0, config=os.path.join(ROOT, "conf", "config")):
-    """The words of `pass` and its input: so many requests on one connection, each with so many fields more."""
+def with_own_links(folder):
+    """The main file of conf/, but that each request makes a link of its own: here an entry of ORIGIN has one answer."""
+    conf = os.path.join(ROOT, "conf")
+    text = Path(conf, "config").read_text(encoding="utf-8")
+    main = Path(folder, "main")
+    main.write_text(f"{text}\nconfdir {conf}\nlink-reuse 0\n", encoding="utf-8")
+    return str(main)
+
+
+def session(folder, requests, answer=PLAIN, more=0, config=None):
+    """The words of `pass` and its input: so many requests on one connection, each with so many fields more; under conf/ where no
+    configuration is given."""
     origin = os.path.join(folder, "origin")
     with open(origin, "wb") as file:
         file.write((b"%d\n" % len(answer) + answer) * requests)
     fields = [*FIELDS, *(f"X-Field-{number}: a value of some length" for number in range(more))]
     heads = ("\r\n".join([f"GET http://www.example.com/page/{number} HTTP/1.1", *fields, "", ""]) for number in range(requests))
-    return ["pass", config, origin, os.path.join(folder, "sent")], "".join(heads).encode()
+    return ["pass", config or with_own_links(folder), origin, os.path.join(folder, "sent")], "".join(heads).encode()
 
 
 def chunked(many):
@@ -100,24 +114,38 @@ def each(count, one, other, step):
     return (count(*other) - count(*one)) / step
 
 
+def least(program, words):
+    """The milliseconds of the fastest of five runs."""
+    return 1000 * min(seconds(program, words) for _ in range(5))
+
+
+def rows(program, folder):
+    """What is measured, each with its figure."""
+    counted = lambda *given: instructions(program, *session(folder, *given))
+    allocated = lambda *given: allocations(program, *session(folder, *given))
+    check = lambda many: instructions(program, patterns(folder, many))
+    gets = [each(count, (10,), (90,), 80) for count in (counted, allocated)]
+    yield "a GET with eleven fields under conf/", "{:,.0f} instructions, {:.1f} allocations".format(*gets)
+    yield "a field more", f"{each(counted, (50, PLAIN, 0), (50, PLAIN, 20), 50 * 20):,.0f} instructions"
+    yield "a chunk of 100 bytes", f"{each(counted, (1, chunked(1000)), (1, chunked(3000)), 2000):,.0f} instructions"
+    yield "a byte of a page that conf/ filters", f"{each(counted, (1, page(20000)), (1, page(60000)), 40000):.1f} instructions"
+    empty, hosts, both = (under(program, folder, *given) for given in ((0, 0), (20000, 0), (20000, 100)))
+    yield "a GET that nothing fits, under an empty configuration", f"{empty:,.0f} instructions"
+    yield "the same beside 20,000 host patterns", f"{hosts - empty:,.0f} instructions more"
+    yield "for each host expression beside these", f"{(both - hosts) / 100:,.0f} instructions more"
+    yield "a host pattern, loaded", f"{(check(20000) - check(1000)) / 19000:,.0f} instructions"
+    conf = instructions(program, ["check", os.path.join(ROOT, "conf", "config")])
+    yield "`check` of conf/", f"{conf / 1e6:.1f} million instructions"
+    for many in (20000, 40000):
+        yield f"`check` of {many:,} host patterns", f"{least(program, patterns(folder, many)):.0f} ms"
+
+
 def main():
     program = os.path.abspath(sys.argv[1])
+    print(f"Measured on {time.strftime('%Y-%m-%d')}:\n\n| What | How much |\n|---|---|")
     with tempfile.TemporaryDirectory() as folder:
-        counted = lambda *given: instructions(program, *session(folder, *given))
-        allocated = lambda *given: allocations(program, *session(folder, *given))
-        print(f"a GET with eleven fields under conf/: {each(counted, (10,), (90,), 80):,.0f} instructions")
-        print(f"a GET with eleven fields under conf/: {each(allocated, (10,), (90,), 80):.1f} allocations")
-        print(f"a field more: {each(counted, (50, PLAIN, 0), (50, PLAIN, 20), 50 * 20):,.0f} instructions")
-        print(f"a chunk of 100 bytes: {each(counted, (1, chunked(1000)), (1, chunked(3000)), 2000):,.0f} instructions")
-        print(f"a byte of a page that conf/ filters: {each(counted, (1, page(20000)), (1, page(60000)), 40000):.1f} instructions")
-        check = lambda many: instructions(program, patterns(folder, many))
-        print(f"a host pattern, loaded: {(check(20000) - check(1000)) / 19000:,.0f} instructions")
-        least, hosts, both = (under(program, folder, *given) for given in ((0, 0), (20000, 0), (20000, 100)))
-        print(f"a GET that nothing fits, under an empty configuration: {least:,.0f} instructions")
-        print(f"20,000 host patterns more: {hosts - least:,.0f} instructions; a host expression beside them: {(both - hosts) / 100:,.0f}")
-        print(f"check conf/config: {1000 * min(seconds(program, ['check', os.path.join(ROOT, 'conf', 'config')]) for _ in range(5)):.0f} ms")
-        for many in (20000, 40000):
-            print(f"check of {many:,} host patterns: {1000 * min(seconds(program, patterns(folder, many)) for _ in range(5)):.0f} ms")
+        for what, figure in rows(program, folder):
+            print(f"| {what} | {figure} |", flush=True)
 
 
 main()

@@ -5,6 +5,10 @@ from dataclasses import dataclass, field
 
 LINE_LIMIT = 8192
 FILE_LIMIT = 1048576
+# How many files of a kind a main file may name.
+MOST_FILES = 16
+# How many patterns all actions files may have, and how many at most `pattern-limit` may allow.
+PATTERN_LIMIT, MOST_PATTERNS = 20000, 40000
 
 
 @dataclass

@@ -6,19 +6,35 @@ import re
 
 from . import jobs, tables
 from .expressions import Reader, Unread
-from .lines import FILE_LIMIT, LINE_LIMIT, is_utf8, logical, shown
-from .linting_actions import MOST_PATTERNS, PATTERN_LIMIT, ActionLints
+from .lines import (
+    FILE_LIMIT,
+    LINE_LIMIT,
+    MOST_PATTERNS,
+    PATTERN_LIMIT,
+    is_utf8,
+    logical,
+    shown,
+)
+from .linting_actions import ActionLints
 from .linting_patterns import PatternLints
+from .linting_templates import TemplateLints
 from .nearness import near
 from .scanning import scan
 from .letters import is_digits
 
+# So many directives that Privoxy alone has mean that the main file is one of Privoxy's.
+MANY_OTHERS = 3
 
-class Linter(ActionLints, PatternLints):
+
+class Linter(ActionLints, PatternLints, TemplateLints):
     """Goes through a configuration and collects complaints."""
 
     def __init__(self, config):
         self.config, self.complaints, self.cut = config, [], set()
+        # The main file's own name, and the folder of the pages where there is one.
+        self.main, self.pages_folder = os.path.basename(config), None
+        # The lines that are comments alone.
+        self.comments = set()
         self.templates, self.filters, self.folder = None, {}, os.path.dirname(config) or "."
         self.most_patterns = PATTERN_LIMIT
         self.patterns, self.too_many, self.named, self.aliases, self.listens = (
@@ -88,6 +104,8 @@ class Linter(ActionLints, PatternLints):
         """The logical lines that aren't empty."""
         lines = logical(data)
         for line in lines:
+            if line.raw[0].lstrip().startswith("#"):
+                self.comments.add((name, line.number))
             for at, raw in enumerate(line.raw):
                 if not is_utf8(raw):
                     word = next(part for part in re.findall(r"[^ \t]+", raw) if not is_utf8(part))
@@ -125,13 +143,14 @@ class Linter(ActionLints, PatternLints):
     def run(self):
         data = self.data_of(
             self.config,
-            os.path.basename(self.config),
+            self.main,
             "Name the main file of a configuration, as conf/config",
         )
         if data is None:
             return self.complaints
-        lines = self.lines_of(data, "config")
+        lines = self.lines_of(data, self.main)
         found = [(line.number, *self.parted(line.text)) for line in lines]
+        self.privoxys(found)
         self.folders(found)
         for number, name, value in found:
             self.directive(number, name, value)
@@ -141,6 +160,8 @@ class Linter(ActionLints, PatternLints):
             self.filter_file(number, value)
         for number, value in self.named["actionsfile"]:
             self.actions_file(number, value)
+        if self.pages_folder:
+            self.pages()
         if self.too_many:
             self.say(
                 self.too_many[0],
@@ -150,6 +171,23 @@ class Linter(ActionLints, PatternLints):
                 "Leave hosts of block lists out; helmthread-from-hosts stops there by itself",
             )
         return self.complaints
+
+    def privoxys(self, found):
+        """Whether it is a main file of Privoxy's as it is, with a complaint where it is."""
+        others = [
+            (number, name, value)
+            for number, name, value in found
+            if name.lower() in tables.ELSEWHERE
+            or name.lower() == "confdir" and value == tables.PRIVOXYS_FOLDER
+        ]
+        if len(others) >= MANY_OTHERS or any(value == tables.PRIVOXYS_FOLDER for _, _, value in others):
+            folder = os.path.dirname(self.config) or "."
+            self.say(
+                self.main,
+                *others[0][:2],
+                "this is a configuration of Privoxy's, and most of it does nothing as it is",
+                "helmthread-from-privoxy %s TO makes one of it that works here" % folder,
+            )
 
     def parted(self, text):
         name, *rest = re.split(r"[ \t]+", text, maxsplit=1)
@@ -166,7 +204,7 @@ class Linter(ActionLints, PatternLints):
             number, self.folder = set_by["confdir"]
             if not os.path.isdir(self.folder):
                 self.say(
-                    "config",
+                    self.main,
                     number,
                     self.folder,
                     "confdir names no folder",
@@ -178,9 +216,11 @@ class Linter(ActionLints, PatternLints):
             self.templates = templates
             if number:
                 self.no_templates(number)
-        elif not os.path.isfile(os.path.join(templates, "image-pattern")):
+            return
+        self.pages_folder = templates
+        if not os.path.isfile(os.path.join(templates, "image-pattern")):
             self.say(
-                "config",
+                self.main,
                 number,
                 templates,
                 "no image-pattern stands in this folder, so blocked images are broken; it may be Privoxy's",
@@ -189,7 +229,7 @@ class Linter(ActionLints, PatternLints):
 
     def no_templates(self, number):
         self.say(
-            "config",
+            self.main,
             number,
             self.templates,
             "the templates are looked for there, and it is no folder; pages will be plain texts, and blocked "
@@ -202,7 +242,7 @@ class Linter(ActionLints, PatternLints):
         low = name.lower()
         if low in tables.SOCKS4:
             self.say(
-                "config",
+                self.main,
                 number,
                 name,
                 "SOCKS4 servers aren't known",
@@ -212,7 +252,7 @@ class Linter(ActionLints, PatternLints):
             guess = near(re.split(r"[=:]", low)[0], tables.DIRECTIVES)
             if low not in tables.ELSEWHERE:
                 self.say(
-                    "config",
+                    self.main,
                     number,
                     name,
                     "there is no such directive; the line is passed over",
@@ -228,7 +268,7 @@ class Linter(ActionLints, PatternLints):
                 )
         elif value == "":
             self.say(
-                "config",
+                self.main,
                 number,
                 name,
                 "it has no value",
@@ -241,7 +281,7 @@ class Linter(ActionLints, PatternLints):
         self.named[kind].append((number, value))
         if value[:1] in "\"'":
             self.say(
-                "config",
+                self.main,
                 number,
                 value,
                 "quotes are part of a name here",
@@ -249,7 +289,7 @@ class Linter(ActionLints, PatternLints):
             )
         elif value.startswith("~"):
             self.say(
-                "config",
+                self.main,
                 number,
                 value,
                 "`~` isn't replaced",
@@ -258,7 +298,7 @@ class Linter(ActionLints, PatternLints):
         elif value.endswith(ending):
             self.named[kind].pop()
             self.say(
-                "config",
+                self.main,
                 number,
                 value,
                 "a file of this name belongs to %s" % other,
@@ -266,7 +306,7 @@ class Linter(ActionLints, PatternLints):
             )
         elif len(self.named[kind]) == 17:
             self.say(
-                "config",
+                self.main,
                 number,
                 value,
                 "it is the seventeenth, and there may be 16",
@@ -284,7 +324,7 @@ class Linter(ActionLints, PatternLints):
         right, here = tables.listens_here(value)
         if not right:
             self.say(
-                "config",
+                self.main,
                 number,
                 value,
                 "it isn't HOST:PORT with a port from 1 to 65535",
@@ -292,7 +332,7 @@ class Linter(ActionLints, PatternLints):
             )
         elif not here:
             self.say(
-                "config",
+                self.main,
                 number,
                 value,
                 "it isn't an address of this machine alone",
@@ -300,7 +340,7 @@ class Linter(ActionLints, PatternLints):
             )
         elif self.listens > 1:
             self.say(
-                "config",
+                self.main,
                 number,
                 value,
                 "it listens at the first listen-address alone",
@@ -314,7 +354,7 @@ class Linter(ActionLints, PatternLints):
                 digits or 4096
             )
             self.say(
-                "config",
+                self.main,
                 number,
                 value,
                 "it is a number of kilobytes, 0 to 16384",
@@ -326,7 +366,7 @@ class Linter(ActionLints, PatternLints):
             self.most_patterns = int(value)
         else:
             self.say(
-                "config",
+                self.main,
                 number,
                 value,
                 "it is a number of patterns, 0 to %d" % MOST_PATTERNS,
@@ -336,7 +376,7 @@ class Linter(ActionLints, PatternLints):
     def switch(self, number, value, name):
         if value not in ("0", "1"):
             meant = "0" if value.lower() in ("off", "no", "false") else "1"
-            self.say("config", number, value, "it is 0 or 1", "%s %s" % (name, meant))
+            self.say(self.main, number, value, "it is 0 or 1", "%s %s" % (name, meant))
 
     def toggle(self, number, value):
         self.switch(number, value, "toggle")
@@ -350,7 +390,7 @@ class Linter(ActionLints, PatternLints):
     def client_specific_tag(self, number, value):
         if len(value.split()) < 2:
             self.say(
-                "config",
+                self.main,
                 number,
                 value,
                 "a description is missing",
@@ -361,31 +401,31 @@ class Linter(ActionLints, PatternLints):
         words = value.split()
         if len(words) != 2:
             self.say(
-                "config",
+                self.main,
                 number,
                 value,
                 "it is a pattern and a parent",
                 "forward / HOST:PORT, or forward / . for none",
             )
             return
-        self.url_pattern("config", number, words[0])
+        self.url_pattern(self.main, number, words[0])
         self.parent(number, words[1], "forward %s %%s" % words[0])
 
     def forward_socks5(self, number, value):
         words = value.split()
         if len(words) != 3:
             self.say(
-                "config",
+                self.main,
                 number,
                 value,
                 "it is a pattern, a SOCKS server and a parent",
                 "forward-socks5 / HOST:PORT . where the server itself connects to the site",
             )
             return
-        self.url_pattern("config", number, words[0])
+        self.url_pattern(self.main, number, words[0])
         if not tables.is_parent(words[1]):
             self.say(
-                "config",
+                self.main,
                 number,
                 words[1],
                 "a SOCKS server with a password can't be used"
@@ -403,7 +443,7 @@ class Linter(ActionLints, PatternLints):
         plain = re.sub(r"^\w+://|/+$", "", word)
         if "@" in plain:
             self.say(
-                "config",
+                self.main,
                 number,
                 word,
                 "a parent with a password can't be used",
@@ -411,7 +451,7 @@ class Linter(ActionLints, PatternLints):
             )
         else:
             self.say(
-                "config",
+                self.main,
                 number,
                 word,
                 "a parent is HOST:PORT, or `.`",
@@ -425,10 +465,23 @@ class Linter(ActionLints, PatternLints):
         data = self.data_of(
             path,
             value,
-            "Named in line %d of config%s; make the file, or put a # before that line"
-            % (number, why),
+            "%sNamed in line %d of %s%s; make the file, or put a # before that line"
+            % (self.meant(path), number, self.main, why),
         )
         return None if data is None else self.lines_of(data, value)
+
+    def meant(self, path):
+        """The file that was surely meant, where there is none of this name."""
+        folder, name = os.path.split(path)
+        if os.path.exists(path) or not os.path.isdir(folder):
+            return ""
+        there = [it for it in os.listdir(folder) if os.path.isfile(os.path.join(folder, it))]
+        whole = [name + ending for ending in (".action", ".filter") if name + ending in there]
+        # (endings alone make no two names alike)
+        stem = os.path.splitext(name)[0]
+        alike = [it for it in there if near(stem, [os.path.splitext(it)[0]], 0.6)]
+        guess = whole[0] if whole else near(name, alike)
+        return "Did you mean `%s`? " % guess if guess else ""
 
     # Filter files.
 

@@ -6,8 +6,6 @@ from . import tables
 from .nearness import near
 from .letters import is_alnum
 
-# How many patterns there may be, and how many at most `pattern-limit` may allow.
-PATTERN_LIMIT, MOST_PATTERNS = 20000, 40000
 BLOCKS = ("alias", "settings", "description")
 VALUES = {
     "field": "a field line as `X-Note: hello`, of no field that belongs to a connection",
@@ -23,14 +21,15 @@ class ActionLints:
 
     def actions_file(self, number, name):
         self.aliases, block, seen_alias, seen_section = {}, None, False, False
-        for line in self.place(number, name, "actionsfile") or []:
+        lines = self.place(number, name, "actionsfile") or []
+        for line, after in zip(lines, [*lines[1:], None]):
             if line.text.startswith("{{"):
                 block = line.text.strip("{} \t").lower()
                 self.block(name, line, block, seen_alias, seen_section)
                 seen_alias = seen_alias or block == "alias"
             elif line.text.startswith("{"):
                 block, seen_section = "section", True
-                self.section(name, line)
+                self.section(name, line, after)
             elif block == "alias":
                 self.alias(name, line)
             elif block == "section":
@@ -85,11 +84,12 @@ class ActionLints:
             )
             return
         if word.lower() in self.aliases:
-            self.say(name, line.number, word, "an alias of this name stands above", "Another name")
+            above = "an alias of this name stands above, in line %d" % self.aliases[word.lower()]
+            self.say(name, line.number, word, above, "Another name")
         self.words(name, line, rest)
-        self.aliases[word.lower()] = True
+        self.aliases.setdefault(word.lower(), line.number)
 
-    def section(self, name, line):
+    def section(self, name, line, after):
         end = tables.heading_end(line.text)
         if (name, line.number) in self.cut:
             self.cut.add((name, line.number + 1))
@@ -118,6 +118,21 @@ class ActionLints:
             )
         else:
             self.words(name, line, line.text[1:-1])
+            self.without_pattern(name, line, after)
+
+    def without_pattern(self, name, line, after):
+        """A section without a pattern. Where a comment stands right below it, its patterns are
+        out of use on purpose."""
+        below = line.number + len(line.raw)
+        has_none = after is None or after.text.startswith("{")
+        if has_none and (name, below) not in self.comments:
+            self.say(
+                name,
+                line.number,
+                line.text[:60],
+                "the section has no pattern, so it does nothing",
+                "A pattern in the line below, as .example.com, or / for all pages",
+            )
 
     def words(self, name, line, text):
         """The words of a section or an alias."""
@@ -241,7 +256,7 @@ class ActionLints:
                 write = {
                     "ports": "+%s{443}" % key,
                     "minutes": "+%s{%s}" % (key, digits[0] if digits else "60"),
-                    "parent": "+%s{forward HOST:PORT}" % key,
+                    "parent": self.other_way(key, value),
                     "field": "+%s{X-Note: hello}" % key,
                 }.get(rule, "+%s{VALUE}" % key)
                 self.say(
@@ -256,6 +271,14 @@ class ActionLints:
                 self.no_templates(0)
         elif key in tables.FIXED_WORDS and value not in tables.FIXED_WORDS[key]:
             self.fixed_word(name, number, word, key, value)
+
+    def other_way(self, key, value):
+        """What to write in place of a value that says which way requests go."""
+        words = value.split()
+        if words[:1] and words[0] in tables.SOCKS5:
+            line = "`%s PATTERN %s`" % (words[0], " ".join(words[1:]))
+            return "A line %s in %s for each pattern of the section" % (line, self.main)
+        return "+%s{forward HOST:PORT}" % key
 
     def fixed_word(self, name, number, word, key, value):
         """A value beside those that mean something of their own."""
@@ -326,7 +349,7 @@ class ActionLints:
         guess = near(value, list(self.filters.get(kind, ())), 0.6)
         files = (
             ", ".join(file for _, file in self.named["filterfile"])
-            or "no filterfile is named in config"
+            or "no filterfile is named in " + self.main
         )
         self.say(
             name,
@@ -335,5 +358,5 @@ class ActionLints:
             "no filter has this name (looked in: %s)" % files,
             "%s%s{%s}" % (word[0], key, guess)
             if guess
-            else "The name of a filter, or a line `filterfile` in config",
+            else "The name of a filter, or a line `filterfile` in " + self.main,
         )

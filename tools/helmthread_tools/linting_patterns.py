@@ -161,6 +161,15 @@ class PatternLints:
                 "behind the colon stands a list of ports",
                 host.partition(":")[0] + ":80,8000-8100" + rest,
             )
+        elif re.match(r"\*\.[^*]", host):
+            self.say(
+                name,
+                number,
+                host,
+                "`*` stands for one label, so it matches neither %s nor a.b%s"
+                % (host[2:], host[1:]),
+                host[1:] + rest,
+            )
         elif ".." in host:
             self.say(name, number, host, "two dots side by side", host.replace("..", ".") + rest)
         elif (

@@ -3,50 +3,31 @@ from dataclasses import dataclass, field
 
 from . import jobs, rewriting, tables
 from .expressions import Unread, is_read_as_it_is, parse, write
-from .lines import FILE_LIMIT, LINE_LIMIT, escaped, logical, recoded, shown
+from .lines import LINE_LIMIT, escaped, logical, recoded, shown
 from .letters import is_alnum, is_digits
+from .telling import Told
 
-# What stands for a filter of Debian's that may have nothing left, among the filters of
-# conf/default.filter.
-STANDS_FOR = {
-    "all-popups": "same-window and quiet-windows",
-    "banners-by-size": "banner-sizes",
-    "jumping-windows": "still-windows",
-    "no-ping": "no-pings",
-    "refresh-tags": "no-reload",
-    "unsolicited-popups": "quiet-windows",
-    "webbugs": "tiny-images",
-}
+ROUTE = "forward-override"
 
-
-@dataclass
-class Told:
-    """What is told of one filter: its kind and name, jobs of before and of now, what differs, what
-    was left out."""
-
-    kind: str
-    name: str
-    before: int = 0
-    after: int = 0
-    nearly: list = field(default_factory=list)
-    left: list = field(default_factory=list)
+# Kinds of what is left out or written otherwise, as the report counts them.
+FILTERS_LEFT = "filters without a name, or with the name of another one"
+KINDS_LEFT = "filters of kinds that have no effect here"
+JOBS_LEFT = "jobs before the first filter"
+FILES_LEFT = "files that aren't there, or can't be taken over"
+LINES_LEFT = "lines before the first section"
+BLOCKS_LEFT = "blocks of an unknown name"
+ALIASES_LEFT = "aliases that can't be read, or stand twice"
+ACTIONS_LEFT = "actions that aren't known here, or whose value isn't taken"
+PATTERNS_LEFT = "patterns that have no form here"
+TAGS_LEFT = "client tags that stand twice"
+IN_FRONT = "patterns with look-around stand in front of their file, with a section {-block} behind them"
+NEW_VALUES = "values became ones that are taken here"
+IDLE = "sections without a pattern became comments"
+PARTED = "patterns behind a `}` became lines of their own"
 
 
-@dataclass
-class Report:
-    """What the whole conversion has to tell. `used` has the actions of all sections and the values
-    that they were given."""
-
-    filters: list = field(default_factory=list)
-    notes: list = field(default_factory=list)
-    left: list = field(default_factory=list)
-    used: dict = field(default_factory=dict)
-
-    def note(self, place, text):
-        self.notes.append("%s: %s" % (place, text))
-
-    def leave(self, place, text):
-        self.left.append("%s: %s" % (place, text))
+class Untaken(Exception):
+    """A file can't be taken over, with the reason."""
 
 
 def as_it_stands(line):
@@ -82,13 +63,15 @@ def filter_file(data, name, report):
                 report.leave(
                     place,
                     "a filter without a name" if not words else "a second filter %s" % words[0],
+                    FILTERS_LEFT,
                 )
                 out += out_of_use(line)
                 continue
             seen.add(key)
             told = None
             if unread:
-                report.leave(place, "%s %s: filters of this kind have no effect" % (kind, words[0]))
+                why = "%s %s: filters of this kind have no effect" % (kind, words[0])
+                report.leave(place, why, KINDS_LEFT)
             else:
                 told = Told(kind, words[0])
                 report.filters.append(told)
@@ -97,7 +80,7 @@ def filter_file(data, name, report):
             out += as_it_stands(line)
         elif skipping or told is None:
             if told is None and not skipping:
-                report.leave(place, "a job before the first filter")
+                report.leave(place, "a job before the first filter", JOBS_LEFT)
             out += out_of_use(line)
         else:
             out += filter_job(line, told)
@@ -214,9 +197,12 @@ class ActionsFile:
 
     def convert(self):
         """The converted file's bytes."""
-        for line in self.lines:
+        for at, line in enumerate(self.lines):
             if line.text == "":
                 self.out += as_it_stands(line)
+            elif self.is_idle(at):
+                self.report.note(self.place(line), "%s has no pattern" % shown(line.text), IDLE)
+                self.out += out_of_use(line)
             elif line.text.startswith("{"):
                 self.heading(line)
             elif self.block == "alias":
@@ -224,7 +210,9 @@ class ActionsFile:
             elif self.block == "section":
                 self.pattern(line)
             elif self.block == "none":
-                self.report.leave(self.place(line), "a line before the first section")
+                self.report.leave(
+                    self.place(line), "a line before the first section", LINES_LEFT
+                )
                 self.out += out_of_use(line)
             else:
                 self.out += as_it_stands(line)
@@ -236,6 +224,16 @@ class ActionsFile:
             self.out[at:at] = head + self.front + [""]
         return joined(self.out)
 
+    def is_idle(self, at):
+        """Whether a section begins in this line, and another one right below it."""
+        pair = [line.text for line in self.lines[at : at + 2]]
+        return (
+            len(pair) == 2
+            and all(text.startswith("{") for text in pair)
+            and not pair[0].startswith("{{")
+            and tables.heading_end(pair[0]) == len(pair[0]) - 1
+        )
+
     def place(self, line):
         return "%s:%d" % (self.name, line.number)
 
@@ -244,7 +242,7 @@ class ActionsFile:
         if end != len(line.text) - 1:
             if end > 0 and not line.text.startswith("{{"):
                 self.report.note(
-                    self.place(line), "what stood behind `}` is a pattern of its own line"
+                    self.place(line), "what stood behind `}` is a pattern of its own line", PARTED
                 )
                 self.section(line, line.text[: end + 1])
                 self.pattern(
@@ -253,13 +251,13 @@ class ActionsFile:
                     )
                 )
                 return
-            raise SystemExit("%s: braces don't balance" % self.place(line))
+            raise Untaken("its braces don't balance in line %d" % line.number)
         inner = line.text[1:-1]
         if inner.startswith("{"):
             name = inner.strip("{} \t").lower()
             self.block = name if name in ("alias", "settings", "description") else "unknown"
             if self.block == "unknown":
-                self.report.leave(self.place(line), "a block {{%s}}" % name)
+                self.report.leave(self.place(line), "a block {{%s}}" % name, BLOCKS_LEFT)
                 self.out += out_of_use(line)
             else:
                 self.out += as_it_stands(line)
@@ -301,8 +299,7 @@ class ActionsFile:
             or any(c in " \t{}" for c in name)
             or name.lower() in self.aliases
         ):
-            self.report.leave(self.place(line), "an alias that can't be read, or stands twice")
-            self.out += out_of_use(line)
+            self.unread_alias(line, rest)
             return
         words = tables.words_of(rest)
         made = [new for word in words for new in self.word(word, line, self.aliases)]
@@ -315,6 +312,20 @@ class ActionsFile:
             else [recoded(escaped("%s = %s" % (name, " ".join(made))))]
         )
 
+    def unread_alias(self, line, rest):
+        """An alias that isn't read. One that says which way requests go stays in use."""
+        if self.is_route(tables.words_of(rest)):
+            self.report.keep(self.place(line), line.text, 20, "an alias of this name stands above")
+            self.out += as_it_stands(line)
+        else:
+            why = "an alias that can't be read, or stands twice"
+            self.report.leave(self.place(line), why, ALIASES_LEFT)
+            self.out += out_of_use(line)
+
+    def is_route(self, words):
+        """Whether the words say which way requests go."""
+        return any(tables.parted(it)[1].lower() == ROUTE for it in self.effective(words))
+
     def word(self, word, line, aliases):
         """The words that stand for a word of a section or of an alias."""
         if word.lower() in aliases:
@@ -322,14 +333,34 @@ class ActionsFile:
         sign, name, value = tables.parted(word)
         key = "hide-referrer" if name.lower() == "hide-referer" else name.lower()
         if not sign or key not in tables.ACTIONS:
-            self.report.leave(self.place(line), "`%s`: no such action" % shown(word))
+            self.report.leave(
+                self.place(line), "`%s`: no such action" % shown(word), ACTIONS_LEFT
+            )
             return []
         shape, rule = tables.ACTIONS[key]
         if shape == tables.FLAG:
             return [word] if value is None else [sign + name]
         if sign == "-":
             return [word] if value is None or shape == tables.LIST else [sign + name]
+        if key == ROUTE:
+            return [self.route(word, name, value or "", line)]
         return self.valued(word, name, key, value, rule, line)
+
+    def route(self, word, name, value, line):
+        """A word that says which way requests go. It stays, whatever its value is."""
+        words = value.split()
+        if words[:1] and words[0].lower() == "forward":
+            words[0] = "forward"
+        if tables.value_is_allowed(ROUTE, " ".join(words)):
+            return "+%s{%s}" % (name, " ".join(words))
+        why = "this action takes `forward HOST:PORT` and `forward .` alone"
+        if words[:1] and words[0].lower() in tables.SOCKS5:
+            why += "; lines as `%s PATTERN %s` in config do the same for a section's patterns" % (
+                words[0].lower(),
+                " ".join(words[1:]),
+            )
+        self.report.keep(self.place(line), word, 15, why)
+        return word
 
     def valued(self, word, name, key, value, rule, line):
         """A word with `+` of an action that takes a value."""
@@ -339,7 +370,7 @@ class ActionsFile:
                 return ["+%s{}" % name]
             if key == "fast-redirects":
                 return ["+%s{simple-check}" % name]
-            self.report.leave(place, "`%s` without a value" % shown(word))
+            self.report.leave(place, "`%s` without a value" % shown(word), ACTIONS_LEFT)
             return []
         if (
             key in tables.FIXED_WORDS
@@ -356,9 +387,13 @@ class ActionsFile:
                     value.replace("0-", "-") if tables.is_ports(value.replace("0-", "-")) else None
                 )
             if mended:
-                self.report.note(place, "`%s` became {%s}" % (shown(word), mended))
+                self.report.note(place, "`%s` became {%s}" % (shown(word), mended), NEW_VALUES)
                 return ["+%s{%s}" % (name, mended)]
-            self.report.leave(place, "`%s`: a value that isn't taken here" % shown(word))
+            why = "`%s`: a value that isn't taken here" % shown(word)
+            if rule == "ports":
+                self.report.way(place, why + "; without it tunnels may go to all ports")
+            else:
+                self.report.leave(place, why, ACTIONS_LEFT)
             return []
         return [word]
 
@@ -375,15 +410,16 @@ class ActionsFile:
                 raise Unread("its braces don't balance")
             return ["+%s{%s}" % (name, text)]
         except Unread as reason:
-            self.report.leave(place, "`%s`: %s" % (shown(word), reason))
+            self.report.leave(place, "`%s`: %s" % (shown(word), reason), ACTIONS_LEFT)
             return []
 
     def pattern(self, line):
+        if self.is_route(self.words) and line.text.startswith(tables.REQUEST_TAGS):
+            self.tagged(line)
         try:
             made = pattern(line.text)
         except Unread as reason:
-            self.report.leave(self.place(line), "the pattern `%s`: %s" % (shown(line.text), reason))
-            self.out += out_of_use(line)
+            self.unread(line, reason)
             return
         if made.taken_back:
             self.pair(line, made)
@@ -392,73 +428,86 @@ class ActionsFile:
         else:
             self.out += [recoded(escaped(text)) for text in made.patterns]
 
+    def tagged(self, line):
+        """A pattern for a tag of a request, in a section that says which way requests go."""
+        if line.text.startswith("CLIENT-TAG:"):
+            why = "no client of `serve` can carry a client tag yet, so this way is never taken"
+            self.report.way(self.place(line), "`%s`: %s" % (shown(line.text), why))
+        else:
+            self.report.tagged.append(self.place(line))
+
+    def unread(self, line, reason):
+        """A pattern that has no form. In a section that says which way requests go it stays in
+        use."""
+        if self.is_route(self.words):
+            self.report.keep(self.place(line), line.text, 6, reason)
+            self.out += as_it_stands(line)
+        else:
+            why = "the pattern `%s`: %s" % (shown(line.text), reason)
+            self.report.leave(self.place(line), why, PATTERNS_LEFT)
+            self.out += out_of_use(line)
+
     def pair(self, line, made):
         """The pattern without look-around and a section that takes it back, before all other
         sections."""
-        blocks = any(
-            tables.parted(word)[:2] == ("+", "block") for word in self.effective(self.words)
-        )
-        if not blocks:
-            self.report.leave(
-                self.place(line),
-                "the pattern `%s`: look-around in a section that doesn't block" % shown(line.text),
-            )
-        else:
-            self.front += [
-                recoded(escaped(t))
-                for t in [
-                    "{%s}" % " ".join(self.words),
-                    *made.patterns,
-                    "{-block}",
-                    *made.taken_back,
-                ]
+        words = self.effective(self.words)
+        if self.is_route(words) or not any(tables.parted(it)[:2] == ("+", "block") for it in words):
+            self.unread(line, "look-around in a section that doesn't only block")
+            return
+        self.front += [
+            recoded(escaped(text))
+            for text in [
+                "{%s}" % " ".join(self.words),
+                *made.patterns,
+                "{-block}",
+                *made.taken_back,
             ]
-            self.report.note(
-                self.place(line),
-                "the pattern `%s` stands in front of the file, with a section {-block} behind it"
-                % shown(line.text),
-            )
+        ]
+        self.report.note(
+            self.place(line),
+            "the pattern `%s` stands in front of the file, with a section {-block} behind it"
+            % shown(line.text),
+            IN_FRONT,
+        )
         self.out += out_of_use(line)
 
 
 # The main file.
 
 
+@dataclass
+class Lost:
+    """A named file that isn't taken over: why, and whether it may say which way requests go."""
+
+    why: str
+    may_lead: bool
+
+
 class MainFile:
-    """Converts a main file. `files` gets (kind, name as written) for each file that it names."""
+    """Converts a main file."""
 
     def __init__(self, data, report):
-        self.lines, self.report, self.files, self.listens, self.tags, self.files_end = (
-            logical(data),
-            report,
-            [],
-            False,
-            set(),
-            None,
-        )
+        self.lines, self.report, self.listens, self.tags = logical(data), report, False, set()
         self.kept = {"actionsfile": [], "filterfile": []}
 
     def names(self):
         """The files that are named, in order, and confdir, as written."""
         folder = None
         for line in self.lines:
-            words = line.text.split(None, 1)
-            if len(words) == 2 and words[0].lower() in self.kept:
-                self.kept[words[0].lower()].append(words[1])
-            if len(words) == 2 and words[0].lower() == "confdir":
-                folder = words[1]
+            directive, value = self.parted(line)
+            if directive in self.kept and value:
+                self.kept[directive].append(value)
+            elif directive == "confdir" and value:
+                folder = value
         return folder, self.kept
 
-    def convert(self, folder, renamed, first):
-        """The converted file's bytes. `renamed` maps a name as written to its new one, or None
-        where the file isn't there; `first` is
-        an actions file that is read before all others."""
+    def convert(self, folder, renamed, first, limit):
+        """The converted file's bytes. `renamed` maps a name as written to its new names, or to a
+        `Lost`; `first` is an actions file that is read before all others; `limit` is the
+        pattern-limit that is needed, or None."""
         out, done = [], False
         for line in self.lines:
-            directive, _, value = (
-                line.text.partition(" ") if " " in line.text else line.text.partition("\t")
-            )
-            directive, value = directive.lower(), value.strip(" \t")
+            directive, value = self.parted(line)
             if directive == "actionsfile" and not done:
                 out += ["# Read first: what holds for all pages.", "actionsfile %s" % first]
                 done = True
@@ -470,6 +519,8 @@ class MainFile:
                 out += self.directive(line, directive, value)
         if not done:
             out.append("actionsfile %s" % first)
+        if limit:
+            out += ["", "# So many patterns stand in the actions files.", "pattern-limit %d" % limit]
         out += [
             "",
             "# Where these files stand, and Helmthread's own pages.",
@@ -478,32 +529,57 @@ class MainFile:
         ]
         return joined(out)
 
+    def parted(self, line):
+        """A line's directive, in small letters, and its value."""
+        name, *rest = line.text.split(None, 1)[:2] or [""]
+        return name.lower(), rest[0] if rest else ""
+
     def file_line(self, line, directive, value, renamed):
-        new = renamed.get(value)
-        if new is None:
-            self.report.leave(
-                "config:%d" % line.number, "%s %s: the file isn't there" % (directive, shown(value))
-            )
+        place = "config:%d" % line.number
+        new = renamed.get(value, Lost("it names no file", False))
+        if isinstance(new, Lost):
+            if new.may_lead:
+                why = "%s, and it may say which way requests go" % new.why
+                self.report.keep(place, line.text, 32, why)
+                # (by its last name, so that no file elsewhere is read for it)
+                return ["%s %s" % (directive, value.rpartition("/")[2])]
+            self.report.leave(place, "%s %s: %s" % (directive, shown(value), new.why), FILES_LEFT)
             return out_of_use(line)
-        return as_it_stands(line) if new == value else ["%s %s" % (directive, new)]
+        if new == [value]:
+            return as_it_stands(line)
+        return ["%s %s" % (directive, name) for name in new]
 
     def directive(self, line, name, value):
         place = "config:%d" % line.number
-        if name in ("confdir", "templdir"):
+        if name == "confdir":
             return out_of_use(line)
         if name in tables.SOCKS4:
-            return self.kept_socks(line, name, value, place, "SOCKS4 servers aren't known")
+            return self.kept_line(line, place, "SOCKS4 servers aren't known")
         if name not in tables.DIRECTIVES:
-            why = tables.ELSEWHERE.get(name, "no such directive")
-            self.report.note(place, "`%s` has no effect: %s" % (name, why))
+            self.without_effect(line, name, value, place)
             return out_of_use(line)
         return getattr(self, name.replace("-", "_"))(line, value, place)
+
+    def without_effect(self, line, name, value, place):
+        why = tables.ELSEWHERE.get(name, "no such directive")
+        if name in tables.WHO_IS_SERVED and value != "0":
+            self.report.way(place, "`%s` has no effect: %s" % (shown(line.text), why))
+        else:
+            self.report.without_effect(place, name, why)
+
+    def templdir(self, line, value, place):
+        self.report.way(
+            place, "`templdir %s`: Helmthread's pages stand in the place of these" % shown(value)
+        )
+        return out_of_use(line)
 
     def listen_address(self, line, value, place):
         right, here = tables.listens_here(value)
         if self.listens:
-            self.report.leave(
-                place, "`listen-address %s`: it listens at one address" % shown(value)
+            self.report.way(
+                place,
+                "`listen-address %s`: it listens at the first address alone, and this line is a comment; "
+                "who comes by this one gets no connection" % shown(value),
             )
             return out_of_use(line)
         self.listens = True
@@ -511,61 +587,68 @@ class MainFile:
             return as_it_stands(line)
         port = value.rpartition(":")[2]
         new = "127.0.0.1" + (":" + port if is_digits(port) and 0 < int(port) < 65536 else "")
-        self.report.note(
+        self.report.way(
             place,
-            "`listen-address %s` became %s: it serves this machine alone" % (shown(value), new),
+            "`listen-address %s` became %s: this machine alone is served, others get no connection"
+            % (shown(value), new),
         )
         return ["listen-address " + new]
 
     def buffer_limit(self, line, value, place):
-        if is_digits(value) and int(value) <= 16384:
-            return as_it_stands(line)
-        self.report.note(place, "`buffer-limit %s` became 16384, which is the most" % shown(value))
-        return ["buffer-limit 16384"]
+        return self.number(line, value, place, "buffer-limit", 16384)
 
     def pattern_limit(self, line, value, place):
-        if is_digits(value) and int(value) <= 40000:
+        return self.number(line, value, place, "pattern-limit", 40000)
+
+    def number(self, line, value, place, name, most):
+        """A line whose value is a number up to `most`."""
+        if is_digits(value) and int(value) <= most:
             return as_it_stands(line)
-        self.report.note(place, "`pattern-limit %s` became 40000, which is the most" % shown(value))
-        return ["pattern-limit 40000"]
+        why = "`%s %s` became %d, which is the most" % (name, shown(value), most)
+        self.report.note(place, why, NEW_VALUES)
+        return ["%s %d" % (name, most)]
 
     def forward(self, line, value, place):
         words = value.split()
         if len(words) == 2 and tables.is_parent(words[1]):
-            return as_it_stands(line)
-        self.report.leave(
-            place,
-            "`forward %s`: a parent is a host, or host:port, without a password" % shown(value),
-        )
-        return out_of_use(line)
+            return self.forward_line(line, words, place)
+        return self.kept_line(line, place, "a parent is a host, or host:port, without a password")
 
-    def kept_socks(self, line, name, value, place, why):
+    def forward_line(self, line, words, place):
+        """A line that says which way requests go, with a pattern and right places."""
+        if tables.has_protocol(words[0]):
+            return self.kept_line(line, place, "a pattern has no http:// in front", 3)
+        if words[0].startswith(tables.HOST_EXPRESSION):
+            return self.kept_line(line, place, "an expression for a host isn't known here", 4)
+        try:
+            made = pattern(words[0])
+        except Unread as reason:
+            return self.kept_line(line, place, reason, 6)
+        if made.patterns == words[:1]:
+            return as_it_stands(line)
+        if made.taken_back or len(made.patterns) != 1:
+            return self.kept_line(line, place, "look-around in a pattern has no form here", 6)
+        directive = line.text.split(None, 1)[0]
+        return [recoded(escaped(" ".join([directive, made.patterns[0], *words[1:]])))]
+
+    def kept_line(self, line, place, why, fault=29):
         """A line that `check` refuses and that stays: without it requests would go another way."""
-        self.report.note(
-            place,
-            "`%s %s` is kept, and `check` refuses it (29): %s; requests would go another way without "
-            "the line, so it wasn't taken out" % (name, shown(value), why),
-        )
+        self.report.keep(place, line.text, fault, why)
         return as_it_stands(line)
 
     def forward_socks5(self, line, value, place):
         words = value.split()
         if len(words) == 3 and all(map(tables.is_parent, words[1:])):
-            return as_it_stands(line)
-        return self.kept_socks(
-            line,
-            line.text.split()[0].lower(),
-            value,
-            place,
-            "it is a pattern, a SOCKS server and a parent, both HOST:PORT without a password",
-        )
+            return self.forward_line(line, words, place)
+        why = "it is a pattern, a SOCKS server and a parent, both HOST:PORT without a password"
+        return self.kept_line(line, place, why)
 
     forward_socks5t = forward_socks5
 
     def switch(self, line, value, place):
         if value in ("0", "1"):
             return as_it_stands(line)
-        self.report.note(place, "`%s` became 1" % shown(line.text))
+        self.report.note(place, "`%s` became 1" % shown(line.text), NEW_VALUES)
         return [line.text.split()[0] + " 1"]
 
     toggle = switch
@@ -574,20 +657,25 @@ class MainFile:
     def link_reuse(self, line, value, place):
         if value in ("0", "1"):
             return as_it_stands(line)
-        self.report.note(place, "`%s` became 0" % shown(line.text))
+        self.report.note(place, "`%s` became 0" % shown(line.text), NEW_VALUES)
         return ["link-reuse 0"]
 
     def client_specific_tag(self, line, value, place):
         words = value.split(None, 1)
         if not words or words[0] in self.tags:
-            self.report.leave(place, "`client-specific-tag %s` stands twice" % shown(value))
+            self.report.leave(
+                place, "`client-specific-tag %s` stands twice" % shown(value), TAGS_LEFT
+            )
             return out_of_use(line)
         self.tags.add(words[0])
+        self.report.way(
+            place,
+            "`client-specific-tag %s`: no client of `serve` can carry a client tag yet; sections with "
+            "CLIENT-TAG: never hold" % shown(words[0]),
+        )
         return (
             as_it_stands(line)
             if len(words) == 2
             else ["client-specific-tag %s %s" % (words[0], words[0])]
         )
 
-
-__all__ = ["ActionsFile", "FILE_LIMIT", "MainFile", "Report", "STANDS_FOR", "filter_file"]

@@ -83,6 +83,7 @@ READ_KINDS = (
 UNREAD_KINDS = ("EXTERNAL-FILTER", "CLIENT-BODY-FILTER", "CLIENT-BODY-TAGGER")
 # What begins a URL pattern whose host is an expression.
 HOST_EXPRESSION = "PCRE-HOST-PATTERN:"
+REQUEST_TAGS = ("TAG:", "NO-REQUEST-TAG:", "CLIENT-TAG:")
 TAG_WORDS = ("TAG:", "NO-REQUEST-TAG:", "NO-RESPONSE-TAG:", "CLIENT-TAG:")
 
 DIRECTIVES = (
@@ -102,7 +103,25 @@ DIRECTIVES = (
     "client-specific-tag",
 )
 SOCKS4 = ("forward-socks4", "forward-socks4a")
+SOCKS5 = ("forward-socks5", "forward-socks5t")
 
+# The pages of the proxy's own, and the conditions that a template may have.
+PAGES = (
+    "blocked",
+    "connect-denied",
+    "no-such-domain",
+    "connect-failed",
+    "forwarding-failed",
+    "send-failed",
+    "no-server-data",
+    "bad-reply",
+    "invalid-request",
+    "head-too-long",
+    "bad-rewrite",
+)
+CONDITIONS = ("block-reason", "parent")
+
+PRIVOXYS_FOLDER = "/etc/privoxy"
 # Directives of Privoxy's that aren't read here, each with what that means.
 ELSEWHERE = {
     "accept-intercepted-requests": "requests that were led here without the browser's knowledge aren't served",
@@ -121,7 +140,7 @@ ELSEWHERE = {
     "keep-alive-timeout": "times are fixed",
     "default-server-timeout": "times are fixed",
     "socket-timeout": "times are fixed",
-    "connection-sharing": "links aren't shared",
+    "connection-sharing": "`link-reuse 1` is something like it: requests of one client share links",
     "logdir": "there is no log",
     "logfile": "there is no log",
     "debug": "there is no log",
@@ -158,6 +177,19 @@ ELSEWHERE = {
     "client-specific-tag-lifetime": "tags don't end",
 }
 
+# Those of them that say who is served, or by which way, where their value isn't 0.
+WHO_IS_SERVED = (
+    "accept-intercepted-requests",
+    "enable-proxy-authentication-forwarding",
+    "permit-access",
+    "deny-access",
+    "trustfile",
+    "trust-info-url",
+    "client-tag-lifetime",
+    "client-specific-tag-lifetime",
+    "trust-x-forwarded-for",
+)
+
 HOST = re.compile(r"(?:[A-Za-z0-9._-]+|\[[0-9A-Fa-f:.]+\])(?::(\d{1,5}))?\Z")
 HELD_BACK = {
     "connection",
@@ -178,6 +210,11 @@ def is_parent(text):
     """Whether the text is `.`, or a host and perhaps a port."""
     found = HOST.match(text)
     return text == "." or bool(found and (found[1] is None or 0 < int(found[1]) < 65536))
+
+
+def has_protocol(text):
+    """Whether a pattern begins with http:// or https://, which a pattern here doesn't."""
+    return re.match("(?i)https?://", text) is not None
 
 
 def is_ports(text):

@@ -9,6 +9,7 @@ ghost use Rattle.px_commands.specs.Clients.{ServesClient, SharesLinks, TakesNewL
 use crate::texts::tag_texts;
 use px_base::{Clock, Dialer, List, Mem, Peer, Sink, Source, Text};
 use px_config::Config;
+use px_link_pool::{Look, Sees};
 use px_publish::{Configs, FixedConfig};
 use px_serve::{SessionEnd, serve_connection};
 use px_shared::{SharedSession, serve_shared};
@@ -77,6 +78,8 @@ pub fn serve_client<R: Threads + Sync, S: Source, O: Sink, D: Dialer, T: Clock>(
     out: &mut O,
     clock: &mut T,
 ) -> Ended<D>
+where
+    Look: Sees<D::In>,
     ensures serves { ServesClient (record { ins = D.In.state; outs = D.Out.state }) client.sharing (record { tags = client.tags; peer = client.peer.address })
         (record { tells = ⟦<FixedConfig<Config> as Configs>⟧.tells; view = ⟦<FixedConfig<Config> as Configs>⟧.view client.configs; pair = ⟦<FixedConfig<Config> as Configs>⟧.pair client.configs; coming = ⟦<FixedConfig<Config> as Configs>⟧.coming client.configs })
         (S.state input.old) (S.state input.new) (O.state out.old) (O.state out.new) (D.state dialer) (D.state result.dialer) (T.state clock.old) (T.state clock.new) result.end }
@@ -104,6 +107,8 @@ fn share_links<R: Threads + Sync, S: Source, O: Sink, D: Dialer, T: Clock>(
     out: &mut O,
     clock: &mut T,
 ) -> Ended<D>
+where
+    Look: Sees<D::In>,
     ensures shares { SharesLinks (record { ins = D.In.state; outs = D.Out.state }) (record { tags = client.tags; peer = client.peer.address })
         (record { tells = ⟦<FixedConfig<Config> as Configs>⟧.tells; view = ⟦<FixedConfig<Config> as Configs>⟧.view client.configs; pair = ⟦<FixedConfig<Config> as Configs>⟧.pair client.configs; coming = ⟦<FixedConfig<Config> as Configs>⟧.coming client.configs })
         (S.state input.old) (S.state input.new) (O.state out.old) (O.state out.new) (D.state dialer) (D.state result.dialer) (T.state clock.old) (T.state clock.new) result.end }
@@ -124,6 +129,7 @@ fn share_links<R: Threads + Sync, S: Source, O: Sink, D: Dialer, T: Clock>(
         session,
         dialer,
         wanting: _,
+        history: _,
     } = serve_shared(
         alloc,
         way,

@@ -6,7 +6,7 @@ ghost use Rattle.px_publish.specs.Views.{GoesOn};
 ghost use Rattle.px_doors.specs.Conns.{parted_as};
 ghost use Rattle.px_desk.specs.Sessions.{IsConnServed};
 ghost use Rattle.px_desk.specs.Reloads.{loader_as};
-ghost use Rattle.px_desk.specs.Facts.{DeskStands, DoorsBegun, Closes, IsOut, total};
+ghost use Rattle.px_desk.specs.Facts.{DeskStands, DoorsBegun, IsClosed, IsOut, total};
 ghost use Rattle.px_desk.specs.Counts.{with_reload};
 ghost use Rattle.px_desk.specs.Turns.{none};
 ghost use Rattle.px_desk.specs.declared.desks.DeskNext.TheVariants.{Closed};
@@ -68,7 +68,8 @@ pub struct NoDesk<F, A, E> {
 pub struct ServedDesk<F, A, E> {
     pub parts: DeskParts<F, A, E>,
     pub counts: ReloadCounts,
-    pub end: ServeEnd,
+    /// Why no more connections came, if the desk was asked for as many as came.
+    pub closing: Option<ServeEnd>,
 }
 
 /// The doors, the files and the publisher, with the numbers of the connections that are out: handed out and not yet taken back.
@@ -281,9 +282,9 @@ impl<F: Files, A: Doors, E: Sink> Desk<F, A, E> {
     pub fn into_parts<R: Wait>(self, rt: &R) -> ServedDesk<F, A, E>
         ensures parts { result.parts ≡ record { files = self.files; doors = self.doors; err = self.err } }
         ensures counts { result.counts ≡ self.counts }
-        ensures end { MatchOption self.closing (result.end ≡ NoMemory) (λ e. result.end ≡ e) }
+        ensures closing { result.closing ≡ self.closing }
         ensures stands { DeskStands (made_of F.state A.state E.state self) (now_of F.state A.state E.state self) }
-        ensures closes { Closes (A.state self.made_doors) self.most (A.state self.doors) result.end }
+        ensures closes { IsClosed (A.state self.made_doors) self.most (A.state self.doors) result.closing }
     {
         let Desk {
             loader,
@@ -303,7 +304,7 @@ impl<F: Files, A: Doors, E: Sink> Desk<F, A, E> {
         ServedDesk {
             parts: DeskParts { files, doors, err },
             counts,
-            end: closing.unwrap_or(ServeEnd::NoMemory),
+            closing,
         }
     }
 }

@@ -39,6 +39,8 @@ pub record IsFreshConn (c : ConnState) : Type 0 where
   pub no_reach_failed : c.dialer.reach ≡ 0
   pub no_link_read_failed : c.dialer.link_reads ≡ 0
   pub no_link_write_failed : c.dialer.link_writes ≡ 0
+  pub none_opened : c.dialer.opened ≡ 0
+  pub none_hung_up : c.dialer.hung_up ≡ 0
   pub clock : IsFreshClock c.clock
 
 -- the source, the sink and the dialer have that mark

@@ -1,3 +1,4 @@
 pub mod Conns
 pub mod Doors
 pub mod MemConns
+pub mod SocketDoors

@@ -47,6 +47,18 @@ pub trait Doors: Send {
         ensures cause { AcceptCause (state self.old).faults (state self.new).faults result }
         ensures goes_on { DoorsGoesOn (state self.old) (state self.new) };
 
+    /// Lets go of what both ends of a connection hold of the system, before it is parted: later reads and writes may fail. It is asked of
+    /// no doors, since who parts a connection may wait for them while its client waits for the end. What contracts see of the ends
+    /// is the same.
+    fn leave(client_in: &mut Self::In, client_out: &mut Self::Out)
+        ensures source_same { Self.In.state client_in.new ≡ Self.In.state client_in.old }
+        ensures sink_same { Self.Out.state client_out.new ≡ Self.Out.state client_out.old };
+
+    /// Lets go of the links that a connection's dialer keeps for later dials, before it is parted, as `leave` does of its ends. What
+    /// contracts see of the dialer is the same.
+    fn rest(dialer: &mut Self::Dial)
+        ensures dialer_same { Self.Dial.state dialer.new ≡ Self.Dial.state dialer.old };
+
     /// Takes back a connection that was served.
     fn part(&mut self, parted: Parted<Self::In, Self::Out, Self::Dial, Self::Time>)
         requires { IsTrue (state self.old).tells → length (state self.old).parted < (state self.old).accepted }

@@ -155,6 +155,10 @@ impl Doors for MemDoors {
         Ok(Some(conn))
     }
 
+    fn leave(_client_in: &mut TapeIn, _client_out: &mut TapeOut) {}
+
+    fn rest(_dialer: &mut MemDialer) {}
+
     fn part(&mut self, parted: MemParted)
         requires { IsTrue (⟦<MemDoors as Doors>⟧.state self.old).tells → length (⟦<MemDoors as Doors>⟧.state self.old).parted < (⟦<MemDoors as Doors>⟧.state self.old).accepted }
         ensures parts { Parts (⟦<MemDoors as Doors>⟧.state self.old) (⟦<MemDoors as Doors>⟧.state self.new) (mem_parted parted) }

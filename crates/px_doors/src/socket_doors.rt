@@ -1,8 +1,10 @@
 // Doors over TCP.
 ghost use Rattle.std.specs.Prelude.{◌≡◌, IfOk, None, option_map};
 ghost use Rattle.px_sockets.specs.Untold.{AreNew};
-ghost use Rattle.px_doors.specs.Conns.{parted_as};
+ghost use Rattle.px_sockets.specs.Bounds.{IsAddressText};
+ghost use Rattle.px_doors.specs.Conns.{parted_as, conn_as, IsFreshConn, HasMark};
 ghost use Rattle.px_doors.specs.Doors.{DoorsGoesOn, Parts, untold_doors};
+ghost use Rattle.px_doors.specs.SocketDoors.{told_address};
 
 use crate::{AcceptFault, Conn, Doors, ListenAddress, Parted};
 use px_base::{Clock, Dialer, Failed, Sink, Source, SystemClock, as_text};
@@ -39,7 +41,6 @@ pub struct SocketDoors<'r> {
     rt: &'r HostRuntime,
     times: Times,
     listener: Option<SocketListener<'r>>,
-    listens_at: Option<ListenAddress>,
     accepted: u64,
     faults: u64,
 }
@@ -54,7 +55,6 @@ impl<'r> SocketDoors<'r> {
             rt,
             times,
             listener: None,
-            listens_at: None,
             accepted: 0,
             faults: 0,
         }
@@ -106,11 +106,41 @@ fn next_caller<'r>(
     listener: &mut Option<SocketListener<'r>>,
     mark: u64,
 ) -> Result<Caller<'r>, CallerFault>
-    ensures { IfOk result (λ caller. AreNew mark (⟦<SocketSource<'r> as Source>⟧.state caller.client_in) (⟦<SocketSink<'r> as Sink>⟧.state caller.client_out)) }
+    ensures new { IfOk result (λ caller. AreNew mark (⟦<SocketSource<'r> as Source>⟧.state caller.client_in) (⟦<SocketSink<'r> as Sink>⟧.state caller.client_out)) }
+    ensures peer { IfOk result (λ caller. IsAddressText caller.peer.address) }
+    ensures told_same { told_address listener.new ≡ told_address listener.old }
 {
     match listener {
         Some(listener) => listener.accept(mark),
         None => Err(CallerFault::Failed),
+    }
+}
+
+/// The connection of a caller: its dialer goes through SOCKS servers where a host is a dial name, and has its mark.
+fn conn_of<'r>(
+    alloc: Global,
+    rt: &'r HostRuntime,
+    times: Times,
+    caller: Caller<'r>,
+    mark: u64,
+) -> SocketConn<'r>
+    requires new { AreNew mark (⟦<SocketSource<'r> as Source>⟧.state caller.client_in) (⟦<SocketSink<'r> as Sink>⟧.state caller.client_out) }
+    ensures fresh { IsFreshConn (conn_as ⟦<SocketSource<'r> as Source>⟧.state ⟦<SocketSink<'r> as Sink>⟧.state ⟦<SocksDialer<SocketDialer<'r>> as Dialer>⟧.state ⟦<SystemClock<'r, HostRuntime> as Clock>⟧.state result) }
+    ensures mark { HasMark mark (conn_as ⟦<SocketSource<'r> as Source>⟧.state ⟦<SocketSink<'r> as Sink>⟧.state ⟦<SocksDialer<SocketDialer<'r>> as Dialer>⟧.state ⟦<SystemClock<'r, HostRuntime> as Clock>⟧.state result) }
+    ensures peer { result.peer.address ≡ caller.entry.peer.address }
+{
+    let Caller {
+        client_in,
+        client_out,
+        peer,
+    } = caller;
+    let dialer = SocketDialer::of_client(alloc, rt, times, &client_in, mark);
+    Conn {
+        client_in,
+        client_out,
+        dialer: SocksDialer::new(alloc, dialer),
+        clock: SystemClock::new(rt),
+        peer,
     }
 }
 
@@ -123,7 +153,7 @@ impl<'r> Doors for SocketDoors<'r> {
 
     type Time = SystemClock<'r, HostRuntime>;
 
-    ghost state = { λ d. untold_doors d.listens_at d.accepted d.faults };
+    ghost state = { λ d. untold_doors (told_address d.listener) d.accepted d.faults };
 
     fn listen(&mut self, address: ListenAddress) -> Result<(), Failed> {
         let host = address.host.as_bytes();
@@ -131,7 +161,6 @@ impl<'r> Doors for SocketDoors<'r> {
             Ok(listener) => {
                 tell_listening(self.rt, &address);
                 self.listener = Some(listener);
-                self.listens_at = Some(address);
                 Ok(())
             }
             Err(fault) => {
@@ -146,20 +175,7 @@ impl<'r> Doors for SocketDoors<'r> {
     fn accept(&mut self) -> Result<Option<SocketConn<'r>>, AcceptFault> {
         match next_caller(&mut self.listener, self.accepted) {
             Ok(caller) => {
-                let dialer = SocketDialer::of_client(
-                    self.alloc,
-                    self.rt,
-                    self.times,
-                    &caller.client_in,
-                    self.accepted,
-                );
-                let conn = Conn {
-                    client_in: caller.client_in,
-                    client_out: caller.client_out,
-                    dialer: SocksDialer::new(self.alloc, dialer),
-                    clock: SystemClock::new(self.rt),
-                    peer: caller.peer,
-                };
+                let conn = conn_of(self.alloc, self.rt, self.times, caller, self.accepted);
                 self.accepted += 1;
                 Ok(Some(conn))
             }
@@ -170,6 +186,15 @@ impl<'r> Doors for SocketDoors<'r> {
             Err(CallerFault::Mem) => Err(AcceptFault::Mem),
         }
     }
+
+    /// The client's socket is left to the doors' listener, which closes it when its client has had the time to read to the end.
+    fn leave(client_in: &mut SocketSource<'r>, client_out: &mut SocketSink<'r>) {
+        client_in.close();
+        client_out.close();
+    }
+
+    /// It keeps none.
+    fn rest(_dialer: &mut SocksDialer<SocketDialer<'r>>) {}
 
     fn part(&mut self, parted: SocketParted<'r>)
         ensures parts { Parts (⟦<SocketDoors<'r> as Doors>⟧.state self.old) (⟦<SocketDoors<'r> as Doors>⟧.state self.new) (parted_as ⟦<SocketSource<'r> as Source>⟧.state ⟦<SocketSink<'r> as Sink>⟧.state ⟦<SocksDialer<SocketDialer<'r>> as Dialer>⟧.state ⟦<SystemClock<'r, HostRuntime> as Clock>⟧.state parted.entry) }

@@ -1,6 +1,8 @@
 -- A link that is handed back: it is kept, or hung up at the inner dialer.
 use Rattle.std.proofs.Common.{◌≡◌, ℕ, suc, ◌<◌, ◌≤◌, Bool, true, false, not, IsTrue, ◌&&◌, ◌||◌, List, [], ◌∷◌, ◌++◌, length, Option, Some, None, Result, find, sym, ap, refl, ◌∙◌, arith, length-append}
 use Rattle.std.proofs.lemmas.Grind.{common_steps}
+use Rattle.std.specs.Prelude.{MatchBool}
+use Rattle.px_base.specs.Causes.{IsOneMore}
 use Rattle.px_base.specs.declared.dials.Dial.{Dial}
 use Rattle.px_base.specs.Sources.{SourceState, given}
 use Rattle.px_base.specs.Sinks.{SinkState}
@@ -12,7 +14,7 @@ use Rattle.px_pool_ends.specs.Outgoings.{Sending, inner_sink}
 use Rattle.px_link_pool.specs.declared.histories.History.{History}
 use Rattle.px_link_pool.specs.declared.shelves.KeptLink.{KeptLink}
 use Rattle.px_link_pool.specs.declared.shelves.Shelf.{Shelf}
-use Rattle.px_link_pool.specs.Histories.{Views, gone_from, has_place, at_most_four, back_on, kept_links, inner_of, are_due, with_closed, HistoryTells}
+use Rattle.px_link_pool.specs.Histories.{Views, gone_from, has_place, at_most_four, back_on, kept_links, inner_of, are_due, with_closed, counted_up, HistoryTells}
 use Rattle.px_link_pool.specs.Shelves.{items, in_front, is_at, without_first, IsShort}
 use Rattle.px_link_pool.specs.Standing.{KeptState, kept_state, kept_states, is_told, PoolStands}
 use Rattle.px_link_pool.proofs.MarkLemmas.{IsLent}
@@ -212,3 +214,7 @@ handed_by ins outs inner w outer later k h noted_in s noted_out e i o a b lent w
 
 pub same_kept : (a b : List ℕ) (p : ℕ) (i j : SourceState) (o q : SinkState) → a ≡ b → i ≡ j → o ≡ q → ◌≡◌ {A = KeptState} (record { host = a; port = p; link_in = i; link_out = o }) (record { host = b; port = p; link_in = j; link_out = q })
 same_kept a b p i j o q e f g = cc
+
+pub counted_by : (b : Bool) (n m : ℕ) → MatchBool b (IsOneMore n m) (m ≡ n) → m ≡ counted_up b n
+counted_by true n m h = h
+counted_by false n m h = h

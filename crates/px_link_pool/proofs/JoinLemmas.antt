@@ -4,7 +4,7 @@ use Rattle.std.specs.Str.{bytes_eq}
 use Rattle.std.proofs.lemmas.Slice.Eq.{bytes_eq-Decides}
 use Rattle.std.proofs.lemmas.List.{take_at}
 use Rattle.std.proofs.Math.Seq.{drop-append_seam}
-use Rattle.std.proofs.lemmas.Bool.{eq-eqb}
+use Rattle.std.proofs.lemmas.Bool.{eqb-true, eq-eqb}
 use Rattle.px_base.specs.declared.dials.Dial.{Dial}
 use Rattle.px_base.specs.declared.faults.DialFault.{DialFault}
 use Rattle.px_base.specs.declared.faults.DialFault.TheVariants as fault
@@ -17,11 +17,11 @@ use Rattle.px_pool_ends.specs.Outgoings.{Sending, outer_sink, inner_sink, sent, 
 use Rattle.px_link_pool.specs.declared.histories.History.{History}
 use Rattle.px_link_pool.specs.declared.shelves.KeptLink.{KeptLink}
 use Rattle.px_link_pool.specs.declared.shelves.Shelf.{Shelf}
-use Rattle.px_link_pool.specs.Histories.{Views, dials_of, kept_links, from_there, with_closed, all_closed, HistoryTells}
+use Rattle.px_link_pool.specs.Histories.{Views, dials_of, kept_links, is_there, from_there, with_closed, all_closed, inner_of, are_due, HistoryTells}
 use Rattle.px_pool_ends.specs.Names.{passed_so_far}
-use Rattle.px_link_pool.specs.Joins.{again_over, fresh_over, dials_over, anew, joined_with, over, traffic_by, with_joined, inner_by, all_joined, inner_at_end, is_joined, are_joined, open_marks, names, Joins}
+use Rattle.px_link_pool.specs.Joins.{again_over, is_home, are_home, fresh_over, dials_over, anew, joined_with, over, traffic_by, with_joined, inner_by, all_joined, inner_at_end, is_joined, are_joined, open_marks, names, Joins}
 use Rattle.px_pool_ends.specs.Names.{Passed, lent_mark}
-use Rattle.px_link_pool.specs.Shelves.{items, in_front, is_at}
+use Rattle.px_link_pool.specs.Shelves.{items, in_front, is_place, is_at}
 use Rattle.px_link_pool.specs.Standing.{KeptState, kept_state, kept_states, tally, open_count, held_count, is_told, PoolStands}
 use Rattle.px_link_pool.proofs.MarkLemmas.{IsLent}
 use Rattle.px_link_pool.proofs.StandingLemmas.{open_some, open_none, none_open, opens-finish, same_mark, kept_states-append}
@@ -48,19 +48,31 @@ both : (a b : Bool) → IsTrue a → IsTrue b → IsTrue (a && b)
 both true b h k = k
 both false b h k = (cc)
 
-same_passed : (a b c d e f : List ℕ) → a ≡ b → c ≡ d → e ≡ f → ◌≡◌ {A = Passed} (record { offered = a; heard = c; sent = e }) (record { offered = b; heard = d; sent = f })
-same_passed a b c d e f g h i = cc
+same_passed : (x y : List ℕ) (p q : ℕ) (a b c d e f : List ℕ) → x ≡ y → p ≡ q → a ≡ b → c ≡ d → e ≡ f → ◌≡◌ {A = Passed} (record { host = x; port = p; offered = a; heard = c; sent = e }) (record { host = y; port = q; offered = b; heard = d; sent = f })
+same_passed x y p q a b c d e f j k g h i = cc
 
-pub joined_parts : (w : ℕ → Passed) (k : KeptState) → IsTrue (is_joined w k) → passed_so_far k.link_in k.link_out ≡ w k.link_in.mark
+place_parts : (host : List ℕ) (port : ℕ) (h : List ℕ) (p : ℕ) → IsTrue (is_place host port h p) → (h ≡ host) × (p ≡ port)
+place_parts host port h p e =
+    let q = and_parts (bytes_eq h host) (p == port) e in
+    (same_bytes h host q.0, eqb-true p port q.1)
+
+place_whole : (host : List ℕ) (port : ℕ) (h : List ℕ) (p : ℕ) → h ≡ host → p ≡ port → IsTrue (is_place host port h p)
+place_whole host port h p e f = both (bytes_eq h host) (p == port) (bytes_same h host e) (eq-eqb p port f)
+
+pub joined_parts : (w : ℕ → Passed) (k : KeptState) → IsTrue (is_joined w k) → passed_so_far k.host k.port k.link_in k.link_out ≡ w k.link_in.mark
 joined_parts w k h =
-    let p = and_parts (bytes_eq k.link_in.offered (w k.link_in.mark).offered) (bytes_eq (given k.link_in) (w k.link_in.mark).heard && bytes_eq k.link_out.taken (w k.link_in.mark).sent) h in
+    let o = and_parts (is_place (w k.link_in.mark).host (w k.link_in.mark).port k.host k.port) (bytes_eq k.link_in.offered (w k.link_in.mark).offered && (bytes_eq (given k.link_in) (w k.link_in.mark).heard && bytes_eq k.link_out.taken (w k.link_in.mark).sent)) h in
+    let place = place_parts (w k.link_in.mark).host (w k.link_in.mark).port k.host k.port o.0 in
+    let p = and_parts (bytes_eq k.link_in.offered (w k.link_in.mark).offered) (bytes_eq (given k.link_in) (w k.link_in.mark).heard && bytes_eq k.link_out.taken (w k.link_in.mark).sent) o.1 in
     let q = and_parts (bytes_eq (given k.link_in) (w k.link_in.mark).heard) (bytes_eq k.link_out.taken (w k.link_in.mark).sent) p.1 in
-    same_passed _ _ _ _ _ _ (same_bytes _ _ p.0) (same_bytes _ _ q.0) (same_bytes _ _ q.1)
+    same_passed _ _ _ _ _ _ _ _ _ _ place.0 place.1 (same_bytes _ _ p.0) (same_bytes _ _ q.0) (same_bytes _ _ q.1)
 
-pub joined_whole : (w : ℕ → Passed) (k : KeptState) → passed_so_far k.link_in k.link_out ≡ w k.link_in.mark → IsTrue (is_joined w k)
+pub joined_whole : (w : ℕ → Passed) (k : KeptState) → passed_so_far k.host k.port k.link_in k.link_out ≡ w k.link_in.mark → IsTrue (is_joined w k)
 joined_whole w k e =
-    both (bytes_eq k.link_in.offered (w k.link_in.mark).offered) (bytes_eq (given k.link_in) (w k.link_in.mark).heard && bytes_eq k.link_out.taken (w k.link_in.mark).sent) (bytes_same _ _ (ap (λ x. x.offered) e))
-    (both (bytes_eq (given k.link_in) (w k.link_in.mark).heard) (bytes_eq k.link_out.taken (w k.link_in.mark).sent) (bytes_same _ _ (ap (λ x. x.heard) e)) (bytes_same _ _ (ap (λ x. x.sent) e)))
+    both (is_place (w k.link_in.mark).host (w k.link_in.mark).port k.host k.port) (bytes_eq k.link_in.offered (w k.link_in.mark).offered && (bytes_eq (given k.link_in) (w k.link_in.mark).heard && bytes_eq k.link_out.taken (w k.link_in.mark).sent))
+    (place_whole (w k.link_in.mark).host (w k.link_in.mark).port k.host k.port (ap (λ x. x.host) e) (ap (λ x. x.port) e))
+    (both (bytes_eq k.link_in.offered (w k.link_in.mark).offered) (bytes_eq (given k.link_in) (w k.link_in.mark).heard && bytes_eq k.link_out.taken (w k.link_in.mark).sent) (bytes_same _ _ (ap (λ x. x.offered) e))
+    (both (bytes_eq (given k.link_in) (w k.link_in.mark).heard) (bytes_eq k.link_out.taken (w k.link_in.mark).sent) (bytes_same _ _ (ap (λ x. x.heard) e)) (bytes_same _ _ (ap (λ x. x.sent) e))))
 
 joined_still : (w u : ℕ → Passed) (k : KeptState) → u k.link_in.mark ≡ w k.link_in.mark → IsTrue (is_joined w k) → IsTrue (is_joined u k)
 joined_still w u k e h = joined_whole u k (joined_parts w k h ∙ sym e)
@@ -139,30 +151,55 @@ pub there_by : {S T : Type 0} (ins : S → SourceState) (outs : T → SinkState)
 there_by ins outs host port shelf was found k e f is = there ins outs host port (items shelf) k (sym is ∙ f ∙ ap (λ x. find (is_at host port) (items x)) e)
 
 -- it offers what is left
-again_offers : (host : List ℕ) (port : ℕ) (w : ℕ → Passed) (k : KeptState) (rest : List KeptState) (l : LinkState) → passed_so_far k.link_in k.link_out ≡ w k.link_in.mark → k.link_in.offered ≡ given k.link_in ++ k.link_in.left
+again_offers : (host : List ℕ) (port : ℕ) (w : ℕ → Passed) (k : KeptState) (rest : List KeptState) (l : LinkState) → passed_so_far k.host k.port k.link_in k.link_out ≡ w k.link_in.mark → k.link_in.offered ≡ given k.link_in ++ k.link_in.left
     → l.link_in.mark ≡ lent_mark true k.link_in.mark (w k.link_in.mark) → l.link_in.offered ≡ k.link_in.left → dialed host port (Ok l) ≡ again_over host port w (k ∷ rest)
 again_offers host port w k rest l passed whole mark left =
     let after : l.link_in.offered ≡ drop (length (w k.link_in.mark).heard) (w k.link_in.mark).offered =
     left ∙ sym (drop-append_seam (given k.link_in) k.link_in.left) ∙ ap (drop (length (given k.link_in))) (sym whole) ∙ ap (λ x. drop (length x.heard) x.offered) passed in
     ap (λ m. dial_to host port (Some (outcome.Open m l.link_in.offered))) mark ∙ ap (λ xs. dial_to host port (Some (outcome.Open (lent_mark true k.link_in.mark (w k.link_in.mark)) xs))) after
 
+first_same : (j k : KeptState) (ks rest : List KeptState) → j ∷ ks ≡ k ∷ rest → j ≡ k
+first_same j k ks rest e = cc
+
+-- the first of those of a place is of that place
+first_there : (host : List ℕ) (port : ℕ) (ks : List KeptState) (k : KeptState) (rest : List KeptState) → from_there host port ks ≡ k ∷ rest → IsTrue (is_there host port k)
+first_there host port [] k rest e = (cc)
+first_there host port (j ∷ ks) k rest e =
+    elim (is_there host port j) as (λ b. is_there host port j ≡ b → IsTrue (is_there host port k)) [
+      | true ↦ λ t. let same : j ∷ ks ≡ k ∷ rest = rw t at e in ap (is_there host port) (sym (first_same j k ks rest same)) ∙ t
+      | false ↦ λ f. first_there host port ks k rest (rw f at e)
+    ] refl
+
+-- it was dialled to the place of the dial
+home_by : (host : List ℕ) (port : ℕ) (w : ℕ → Passed) (ks : List KeptState) (k : KeptState) (rest : List KeptState) → from_there host port ks ≡ k ∷ rest → passed_so_far k.host k.port k.link_in k.link_out ≡ w k.link_in.mark
+    → IsTrue (is_home host port w (from_there host port ks))
+home_by host port w ks k rest e passed =
+    let place = place_parts host port k.host k.port (first_there host port ks k rest e) in
+    rw e (place_whole host port (w k.link_in.mark).host (w k.link_in.mark).port (sym (ap (λ x. x.host) passed) ∙ place.0) (sym (ap (λ x. x.port) passed) ∙ place.1))
+
+-- its mark is that of the kept link's place, where the label is the same
+pub same_label : (label host : List ℕ) (place port : ℕ) (i : SourceState) (o : SinkState) → label ≡ host → place ≡ port → lent_mark i.tells i.mark (passed_so_far label place i o) ≡ lent_mark i.tells i.mark (passed_so_far host port i o)
+same_label label host place port i o e f = ap (λ x. lent_mark i.tells i.mark (passed_so_far x place i o)) e ∙ ap (λ x. lent_mark i.tells i.mark (passed_so_far host x i o)) f
+
 pub joins_again : {S T : Type 0} (v : Views S T) (base inner : List Dial) (kept others : List KeptState) (before after : History Hearing Sending S T) (host name : List ℕ) (port : ℕ) (k : KeptState) (rest : List KeptState) (l p : LinkState)
     → Joins v base inner kept before → kept ≡ kept_links v before → name ≡ host → over v after ≡ over v before → inner_by base v after ≡ inner_by base v before
+    → are_home v after ≡ (is_home name port (over v before) (from_there name port (kept_links v before)) && are_home v before)
     → dials_over v after ≡ dials_over v before ++ again_over name port (over v before) (from_there name port (kept_links v before)) → from_there host port kept ≡ k ∷ rest
     → dials_of outer_source outer_sink after ≡ dials_of outer_source outer_sink before ++ dialed name port (Ok l) → dials_of inner_source inner_sink after ≡ dials_of inner_source inner_sink before ++ dialed name port (Ok p)
-    → l.link_in.mark ≡ lent_mark k.link_in.tells k.link_in.mark (passed_so_far k.link_in k.link_out) → l.link_in.offered ≡ k.link_in.left → p.link_in.mark ≡ k.link_in.mark → IsTrue (is_told k)
+    → l.link_in.mark ≡ lent_mark k.link_in.tells k.link_in.mark (passed_so_far k.host k.port k.link_in k.link_out) → l.link_in.offered ≡ k.link_in.left → p.link_in.mark ≡ k.link_in.mark → IsTrue (is_told k)
     → (IsTrue k.link_in.tells → k.link_in.offered ≡ given k.link_in ++ k.link_in.left)
     → ((w : ℕ → Passed) → IsTrue (are_joined w kept) → IsTrue (is_joined w k) × IsTrue (are_joined w others)) → Joins v base inner others after
-joins_again v base inner kept others before after host name port k rest l p was kept_is same_host same by lent first coded plain mark left is told whole off =
+joins_again v base inner kept others before after host name port k rest l p was kept_is same_host same by homes lent first coded plain mark left is told whole off =
     let w : ℕ → Passed = over v before in
     let j = off w was.kept_joined in
-    let passed : passed_so_far k.link_in k.link_out ≡ w k.link_in.mark = joined_parts w k j.0 in
+    let passed : passed_so_far k.host k.port k.link_in k.link_out ≡ w k.link_in.mark = joined_parts w k j.0 in
     let tells : IsTrue k.link_in.tells = (and_parts k.link_in.tells (k.link_out.tells && (k.link_out.mark == k.link_in.mark)) told).0 in
-    let named : l.link_in.mark ≡ lent_mark true k.link_in.mark (w k.link_in.mark) = mark ∙ ap (λ t. lent_mark t k.link_in.mark (passed_so_far k.link_in k.link_out)) tells ∙ ap (λ x. lent_mark true k.link_in.mark x) passed in
+    let named : l.link_in.mark ≡ lent_mark true k.link_in.mark (w k.link_in.mark) = mark ∙ ap (λ t. lent_mark t k.link_in.mark (passed_so_far k.host k.port k.link_in k.link_out)) tells ∙ ap (λ x. lent_mark true k.link_in.mark x) passed in
     let here : from_there name port (kept_links v before) ≡ k ∷ rest = ap (λ h. from_there h port (kept_links v before)) same_host ∙ ap (from_there host port) (sym kept_is) ∙ first in
     record {
       inner_is = was.inner_is ∙ sym by;
       kept_joined = rw same j.1;
+      home = rw homes (both (is_home name port w (from_there name port (kept_links v before))) (are_home v before) (home_by name port w (kept_links v before) k rest here passed) was.home);
       dials_is = coded ∙ ap (λ ds. ds ++ dialed name port (Ok l)) was.dials_is ∙ ap (λ ds. dials_over v before ++ ds) (again_offers name port w k rest l passed (whole tells) named left ∙ ap (again_over name port w) (sym here)) ∙ sym lent;
       named = rw same (named_more w w (dials_of outer_source outer_sink before) (dials_of outer_source outer_sink after) (dials_of inner_source inner_sink before) (dials_of inner_source inner_sink after) name port l p was.named coded plain refl
           (named ∙ ap (λ m. lent_mark true m (w m)) (sym is)));
@@ -170,54 +207,57 @@ joins_again v base inner kept others before after host name port k rest l p was 
 
 -- ---- a link is dialled
 
-anew_others : (w : ℕ → Passed) (l : LinkState) → Others l.link_in.mark w (λ n. anew n (Ok l) (w n))
-anew_others w l n h = rw h refl
+anew_others : (host : List ℕ) (port : ℕ) (w : ℕ → Passed) (l : LinkState) → Others l.link_in.mark w (λ n. anew host port n (Ok l) (w n))
+anew_others host port w l n h = rw h refl
 
-anew_here : (w : ℕ → Passed) (l : LinkState) → anew l.link_in.mark (Ok l) (w l.link_in.mark) ≡ record { offered = l.link_in.offered; heard = []; sent = [] }
-anew_here w l = rw (eq-eqb l.link_in.mark l.link_in.mark refl) refl
+anew_here : (host : List ℕ) (port : ℕ) (w : ℕ → Passed) (l : LinkState) → anew host port l.link_in.mark (Ok l) (w l.link_in.mark) ≡ record { host = host; port = port; offered = l.link_in.offered; heard = []; sent = [] }
+anew_here host port w l = rw (eq-eqb l.link_in.mark l.link_in.mark refl) refl
 
-pub joins_dialled : {S T : Type 0} (v : Views S T) (base inner new : List Dial) (kept others : List KeptState) (before after : History Hearing Sending S T) (host name : List ℕ) (port : ℕ) (r asked : Result (S × T) DialFault) (i l p : LinkState)
+pub joins_dialled : {S T : Type 0} (v : Views S T) (base inner new : List Dial) (kept others : List KeptState) (before after : History Hearing Sending S T) (host name label : List ℕ) (port place : ℕ) (r asked : Result (S × T) DialFault) (i l p : LinkState)
     → Joins v base inner kept before → name ≡ host → asked ≡ r → linked v.ins v.outs r ≡ Ok i → new ≡ inner ++ dialed host port (linked v.ins v.outs r)
-    → over v after ≡ (λ n. anew n (linked v.ins v.outs asked) (over v before n))
+    → over v after ≡ (λ n. anew name port n (linked v.ins v.outs asked) (over v before n)) → are_home v after ≡ are_home v before
     → inner_by base v after ≡ inner_by base v before ++ dialed name port (linked v.ins v.outs asked) → dials_over v after ≡ dials_over v before ++ fresh_over name port (linked v.ins v.outs asked)
     → dials_of outer_source outer_sink after ≡ dials_of outer_source outer_sink before ++ dialed name port (Ok l) → dials_of inner_source inner_sink after ≡ dials_of inner_source inner_sink before ++ dialed name port (Ok p)
-    → l.link_in.mark ≡ lent_mark i.link_in.tells i.link_in.mark (passed_so_far i.link_in i.link_out) → l.link_in.offered ≡ i.link_in.offered → p.link_in.mark ≡ i.link_in.mark
+    → l.link_in.mark ≡ lent_mark i.link_in.tells i.link_in.mark (passed_so_far label place i.link_in i.link_out) → label ≡ name → place ≡ port → l.link_in.offered ≡ i.link_in.offered → p.link_in.mark ≡ i.link_in.mark
     → IsTrue i.link_in.tells → given i.link_in ≡ [] → i.link_out.taken ≡ [] → is_open i.link_in.mark (dials_of inner_source inner_sink before) ≡ false → held_count i.link_in.mark kept ≡ 0 → others ≡ kept
     → Joins v base new others after
-joins_dialled v base inner new kept others before after host name port r asked i l p was same e ok grown went by lent coded plain mark left is tells heard sent fresh unheld alike =
+joins_dialled v base inner new kept others before after host name label port place r asked i l p was same e ok grown went homes by lent coded plain labelled labels places left is tells heard sent fresh unheld alike =
     let w : ℕ → Passed = over v before in
-    let u : ℕ → Passed = λ n. anew n (Ok i) (w n) in
-    let now : over v after ≡ u = went ∙ ap (λ a. λ n. anew n (linked v.ins v.outs a) (w n)) e ∙ ap (λ a. λ n. anew n a (w n)) ok in
-    let same_names : names u (open_marks (dials_of inner_source inner_sink before)) ≡ names w (open_marks (dials_of inner_source inner_sink before)) = names-same i.link_in.mark w u _ (anew_others w i) (sym (open_has i.link_in.mark (dials_of inner_source inner_sink before)) ∙ fresh) in
-    let begun : Passed = record { offered = i.link_in.offered; heard = []; sent = [] } in
+    let u : ℕ → Passed = λ n. anew name port n (Ok i) (w n) in
+    let mark : l.link_in.mark ≡ lent_mark i.link_in.tells i.link_in.mark (passed_so_far name port i.link_in i.link_out) = labelled ∙ ap (λ x. lent_mark i.link_in.tells i.link_in.mark (passed_so_far x place i.link_in i.link_out)) labels ∙ ap (λ x. lent_mark i.link_in.tells i.link_in.mark (passed_so_far name x i.link_in i.link_out)) places in
+    let now : over v after ≡ u = went ∙ ap (λ a. λ n. anew name port n (linked v.ins v.outs a) (w n)) e ∙ ap (λ a. λ n. anew name port n a (w n)) ok in
+    let same_names : names u (open_marks (dials_of inner_source inner_sink before)) ≡ names w (open_marks (dials_of inner_source inner_sink before)) = names-same i.link_in.mark w u _ (anew_others name port w i) (sym (open_has i.link_in.mark (dials_of inner_source inner_sink before)) ∙ fresh) in
+    let begun : Passed = record { host = name; port = port; offered = i.link_in.offered; heard = []; sent = [] } in
     let named_first : l.link_in.mark ≡ lent_mark true i.link_in.mark begun =
-    mark ∙ ap (λ t. lent_mark t i.link_in.mark (passed_so_far i.link_in i.link_out)) tells ∙ ap (λ x. lent_mark true i.link_in.mark x) (same_passed i.link_in.offered i.link_in.offered (given i.link_in) [] i.link_out.taken [] refl heard sent) in
+    mark ∙ ap (λ t. lent_mark t i.link_in.mark (passed_so_far name port i.link_in i.link_out)) tells ∙ ap (λ x. lent_mark true i.link_in.mark x) (same_passed name name port port i.link_in.offered i.link_in.offered (given i.link_in) [] i.link_out.taken [] refl refl refl heard sent) in
     let first : dialed name port (Ok l) ≡ fresh_over name port (Ok i) =
     ap (λ m. dial_to name port (Some (outcome.Open m l.link_in.offered))) named_first ∙ ap (λ xs. dial_to name port (Some (outcome.Open (lent_mark true i.link_in.mark begun) xs))) left in
-    let none : passed_so_far i.link_in i.link_out ≡ u i.link_in.mark = same_passed i.link_in.offered i.link_in.offered (given i.link_in) [] i.link_out.taken [] refl heard sent ∙ sym (anew_here w i) in
+    let none : passed_so_far name port i.link_in i.link_out ≡ u i.link_in.mark = same_passed name name port port i.link_in.offered i.link_in.offered (given i.link_in) [] i.link_out.taken [] refl refl refl heard sent ∙ sym (anew_here name port w i) in
     record {
       inner_is = grown ∙ ap (λ ds. ds ++ dialed host port (linked v.ins v.outs r)) was.inner_is ∙ ap (λ h. inner_by base v before ++ dialed h port (linked v.ins v.outs r)) (sym same)
           ∙ ap (λ a. inner_by base v before ++ dialed name port (linked v.ins v.outs a)) (sym e) ∙ sym by;
-      kept_joined = rw (now, alike) (joined_same i.link_in.mark w u kept (anew_others w i) unheld was.kept_joined);
+      kept_joined = rw (now, alike) (joined_same i.link_in.mark w u kept (anew_others name port w i) unheld was.kept_joined);
+      home = rw homes was.home;
       dials_is = coded ∙ ap (λ ds. ds ++ dialed name port (Ok l)) was.dials_is ∙ ap (λ ds. dials_over v before ++ ds) first
           ∙ ap (λ a. dials_over v before ++ fresh_over name port a) (sym (ap (λ a. linked v.ins v.outs a) e ∙ ok)) ∙ sym lent;
       named = rw now (named_more w u (dials_of outer_source outer_sink before) (dials_of outer_source outer_sink after) (dials_of inner_source inner_sink before) (dials_of inner_source inner_sink after) name port l p was.named coded plain same_names
-          (mark ∙ ap (λ t. lent_mark t i.link_in.mark (passed_so_far i.link_in i.link_out)) tells ∙ ap (λ x. lent_mark true i.link_in.mark x) none ∙ ap (λ m. lent_mark true m (u m)) (sym is)));
+          (mark ∙ ap (λ t. lent_mark t i.link_in.mark (passed_so_far name port i.link_in i.link_out)) tells ∙ ap (λ x. lent_mark true i.link_in.mark x) none ∙ ap (λ m. lent_mark true m (u m)) (sym is)));
     }
 
 pub joins_refused : {S T : Type 0} (v : Views S T) (base inner new : List Dial) (kept others : List KeptState) (before after : History Hearing Sending S T) (host name : List ℕ) (port : ℕ) (r asked : Result (S × T) DialFault) (f : DialFault)
     → Joins v base inner kept before → name ≡ host → asked ≡ r → linked v.ins v.outs r ≡ Err f → new ≡ inner ++ dialed host port (linked v.ins v.outs r)
-    → over v after ≡ (λ n. anew n (linked v.ins v.outs asked) (over v before n))
+    → over v after ≡ (λ n. anew name port n (linked v.ins v.outs asked) (over v before n)) → are_home v after ≡ are_home v before
     → inner_by base v after ≡ inner_by base v before ++ dialed name port (linked v.ins v.outs asked) → dials_over v after ≡ dials_over v before ++ fresh_over name port (linked v.ins v.outs asked)
     → dials_of outer_source outer_sink after ≡ dials_of outer_source outer_sink before ++ dialed name port (Err f) → dials_of inner_source inner_sink after ≡ dials_of inner_source inner_sink before ++ dialed name port (Err f)
     → others ≡ kept → Joins v base new others after
-joins_refused v base inner new kept others before after host name port r asked f was same e err grown went by lent coded plain alike =
+joins_refused v base inner new kept others before after host name port r asked f was same e err grown went homes by lent coded plain alike =
     let w : ℕ → Passed = over v before in
-    let now : over v after ≡ w = went ∙ ap (λ a. λ n. anew n (linked v.ins v.outs a) (w n)) e ∙ ap (λ a. λ n. anew n a (w n)) err in
+    let now : over v after ≡ w = went ∙ ap (λ a. λ n. anew name port n (linked v.ins v.outs a) (w n)) e ∙ ap (λ a. λ n. anew name port n a (w n)) err in
     record {
       inner_is = grown ∙ ap (λ ds. ds ++ dialed host port (linked v.ins v.outs r)) was.inner_is ∙ ap (λ h. inner_by base v before ++ dialed h port (linked v.ins v.outs r)) (sym same)
           ∙ ap (λ a. inner_by base v before ++ dialed name port (linked v.ins v.outs a)) (sym e) ∙ sym by;
       kept_joined = rw (now, alike) was.kept_joined;
+      home = rw homes was.home;
       dials_is = coded ∙ ap (λ ds. ds ++ dialed name port (Err f)) was.dials_is ∙ ap (λ a. dials_over v before ++ fresh_over name port a) (sym (ap (λ a. linked v.ins v.outs a) e ∙ err)) ∙ sym lent;
       named = rw now (none_more name port f (dials_of outer_source outer_sink before) _ coded ∙ was.named ∙ ap (names w) (sym (none_more name port f (dials_of inner_source inner_sink before) _ plain)));
     }
@@ -227,7 +267,7 @@ joins_refused v base inner new kept others before after host name port r asked f
 with_others : (w : ℕ → Passed) (m : ℕ) (h : Hearing) (s : Sending) → Others m w (λ n. joined_with (m == n) h s (w n))
 with_others w m h s n e = rw e refl
 
-with_here : (w : ℕ → Passed) (m : ℕ) (h : Hearing) (s : Sending) → joined_with (m == m) h s (w m) ≡ record { offered = (w m).offered; heard = (w m).heard ++ heard h; sent = (w m).sent ++ sent s }
+with_here : (w : ℕ → Passed) (m : ℕ) (h : Hearing) (s : Sending) → joined_with (m == m) h s (w m) ≡ record { host = (w m).host; port = (w m).port; offered = (w m).offered; heard = (w m).heard ++ heard h; sent = (w m).sent ++ sent s }
 with_here w m h s = rw (eq-eqb m m refl) refl
 
 -- those that were kept, with the one that is hung up
@@ -263,27 +303,28 @@ named_less w u coded coded_now plain plain_now m mark s t named e f is here once
 joins_handed : {S T : Type 0} (v : Views S T) (base inner new : List Dial) (state : DialerState) (shelf slot : Shelf (KeptLink S T)) (closing : Option (KeptLink S T)) (k : KeptLink S T) (keeps : Bool) (before after : History Hearing Sending S T) (mark : ℕ) (h : Hearing) (s : Sending) (t p : Traffic)
     → Joins v base inner (kept_states v.ins v.outs (items shelf)) before → Shelved shelf slot closing k keeps
     → PoolStands state (dials_of inner_source inner_sink before) (kept_states v.ins v.outs (items shelf)) → IsTrue state.tells → is_open (v.ins k.source).mark (dials_of inner_source inner_sink before) ≡ true
-    → over v after ≡ (λ n. joined_with ((v.ins k.source).mark == n) h s (over v before n)) → inner_by base v after ≡ with_joined v.ins v.outs (over v after) closing (inner_by base v before)
+    → over v after ≡ (λ n. joined_with ((v.ins k.source).mark == n) h s (over v before n)) → are_home v after ≡ are_home v before → inner_by base v after ≡ with_joined v.ins v.outs (over v after) closing (inner_by base v before)
     → new ≡ with_closed v.ins v.outs closing inner
     → dials_of outer_source outer_sink after ≡ finish mark t (dials_of outer_source outer_sink before) → dials_of inner_source inner_sink after ≡ finish (v.ins k.source).mark p (dials_of inner_source inner_sink before)
     → dials_over v after ≡ finish mark t (dials_over v before) → mark ≡ lent_mark true (v.ins k.source).mark (over v before (v.ins k.source).mark)
-    → (v.ins k.source).offered ≡ (over v before (v.ins k.source).mark).offered
+    → k.host ≡ (over v before (v.ins k.source).mark).host → k.port ≡ (over v before (v.ins k.source).mark).port → (v.ins k.source).offered ≡ (over v before (v.ins k.source).mark).offered
     → given (v.ins k.source) ≡ (over v before (v.ins k.source).mark).heard ++ heard h → (v.outs k.sink).taken ≡ (over v before (v.ins k.source).mark).sent ++ sent s
     → Joins v base new (kept_states v.ins v.outs (items slot)) after
-joins_handed v base inner new state shelf slot closing k keeps before after mark h s t p was shelved stands tells here went by closed coded plain lent is offered heard sent =
+joins_handed v base inner new state shelf slot closing k keeps before after mark h s t p was shelved stands tells here went homes by closed coded plain lent is host port offered heard sent =
     let m : ℕ = (v.ins k.source).mark in
     let w : ℕ → Passed = over v before in
     let u : ℕ → Passed = λ n. joined_with (m == n) h s (w n) in
     let ds : List Dial = dials_of inner_source inner_sink before in
     let once : open_count m ds + held_count m (kept_states v.ins v.outs (items shelf)) ≤ 1 = stands.once tells m in
     let some : 1 ≤ open_count m ds = open_some m ds here in
-    let one : IsTrue (is_joined u (kept_state v.ins v.outs k)) = joined_whole u (kept_state v.ins v.outs k) (same_passed _ _ _ _ _ _ offered heard sent ∙ sym (with_here w m h s)) in
+    let one : IsTrue (is_joined u (kept_state v.ins v.outs k)) = joined_whole u (kept_state v.ins v.outs k) (same_passed _ _ _ _ _ _ _ _ _ _ host port offered heard sent ∙ sym (with_here w m h s)) in
     let all : IsTrue (are_joined u (kept_states v.ins v.outs (items shelf))) = joined_same m w u (kept_states v.ins v.outs (items shelf)) (with_others w m h s) (omega (arith, once, some)) was.kept_joined in
     let front = front_joined v.ins v.outs u shelf slot closing k keeps shelved all one in
     let parts = closed_joined v.ins v.outs u closing (items slot) inner front in
     record {
       inner_is = closed ∙ parts.0 ∙ ap (with_joined v.ins v.outs u closing) was.inner_is ∙ ap (λ x. with_joined v.ins v.outs x closing (inner_by base v before)) (sym went) ∙ sym by;
       kept_joined = rw went parts.1;
+      home = rw homes was.home;
       dials_is = coded ∙ ap (finish mark t) was.dials_is ∙ sym lent;
       named = rw went (named_less w u (dials_of outer_source outer_sink before) (dials_of outer_source outer_sink after) ds (dials_of inner_source inner_sink after) m mark t p was.named coded plain is here (omega (arith, once)) (with_others w m h s));
     }
@@ -292,14 +333,14 @@ joins_handed v base inner new state shelf slot closing k keeps before after mark
 pub joins_back : {S T : Type 0} (v : Views S T) (base inner new : List Dial) (state : DialerState) (shelf slot : Shelf (KeptLink S T)) (closing : Option (KeptLink S T)) (k : KeptLink S T) (keeps : Bool) (before after : History Hearing Sending S T) (h : Hearing) (s : Sending) (t p : Traffic)
     → Joins v base inner (kept_states v.ins v.outs (items shelf)) before → Shelved shelf slot closing k keeps
     → PoolStands state (dials_of inner_source inner_sink before) (kept_states v.ins v.outs (items shelf)) → IsTrue state.tells
-    → v.ins k.source ≡ h.source → v.outs k.sink ≡ s.sink → IsLent (over v before) (dials_of inner_source inner_sink before) h s → IsLaterSource h.begun h.source → IsSent s
-    → over v after ≡ (λ n. joined_with (h.source.mark == n) h s (over v before n)) → inner_by base v after ≡ with_joined v.ins v.outs (over v after) closing (inner_by base v before)
+    → v.ins k.source ≡ h.source → v.outs k.sink ≡ s.sink → k.host ≡ h.host → k.port ≡ h.port → IsLent (over v before) (dials_of inner_source inner_sink before) h s → IsLaterSource h.begun h.source → IsSent s
+    → over v after ≡ (λ n. joined_with (h.source.mark == n) h s (over v before n)) → are_home v after ≡ are_home v before → inner_by base v after ≡ with_joined v.ins v.outs (over v after) closing (inner_by base v before)
     → new ≡ with_closed v.ins v.outs closing inner
     → dials_of outer_source outer_sink after ≡ finish (outer_source h).mark t (dials_of outer_source outer_sink before) → dials_of inner_source inner_sink after ≡ finish h.source.mark p (dials_of inner_source inner_sink before)
     → dials_over v after ≡ finish (outer_source h).mark t (dials_over v before) → Joins v base new (kept_states v.ins v.outs (items slot)) after
-joins_back v base inner new state shelf slot closing k keeps before after h s t p was shelved stands tells i o lent later is went by closed coded plain named =
-    joins_handed v base inner new state shelf slot closing k keeps before after (outer_source h).mark h s t p was shelved stands tells (rw i lent.here) (rw i went) by closed coded (rw i plain) named (rw i lent.name)
-    (rw i (later.offered_same ∙ lent.offered)) (rw i (later.given_joined ∙ ap (λ (x : List ℕ). x ++ heard h) lent.heard)) (rw (i, o) (is.joined ∙ ap (λ (x : List ℕ). x ++ sent s) lent.sent))
+joins_back v base inner new state shelf slot closing k keeps before after h s t p was shelved stands tells i o host port lent later is went homes by closed coded plain named =
+    joins_handed v base inner new state shelf slot closing k keeps before after (outer_source h).mark h s t p was shelved stands tells (rw i lent.here) (rw i went) homes by closed coded (rw i plain) named (rw i lent.name)
+    (rw i (host ∙ lent.host)) (rw i (port ∙ lent.port)) (rw i (later.offered_same ∙ lent.offered)) (rw i (later.given_joined ∙ ap (λ (x : List ℕ). x ++ heard h) lent.heard)) (rw (i, o) (is.joined ∙ ap (λ (x : List ℕ). x ++ sent s) lent.sent))
 
 -- ---- the kept links are hung up
 
@@ -322,3 +363,32 @@ pub ended : {S T : Type 0} (v : Views S T) (base inner : List Dial) (kept : List
     → all_closed kept inner ≡ inner_at_end base v history
 ended v base inner kept history tells joins =
     all_closed_joined (over v history) kept inner joins.kept_joined ∙ ap (all_joined (over v history) kept) joins.inner_is ∙ ap (λ ks. all_joined (over v history) ks (inner_by base v history)) tells.kept_is
+
+-- ---- a look leaves a dialer that tells as it is
+
+pub tells_seen : {S T : Type 0} (v : Views S T) (base : List Dial) (old new : DialerState) (kept : List KeptState) (history : History Hearing Sending S T) → new ≡ old → HistoryTells v base old.dials kept history → HistoryTells v base new.dials kept history
+tells_seen v base old new kept history e h = rw e h
+
+pub joins_seen : {S T : Type 0} (v : Views S T) (base : List Dial) (old new : DialerState) (kept : List KeptState) (history : History Hearing Sending S T) → new ≡ old → Joins v base old.dials kept history → Joins v base new.dials kept history
+joins_seen v base old new kept history e h = rw e h
+
+-- ---- the pool keeps none
+
+pub none_stand : {S T : Type 0} (ins : S → SourceState) (outs : T → SinkState) (inner : DialerState) (outer : List Dial) (ks : List (KeptLink S T)) → length ks ≡ 0 → PoolStands inner outer (kept_states ins outs ks) → PoolStands inner outer []
+none_stand ins outs inner outer [] h s = s
+none_stand ins outs inner outer (k ∷ ks) h s = absurd (omega (arith, h))
+
+pub rested_tells : {S T : Type 0} (v : Views S T) (base inner new : List Dial) (kept : List KeptState) (before after : History Hearing Sending S T) → HistoryTells v base inner kept before → new ≡ all_closed kept inner
+    → inner_of base v.ins v.outs after ≡ all_closed kept (inner_of base v.ins v.outs before) → kept_links v after ≡ [] → are_due v after ≡ are_due v before → HistoryTells v base new [] after
+rested_tells v base inner new kept before after was closed i k d = record { inner_is = closed ∙ ap (all_closed kept) was.inner_is ∙ sym i; kept_is = sym k; due = d ∙ was.due }
+
+pub rested_joins : {S T : Type 0} (v : Views S T) (base inner new : List Dial) (kept : List KeptState) (before after : History Hearing Sending S T) → Joins v base inner kept before → new ≡ inner_at_end base v before
+    → inner_by base v after ≡ inner_at_end base v before → over v after ≡ over v before → are_home v after ≡ are_home v before → dials_over v after ≡ dials_over v before
+    → dials_of outer_source outer_sink after ≡ dials_of outer_source outer_sink before → dials_of inner_source inner_sink after ≡ dials_of inner_source inner_sink before → Joins v base new [] after
+rested_joins v base inner new kept before after was closed by went homes lent coded plain = record {
+  inner_is = closed ∙ sym by;
+  kept_joined = refl;
+  home = homes ∙ was.home;
+  dials_is = coded ∙ was.dials_is ∙ sym lent;
+  named = rw (coded, plain, went) was.named;
+}

@@ -10,9 +10,9 @@ use Rattle.px_base.specs.declared.dials.DialOutcome.{DialOutcome}
 use Rattle.px_base.specs.declared.dials.DialOutcome.TheVariants as outcome
 use Rattle.px_base.specs.declared.faults.DialFault.{DialFault}
 use Rattle.px_base.specs.declared.faults.DialFault.TheVariants as fault
-use Rattle.px_base.specs.Sources.{SourceState, given}
+use Rattle.px_base.specs.Sources.{SourceState, SourceGoesOn, given}
 use Rattle.px_base.specs.Sinks.{SinkState}
-use Rattle.px_base.specs.Dials.{DialerState, LinkState, Traffic, IsTold, is_open_at, is_open, closed, finish, dialed}
+use Rattle.px_base.specs.Dials.{DialerState, DialerGoesOn, LinkState, Traffic, IsTold, is_open_at, is_open, closed, finish, dialed}
 use Rattle.px_link_pool.specs.declared.shelves.KeptLink.{KeptLink}
 use Rattle.px_link_pool.specs.declared.shelves.Shelf.{Shelf}
 use Rattle.px_link_pool.specs.Shelves.{items, without_first}
@@ -380,3 +380,44 @@ last_open m ds d e = some_open m (ds ++ d ∷ []) (let one : tally (is_open_at m
 -- a link that was just dialled is open
 pub dialled_open : (m : ℕ) (ds new : List Dial) (host : List ℕ) (port mark : ℕ) (offered : List ℕ) → new ≡ ds ++ record { host = host; port = port; outcome = outcome.Open mark offered } ∷ [] → m ≡ mark → is_open m new ≡ true
 dialled_open m ds new host port mark offered e f = rw e (last_open m ds (record { host = host; port = port; outcome = outcome.Open mark offered }) (eq-eqb mark m (sym f)))
+
+-- ---- a look at the kept links
+
+-- where the inner dialer doesn't tell, all that counts is that the kept links are ready
+pub stands_told : (inner : DialerState) (outer : List Dial) (kept : List KeptState) → IsTrue (are_ready kept) → (IsTrue inner.tells → PoolStands inner outer kept) → PoolStands inner outer kept
+stands_told inner outer kept r h = record { backed = λ t. (h t).backed t; once = λ t. (h t).once t; told = λ t. (h t).told t; ready = r }
+
+-- a look leaves a dialer that tells as it is
+pub stands_seen : (old new : DialerState) (outer : List Dial) (kept : List KeptState) → new.tells ≡ old.tells → (IsTrue old.tells → new ≡ old) → PoolStands old outer kept → IsTrue new.tells → PoolStands new outer kept
+stands_seen old new outer kept e same s t = rw (same (sym e ∙ t)) s
+
+-- a source at which was looked is as whole as before
+pub ready_seen : (host : List ℕ) (port : ℕ) (i j : SourceState) (o : SinkState) → SourceGoesOn i j → IsTrue (is_ready (record { host = host; port = port; link_in = i; link_out = o })) → IsTrue (is_ready (record { host = host; port = port; link_in = j; link_out = o }))
+ready_seen host port i j o on r =
+    let p = ready_parts (record { host = host; port = port; link_in = i; link_out = o }) r in
+    ready_whole (record { host = host; port = port; link_in = j; link_out = o }) p.0 (on.whole_kept p.1)
+
+-- those that are left are ready too
+pub still_ready : {I O : Type 0} (ins : I → SourceState) (outs : O → SinkState) (p : KeptLink I O → Bool) (ks : List (KeptLink I O)) → IsTrue (are_ready (kept_states ins outs ks)) → IsTrue (are_ready (kept_states ins outs (without_first p ks)))
+still_ready ins outs p [] h = h
+still_ready ins outs p (k ∷ ks) h =
+    let q = and_parts (is_ready (kept_state ins outs k)) (are_ready (kept_states ins outs ks)) h in
+    elim (p k) as (λ b. p k ≡ b → IsTrue (are_ready (kept_states ins outs (without_first p (k ∷ ks))))) [
+      | true ↦ λ e. rw e q.1
+      | false ↦ λ e. rw e (both (is_ready (kept_state ins outs k)) (are_ready (kept_states ins outs (without_first p ks))) q.0 (still_ready ins outs p ks q.1))
+    ] refl
+
+-- what lasts over two calls lasts over both
+pub dialer_goes_on : (a b c : DialerState) → DialerGoesOn a b → DialerGoesOn b c → DialerGoesOn a c
+dialer_goes_on a b c h k = record {
+  tells_same = k.tells_same ∙ h.tells_same;
+  tells_coming_same = k.tells_coming_same ∙ h.tells_coming_same;
+  through_servers_same = k.through_servers_same ∙ h.through_servers_same;
+  mark_same = k.mark_same ∙ h.mark_same;
+  names_later = omega arith;
+  reach_later = omega arith;
+  link_reads_later = omega arith;
+  link_writes_later = omega arith;
+  opened_later = omega arith;
+  hung_up_later = omega arith;
+}

@@ -1,5 +1,5 @@
 -- What a history tells: the pool's dials, the dials of the inner dialer, and the kept links.
-use Rattle.std.specs.Prelude.{◌≡◌, ◌↔◌, ℕ, ◌+◌, Bool, true, false, not, codes, ◌==◌, ◌&&◌, ◌||◌, nat_lt, if◌then◌else◌, List, [], ◌∷◌, ◌++◌, length, drop, Option, Some, None}
+use Rattle.std.specs.Prelude.{◌≡◌, ◌↔◌, ℕ, ◌+◌, ◌-◌, ◌^◌, min, Bool, true, false, not, codes, ◌==◌, ◌&&◌, ◌||◌, nat_lt, if◌then◌else◌, List, [], ◌∷◌, ◌++◌, length, drop, Option, Some, None}
 use Rattle.std.specs.Option.{is_none}
 use Rattle.std.specs.Str.{bytes_eq}
 use Rattle.px_base.specs.declared.dials.Dial.{Dial}
@@ -9,10 +9,10 @@ use Rattle.px_base.specs.Dials.{linked, dialed, finish, traffic}
 use Rattle.px_pool_ends.specs.Answers.{IsAnswer, is_answered, is_lost}
 use Rattle.px_pool_ends.specs.Incomings.{Hearing, IsLaterSource, inner_source, heard}
 use Rattle.px_pool_ends.specs.Outgoings.{Sending, inner_sink, IsSent}
-use Rattle.px_link_pool.specs.Shelves.{is_place, without_first}
-use Rattle.px_link_pool.specs.Standing.{KeptState}
+use Rattle.px_link_pool.specs.Shelves.{items, is_place, without_first}
+use Rattle.px_link_pool.specs.Standing.{KeptState, kept_states}
 use Rattle.px_link_pool.specs.declared.shelves.KeptLink.{KeptLink}
-use Rattle.px_link_pool.specs.declared.histories.History.{History, Start, Dialled', Again', HungUp'}
+use Rattle.px_link_pool.specs.declared.histories.History.{History, Start, Dialled', Again', HungUp', Rested'}
 
 -- the dials of the pool in order
 abbrev pub dials_of : {I O S T : Type 0} → (I → SourceState) → (O → SinkState) → History I O S T → List Dial
@@ -20,11 +20,17 @@ dials_of ins outs Start = []
 dials_of ins outs (Dialled' shape before host port asked given) = dials_of ins outs before ++ dialed host.value port.value (linked ins outs given.value)
 dials_of ins outs (Again' shape before host port given) = dials_of ins outs before ++ dialed host.value port.value (linked ins outs given.value)
 dials_of ins outs (HungUp' shape before host port link_in link_out closing) = finish (ins link_in.value).mark (traffic (ins link_in.value) (outs link_out.value)) (dials_of ins outs before)
+dials_of ins outs (Rested' shape before kept) = dials_of ins outs before
 
 -- an inner link is hung up, if any
 abbrev pub with_closed : {S T : Type 0} → (S → SourceState) → (T → SinkState) → Option (KeptLink S T) → List Dial → List Dial
 with_closed ins outs None ds = ds
 with_closed ins outs (Some k) ds = finish (ins k.source).mark (traffic (ins k.source) (outs k.sink)) ds
+
+-- the kept links are hung up, oldest first
+abbrev pub all_closed : List KeptState → List Dial → List Dial
+all_closed [] ds = ds
+all_closed (k ∷ ks) ds = all_closed ks (finish k.link_in.mark (traffic k.link_in k.link_out) ds)
 
 -- the dials of the inner dialer in order, behind those before the pool
 abbrev pub inner_of : {I O S T : Type 0} → List Dial → (S → SourceState) → (T → SinkState) → History I O S T → List Dial
@@ -32,6 +38,7 @@ inner_of base ins outs Start = base
 inner_of base ins outs (Dialled' shape before host port asked given) = inner_of base ins outs before ++ dialed host.value port.value (linked ins outs asked.value)
 inner_of base ins outs (Again' shape before host port given) = inner_of base ins outs before
 inner_of base ins outs (HungUp' shape before host port link_in link_out closing) = with_closed ins outs closing.value (inner_of base ins outs before)
+inner_of base ins outs (Rested' shape before kept) = all_closed (kept_states ins outs (items kept.value)) (inner_of base ins outs before)
 
 abbrev pub is_there : List ℕ → ℕ → KeptState → Bool
 is_there host port k = is_place host port k.host k.port
@@ -78,6 +85,7 @@ kept_links v (Dialled' shape before host port asked given) = gone_from host.valu
 kept_links v (Again' shape before host port given) = gone_from host.value port.value (kept_links v before)
 kept_links v (HungUp' shape before host port link_in link_out closing) =
     back_on (may_keep link_in.value link_out.value) (record { host = host.value; port = port.value; link_in = inner_source link_in.value; link_out = inner_sink link_out.value }) (kept_links v before)
+kept_links v (Rested' shape before kept) = []
 
 -- the inner dialer was asked exactly where no link of that place was kept
 abbrev pub are_due : {S T : Type 0} → Views S T → History Hearing Sending S T → Bool
@@ -85,6 +93,7 @@ are_due v Start = true
 are_due v (Dialled' shape before host port asked given) = not (has_place host.value port.value (kept_links v before)) && are_due v before
 are_due v (Again' shape before host port given) = has_place host.value port.value (kept_links v before) && are_due v before
 are_due v (HungUp' shape before host port link_in link_out closing) = are_due v before
+are_due v (Rested' shape before kept) = are_due v before
 
 -- those of that place
 abbrev pub from_there : List ℕ → ℕ → List KeptState → List KeptState
@@ -99,7 +108,7 @@ pub record HistoryTells {S T : Type 0} (v : Views S T) (base inner : List Dial) 
 
 -- one more where it is so; a count at its end stays there
 abbrev pub counted_up : Bool → ℕ → ℕ
-counted_up true n = if nat_lt n 18446744073709551615 then n + 1 else n
+counted_up true n = min (n + 1) (2 ^ 64 - 1)
 counted_up false n = n
 
 -- how many links were handed back for which memory was wanting while their answer was followed
@@ -108,6 +117,7 @@ wanting_count Start = 0
 wanting_count (Dialled' shape before host port asked given) = wanting_count before
 wanting_count (Again' shape before host port given) = wanting_count before
 wanting_count (HungUp' shape before host port link_in link_out closing) = counted_up (is_lost link_in.value.following) (wanting_count before)
+wanting_count (Rested' shape before kept) = wanting_count before
 
 -- What is so of a link that was handed back, where it tells: an answer is known exactly where one was heard, unless memory was
 -- wanting; the inner source is the one that was lent, later; and what was sent is what is sent for the bytes written, less what is
@@ -123,8 +133,4 @@ AreJudged Start = Unit {0}
 AreJudged (Dialled' shape before host port asked given) = AreJudged before
 AreJudged (Again' shape before host port given) = AreJudged before
 AreJudged (HungUp' shape before host port link_in link_out closing) = IsJudged link_in.value link_out.value × AreJudged before
-
--- the kept links are hung up, oldest first
-abbrev pub all_closed : List KeptState → List Dial → List Dial
-all_closed [] ds = ds
-all_closed (k ∷ ks) ds = all_closed ks (finish k.link_in.mark (traffic k.link_in k.link_out) ds)
+AreJudged (Rested' shape before kept) = AreJudged before

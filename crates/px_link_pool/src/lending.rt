@@ -25,18 +25,23 @@ pub fn lend<S: LocalSource, O: LocalSink>(
     ensures source { result.0.source ≡ S.state source }
     ensures begun { result.0.begun ≡ S.state source }
     ensures begun_out { result.0.begun_out ≡ O.state sink }
+    ensures host { result.0.host ≡ host }
+    ensures port { result.0.port ≡ port }
     ensures no_read_failed { result.0.faults ≡ 0 }
     ensures none_taken { (outer_sink result.1).taken ≡ [] }
     ensures sink { result.1.sink ≡ O.state sink }
     ensures also_begun { result.1.begun ≡ O.state sink }
     ensures begun_in { result.1.begun_in ≡ S.state source }
+    ensures host_out { result.1.host ≡ result.0.host }
+    ensures port_out { result.1.port ≡ result.0.port }
     ensures no_write_failed { result.1.faults ≡ 0 }
     ensures not_finished { result.1.finished ≡ false }
 {
     let begun_in = Snapshot::of(&source);
     let begun_out = Snapshot::of(&sink);
+    let place = Snapshot::of(&host);
     let link_in = Incoming::new(alloc, source, begun_out, host, port);
-    let link_out = Outgoing::new(alloc, sink, begun_in);
+    let link_out = Outgoing::new(alloc, sink, begun_in, place, port);
     (link_in, link_out)
 }
 

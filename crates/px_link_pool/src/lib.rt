@@ -7,10 +7,12 @@ mod histories;
 mod laws;
 mod lending;
 mod pools;
+mod resting;
 mod shelves;
 
 pub use bases::{Anew, Base};
-pub use histories::History;
+pub use histories::{History, Past};
 pub use laws::marks_are_one;
 pub use pools::LinkPool;
+pub use resting::{LocalSees, Look, Sees};
 pub use shelves::{KeptLink, Shelf};

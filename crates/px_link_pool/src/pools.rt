@@ -1,22 +1,23 @@
 // The dialer that keeps links.
 ghost use Rattle.std.specs.Prelude.{◌≡◌, ◌≤◌, ◌-◌, length, ◌++◌, ◌∷◌, [], List, true, false, not, ◌==◌, ◌&&◌, IsTrue, IfOk, ℕ};
-ghost use Rattle.px_base.specs.Causes.{RisesWith};
+ghost use Rattle.px_base.specs.Causes.{RisesWith, IsOneMore};
 ghost use Rattle.px_base.specs.Dials.{DialerGoesOn, DialCause, HangsUp, IsFresh, IsTold, linked, dialed, is_open};
 ghost use Rattle.px_base.specs.declared.dials.Dial.{Dial};
 ghost use Rattle.px_pool_ends.specs.Incomings.{outer_source, inner_source};
 ghost use Rattle.px_pool_ends.specs.Outgoings.{outer_sink, inner_sink};
-ghost use Rattle.px_link_pool.specs.Histories.{dials_of, are_due, inner_of, kept_links, all_closed, counted_up, wanting_count, HistoryTells, AreJudged};
-ghost use Rattle.px_link_pool.specs.Joins.{Joins, dials_over, inner_at_end};
+ghost use Rattle.px_link_pool.specs.Histories.{dials_of, are_due, inner_of, kept_links, all_closed, wanting_count, HistoryTells, AreJudged};
+ghost use Rattle.px_link_pool.specs.Joins.{Joins, dials_over, are_home, inner_at_end};
 ghost use Rattle.px_link_pool.specs.Pools.{pool_state};
 ghost use Rattle.px_link_pool.specs.declared.histories.History.{Start};
 ghost use Rattle.px_link_pool.specs.Shelves.{items};
 ghost use Rattle.px_link_pool.specs.Standing.{PoolStands, kept_state, kept_states, is_told};
 
 use crate::bases::{Anew, Base};
-use crate::histories::{History, Past, dialled, hung_up, taken_again};
+use crate::histories::{History, Past, dialled, hung_up, rested, taken_again};
 use crate::lending::{handed, lend};
-use crate::shelves::{KeptLink, Shelf, done, fill, pop, shelve, take_at};
-use px_base::{DialFault, Dialer, LocalDialer, LocalSink, LocalSource, Sink, Source, Text};
+use crate::resting::{Look, Sees, take_resting};
+use crate::shelves::{KeptLink, Shelf, done, fill, pop, shelve};
+use px_base::{DialFault, Dialer, LocalDialer, LocalSink, LocalSource, Sink, Source, Text, raised};
 use px_pool_ends::{Incoming, Outgoing};
 use std::alloc::Global;
 use std::marker::PhantomData;
@@ -33,6 +34,8 @@ pub struct LinkPool<D: LocalDialer, N: Base = Anew> {
     history: Past<D::In, D::Out>,
     link_reads: u64,
     link_writes: u64,
+    opened: u64,
+    hung_up: u64,
     wanting: u64,
     ghost stands: { PoolStands (D.state inner) (dials_of inner_source inner_sink history) (kept_states D.In.state D.Out.state (items kept)) },
     ghost told: { IsTrue (D.state inner).tells → HistoryTells (record { ins = D.In.state; outs = D.Out.state }) N.dialled (D.state inner).dials (kept_states D.In.state D.Out.state (items kept)) history },
@@ -49,6 +52,8 @@ impl<D: LocalDialer, N: Base> LinkPool<D, N> {
         ensures history { result.history ≡ Start }
         ensures no_link_read_failed { result.link_reads ≡ 0 }
         ensures no_link_write_failed { result.link_writes ≡ 0 }
+        ensures none_opened { result.opened ≡ 0 }
+        ensures none_hung_up { result.hung_up ≡ 0 }
     {
         LinkPool {
             alloc,
@@ -58,6 +63,8 @@ impl<D: LocalDialer, N: Base> LinkPool<D, N> {
             history: History::Start,
             link_reads: 0,
             link_writes: 0,
+            opened: 0,
+            hung_up: 0,
             wanting: 0,
         }
     }
@@ -70,10 +77,18 @@ impl<D: LocalDialer, N: Base> LinkPool<D, N> {
         self.wanting
     }
 
+    /// What was dialled and hung up so far. It takes no bytes.
+    pub fn history(&self) -> Snapshot<Past<D::In, D::Out>>
+        ensures { result.value ≡ self.now.history }
+    {
+        Snapshot::of(&self.history)
+    }
+
     /// Hangs up the kept links, the oldest first, and hands the inner dialer back.
     pub fn into_inner(self) -> D
         ensures joined { IsTrue (D.state self.inner).tells → (D.state result).dials ≡ inner_at_end N.dialled (record { ins = D.In.state; outs = D.Out.state }) self.history }
         ensures told { IsTrue (D.state self.inner).tells → dials_of outer_source outer_sink self.history ≡ dials_over (record { ins = D.In.state; outs = D.Out.state }) self.history }
+        ensures home { IsTrue (D.state self.inner).tells → IsTrue (are_home (record { ins = D.In.state; outs = D.Out.state }) self.history) }
         ensures due { IsTrue (D.state self.inner).tells → are_due (record { ins = D.In.state; outs = D.Out.state }) self.history ≡ true }
         ensures kept { IsTrue (D.state self.inner).tells → kept_states D.In.state D.Out.state (items self.kept) ≡ kept_links (record { ins = D.In.state; outs = D.Out.state }) self.history }
         ensures dials { IsTrue (D.state self.inner).tells → (D.state result).dials ≡ all_closed (kept_states D.In.state D.Out.state (items self.kept)) (inner_of N.dialled D.In.state D.Out.state self.history) }
@@ -88,15 +103,44 @@ impl<D: LocalDialer, N: Base> LinkPool<D, N> {
             history: _,
             link_reads: _,
             link_writes: _,
+            opened: _,
+            hung_up: _,
             wanting: _,
         } = self;
-        let kept = close_oldest(&mut inner, kept);
-        let kept = close_oldest(&mut inner, kept);
-        let kept = close_oldest(&mut inner, kept);
-        let kept = close_oldest(&mut inner, kept);
-        done(kept);
+        close_all(&mut inner, kept);
         inner
     }
+
+    /// Hangs up the kept links, the oldest first, so that none is kept. As a dialer the pool stays what it was.
+    pub fn rest(&mut self)
+        ensures same { pool_state (D.state self.new.inner) self.new.history self.new.link_reads self.new.link_writes self.new.opened self.new.hung_up ≡ pool_state (D.state self.old.inner) self.old.history self.old.link_reads self.old.link_writes self.old.opened self.old.hung_up }
+        ensures none_kept { items self.new.kept ≡ [] }
+        ensures wanting { self.new.wanting ≡ self.old.wanting }
+        ensures joined { IsTrue (D.state self.old.inner).tells → (D.state self.new.inner).dials ≡ inner_at_end N.dialled (record { ins = D.In.state; outs = D.Out.state }) self.old.history }
+        ensures goes_on { DialerGoesOn (D.state self.old.inner) (D.state self.new.inner) }
+    {
+        let kept = mem::replace(&mut self.kept, Shelf::Empty);
+        let noted = Snapshot::of(&kept);
+        close_all(&mut self.inner, kept);
+        self.history = rested(&self.history, noted);
+    }
+}
+
+/// Hangs up the kept links, the oldest first.
+fn close_all<D: LocalDialer>(inner: &mut D, kept: Shelf<KeptLink<D::In, D::Out>>)
+    requires { (outer : List Dial) × PoolStands (D.state inner.old) outer (kept_states D.In.state D.Out.state (items kept)) }
+    ensures stands { (outer : List Dial) → PoolStands (D.state inner.old) outer (kept_states D.In.state D.Out.state (items kept)) → PoolStands (D.state inner.new) outer [] }
+    ensures dials { IsTrue (D.state inner.old).tells → (D.state inner.new).dials ≡ all_closed (kept_states D.In.state D.Out.state (items kept)) (D.state inner.old).dials }
+    ensures tells { (D.state inner.new).tells ≡ (D.state inner.old).tells }
+    ensures names { (D.state inner.new).names ≡ (D.state inner.old).names }
+    ensures reach { (D.state inner.new).reach ≡ (D.state inner.old).reach }
+    ensures goes_on { DialerGoesOn (D.state inner.old) (D.state inner.new) }
+{
+    let kept = close_oldest(inner, kept);
+    let kept = close_oldest(inner, kept);
+    let kept = close_oldest(inner, kept);
+    let kept = close_oldest(inner, kept);
+    done(kept);
 }
 
 /// Hangs up the oldest kept link, if there is one.
@@ -108,6 +152,8 @@ fn close_oldest<D: LocalDialer>(
     ensures stands { (outer : List Dial) → PoolStands (D.state inner.old) outer (kept_states D.In.state D.Out.state (items kept)) → PoolStands (D.state inner.new) outer (kept_states D.In.state D.Out.state (items result)) }
     ensures dials { IsTrue (D.state inner.old).tells → all_closed (kept_states D.In.state D.Out.state (items result)) (D.state inner.new).dials ≡ all_closed (kept_states D.In.state D.Out.state (items kept)) (D.state inner.old).dials }
     ensures tells { (D.state inner.new).tells ≡ (D.state inner.old).tells }
+    ensures names { (D.state inner.new).names ≡ (D.state inner.old).names }
+    ensures reach { (D.state inner.new).reach ≡ (D.state inner.old).reach }
     ensures goes_on { DialerGoesOn (D.state inner.old) (D.state inner.new) }
     ensures fewer { length (items result) ≡ length (items kept) - 1 }
     ensures most { length (items kept) ≤ 4 }
@@ -128,12 +174,15 @@ fn close_oldest<D: LocalDialer>(
     }
 }
 
-impl<D: Dialer, N: Base + Send> Dialer for LinkPool<D, N> {
+impl<D: Dialer, N: Base + Send> Dialer for LinkPool<D, N>
+where
+    Look: Sees<D::In>,
+{
     type In = Incoming<D::In, D::Out>;
 
     type Out = Outgoing<D::In, D::Out>;
 
-    ghost state = { λ p. pool_state (D.state p.inner) p.history p.link_reads p.link_writes };
+    ghost state = { λ p. pool_state (D.state p.inner) p.history p.link_reads p.link_writes p.opened p.hung_up };
 
     fn dial(
         &mut self,
@@ -143,7 +192,7 @@ impl<D: Dialer, N: Base + Send> Dialer for LinkPool<D, N> {
         let name = Text::from_bytes(self.alloc, host)?;
         let noted = Snapshot::of(&name);
         let shelf = mem::replace(&mut self.kept, Shelf::Empty);
-        let (rest, found) = take_at(shelf, host, port);
+        let (rest, found) = take_resting(&mut self.inner, shelf, host, port);
         fill(&mut self.kept, rest);
         match found {
             Some(kept) => {
@@ -155,6 +204,7 @@ impl<D: Dialer, N: Base + Send> Dialer for LinkPool<D, N> {
                 } = kept;
                 let result = Ok(lend(self.alloc, source, sink, kept_host, kept_port));
                 self.history = taken_again(&self.history, noted, port, &result);
+                self.opened = raised(self.opened, true);
                 result
             }
             None => {
@@ -164,6 +214,7 @@ impl<D: Dialer, N: Base + Send> Dialer for LinkPool<D, N> {
                     Ok((source, sink)) => {
                         let result = Ok(lend(self.alloc, source, sink, name, port));
                         self.history = dialled(&self.history, noted, port, noted_asked, &result);
+                        self.opened = raised(self.opened, true);
                         result
                     }
                     Err(fault) => {
@@ -182,6 +233,7 @@ impl<D: Dialer, N: Base + Send> Dialer for LinkPool<D, N> {
         self.link_reads = raised(self.link_reads, link_in.has_failed());
         self.link_writes = raised(self.link_writes, link_out.has_failed());
         self.wanting = raised(self.wanting, link_in.has_lost());
+        self.hung_up = raised(self.hung_up, true);
         let (link, keeps) = handed(link_in, link_out);
         let noted_host = Snapshot::of(&link.host);
         let port = link.port;
@@ -209,13 +261,4 @@ impl<D: Dialer, N: Base + Send> Dialer for LinkPool<D, N> {
             None => {}
         }
     }
-}
-
-/// One more where it is so, and it stands at the end of its type.
-fn raised(count: u64, by: bool) -> u64
-    ensures later { count ≤ result }
-    ensures rises { (n : ℕ) → by ≡ not (n == 0) → RisesWith count result n }
-    ensures counted { result ≡ counted_up by count }
-{
-    if by { count.saturating_add(1) } else { count }
 }

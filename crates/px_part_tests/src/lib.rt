@@ -8,6 +8,8 @@ mod boards;
 #[cfg(test)]
 mod common;
 #[cfg(test)]
+mod ended_links;
+#[cfg(test)]
 mod generated;
 #[cfg(test)]
 mod memory;

@@ -6,13 +6,13 @@ use std::alloc::Global;
 use std::process::Abort;
 
 /// A request that asks to close its link.
-const CLOSES: &str = "GET / HTTP/1.1\r\nHost: a.test\r\nConnection: close\r\n\r\n";
+pub(crate) const CLOSES: &str = "GET / HTTP/1.1\r\nHost: a.test\r\nConnection: close\r\n\r\n";
 
 /// The same as it goes out over a shared link.
 const STAYS: &str = "GET / HTTP/1.1\r\nHost: a.test\r\nConnection: keep-alive\r\n\r\n";
 
 /// An answer of 40 bytes.
-const ANSWER: &str = "HTTP/1.1 200 OK\r\nContent-Length: 2\r\n\r\nhi";
+pub(crate) const ANSWER: &str = "HTTP/1.1 200 OK\r\nContent-Length: 2\r\n\r\nhi";
 
 /// Adds a link of those bytes, which come in those cuts, and whose sink fails in those writes.
 fn add_link(
@@ -43,7 +43,12 @@ fn over_one(rt: &impl Abort, alloc: Global, bytes: &[u8], cuts: &[usize]) -> Lin
 }
 
 /// Dials, sends the request, reads once, and hangs up. Gives how many bytes were heard, and `None` where no link was had.
-fn visit<D: Dialer>(dialer: &mut D, host: &str, port: u16, request: &str) -> Option<usize> {
+pub(crate) fn visit<D: Dialer>(
+    dialer: &mut D,
+    host: &str,
+    port: u16,
+    request: &str,
+) -> Option<usize> {
     match dialer.dial(host.as_bytes(), port) {
         Ok((mut link_in, mut link_out)) => {
             let sent = write_all(&mut link_out, request.as_bytes());
@@ -116,6 +121,41 @@ fn hosts_and_ports_are_kept_apart(rt: HostRuntime) {
     same(&rt, visit(&mut pool, "a.test", 81, CLOSES), None);
     same(&rt, visit(&mut pool, "a.test", 80, CLOSES), Some(40));
     same(&rt, pool.into_inner().links().len(), 1);
+}
+
+#[test]
+fn a_link_kept_for_one_port_is_none_of_another(rt: HostRuntime) {
+    let alloc = rt.alloc();
+    let bytes = two_answers(&rt, alloc);
+    let mut answers = List::new(alloc);
+    add_link(&rt, alloc, &mut answers, bytes.as_bytes(), &[40, 40], &[]);
+    add_link(&rt, alloc, &mut answers, ANSWER.as_bytes(), &[], &[]);
+    let dialer = MemDialer::new(alloc, answers).expect(&rt, "memory");
+    let mut pool = LinkPool::<MemDialer>::new(alloc, dialer);
+    same(&rt, visit(&mut pool, "a.test", 8080, CLOSES), Some(40));
+    same(&rt, visit(&mut pool, "a.test", 80, CLOSES), Some(40));
+    same(&rt, visit(&mut pool, "a.test", 8080, CLOSES), Some(40));
+    let dialer = pool.into_inner();
+    same(&rt, dialer.links().len(), 2);
+    for link in dialer.links() {
+        let requests = if link.port == 8080 { 2 } else { 1 };
+        was_shared(&rt, link, ANSWER.len().saturating_mul(requests), requests);
+    }
+}
+
+#[test]
+fn a_pool_at_rest_keeps_none(rt: HostRuntime) {
+    let alloc = rt.alloc();
+    let bytes = two_answers(&rt, alloc);
+    let mut pool = over_one(&rt, alloc, bytes.as_bytes(), &[40, 40]);
+    same(&rt, visit(&mut pool, "a.test", 80, CLOSES), Some(40));
+    pool.rest();
+    same(&rt, visit(&mut pool, "a.test", 80, CLOSES), None);
+    let dialer = pool.into_inner();
+    same(&rt, dialer.links().len(), 1);
+    for link in dialer.links() {
+        was_shared(&rt, link, 40, 1);
+    }
 }
 
 /// Whether a second dial finds the link kept, where the first one sent that request and heard that answer.

@@ -1,5 +1,5 @@
 use crate::common::{same, same_text};
-use px_base::{DialFault, Dialer, Failed, Sink, SinkFault, Source, write_all};
+use px_base::{DialFault, Dialer, Failed, Rests, Sink, SinkFault, Source, write_all};
 use px_sockets::*;
 use std::process::Abort;
 use std::time::Duration;
@@ -149,6 +149,107 @@ fn an_address_that_cannot_be_listened_at_says_why(rt: HostRuntime) {
     same(&rt, taken, Some(ListenFault::InUse));
     let elsewhere = listen_fault(&rt, b"192.0.2.1", 0);
     same(&rt, elsewhere, Some(ListenFault::NoAddress));
+    let anywhere = listen_fault(&rt, b"0.0.0.0", 0);
+    same(&rt, anywhere, Some(ListenFault::NoAddress));
     let no_text = listen_fault(&rt, b"\xff", 0);
     same(&rt, no_text, Some(ListenFault::NoAddress));
+}
+
+/// Asserts whether a link at rest has ended, at two looks.
+fn same_look(rt: &impl Abort, source: &mut SocketSource<'_>, ended: bool) {
+    same(rt, source.has_ended(), ended);
+    same(rt, source.has_ended(), ended);
+}
+
+#[test]
+fn a_look_at_a_link_takes_nothing_and_sees_bytes_and_their_end(rt: HostRuntime) {
+    let Some(
+        Pair {
+            mut link_in,
+            link_out,
+            caller,
+            listener,
+        },
+    ) = open_pair(&rt)
+    else {
+        panic!(rt; "no link");
+    };
+    let Caller {
+        client_in,
+        mut client_out,
+        ..
+    } = caller;
+    same_look(&rt, &mut link_in, false);
+    same(&rt, write_all(&mut client_out, b"unasked"), Ok(()));
+    same_look(&rt, &mut link_in, true);
+    same_read(&rt, &mut link_in, "unasked");
+    same_look(&rt, &mut link_in, false);
+    client_out.finish();
+    same_look(&rt, &mut link_in, true);
+    same_read(&rt, &mut link_in, "");
+    same(&rt, link_in.has_failed(), false);
+    drop((link_out, client_in, listener));
+}
+
+#[test]
+fn a_look_at_a_link_that_was_reset_sees_it(rt: HostRuntime) {
+    let Some(
+        Pair {
+            mut link_in,
+            mut link_out,
+            caller,
+            listener,
+        },
+    ) = open_pair(&rt)
+    else {
+        panic!(rt; "no link");
+    };
+    same(&rt, write_all(&mut link_out, b"unread"), Ok(()));
+    drop(listener);
+    drop(caller);
+    same_look(&rt, &mut link_in, true);
+}
+
+/// Asserts that both ends are let go: their reads and writes fail, and are counted.
+fn same_closed(rt: &impl Abort, source: &mut SocketSource<'_>, sink: &mut SocketSink<'_>) {
+    same(rt, source.has_failed(), false);
+    let mut piece = [0; 4];
+    same(rt, source.read(&mut piece), Err(Failed));
+    same(rt, source.has_failed(), true);
+    same(rt, source.has_ended(), true);
+    sink.finish();
+    same(rt, sink.has_failed(), false);
+    same(rt, write_all(sink, b"late"), Err(SinkFault::Failed));
+    same(rt, sink.has_failed(), true);
+}
+
+#[test]
+fn ends_that_let_their_socket_go_leave_what_was_written(rt: HostRuntime) {
+    let Some(
+        Pair {
+            mut link_in,
+            mut link_out,
+            caller,
+            listener,
+        },
+    ) = open_pair(&rt)
+    else {
+        panic!(rt; "no link");
+    };
+    let Caller {
+        mut client_in,
+        mut client_out,
+        ..
+    } = caller;
+    same(&rt, write_all(&mut client_out, b"answer"), Ok(()));
+    client_in.close();
+    client_in.close();
+    client_out.close();
+    same_closed(&rt, &mut client_in, &mut client_out);
+    same_read(&rt, &mut link_in, "answer");
+    drop(listener);
+    same_read(&rt, &mut link_in, "");
+    link_in.close();
+    link_out.close();
+    same_closed(&rt, &mut link_in, &mut link_out);
 }

@@ -1,5 +1,6 @@
 //! How long sockets wait, with short times, and what becomes of what clients send at the end.
 ghost use Rattle.std.specs.Prelude.{◌≤◌, length, IfOk};
+ghost use Rattle.px_sockets.specs.Tried.{tried_of};
 
 use crate::common::{holds, same};
 use crate::sockets::{Pair, open_pair, short_times};
@@ -7,6 +8,7 @@ use px_base::{DialFault, Dialer, Failed, Sink, SinkFault, Source, write_all};
 use px_sockets::*;
 use std::io::{self, ErrorKind};
 use std::net::{IpAddr, Ipv4Addr, Net, SocketAddr, TcpListener, TcpStream, ToSocketAddrs};
+use std::snapshot::Snapshot;
 use std::thread::{self, join_mut};
 use std::time::{Clock, Duration, Instant};
 
@@ -276,6 +278,62 @@ fn reached(rt: &HostRuntime, port: u16, left: u64) -> Option<(bool, u128)> {
     let left = Duration::from_millis(left);
     let stream = connect_in_turn(&names, &short_times(), left, addresses);
     Some((stream.is_ok(), millis_since(rt, &start)))
+}
+
+/// Tries of which one address answers, by a clock that counts them.
+#[derive(Drop)]
+struct CountedTries {
+    answers: IpAddr,
+    tried: Tried,
+    count: u64,
+}
+
+impl Tries for CountedTries {
+    type Stream = SocketAddr;
+
+    ghost tried = { λ t. tried_of t.tried };
+
+    ghost said = { λ t. t.count };
+
+    fn try_once(&mut self, address: SocketAddr, _wait: Duration) -> Option<SocketAddr> {
+        self.tried = Tried::Behind {
+            before: Snapshot::of(&self.tried),
+            address,
+        };
+        self.count = self.count.saturating_add(1);
+        if address.ip() == self.answers {
+            Some(address)
+        } else {
+            None
+        }
+    }
+
+    fn now(&mut self) -> u64 {
+        self.count
+    }
+}
+
+/// Whether an address is reached where 127.0.0.2, 127.0.0.3 and 127.0.0.1 are tried in turn and the one that ends so answers, by a
+/// clock that says how many were tried; and how many were.
+fn tried(rt: &HostRuntime, last: u8, until: u64) -> Option<(bool, u64)> {
+    let names = SlowNames { rt };
+    let addresses = ("many.test", 80).to_socket_addrs(&names).ok()?;
+    let mut tries = CountedTries {
+        answers: IpAddr::V4(Ipv4Addr::new(127, 0, 0, last)),
+        tried: Tried::Nothing,
+        count: 0,
+    };
+    let reached = try_in_turn(&mut tries, Duration::from_millis(1), until, addresses);
+    Some((reached.is_ok(), tries.count))
+}
+
+#[test]
+fn addresses_are_tried_in_turn_until_one_answers_or_it_is_too_late(rt: HostRuntime) {
+    same(&rt, tried(&rt, 3, 9), Some((true, 2)));
+    same(&rt, tried(&rt, 1, 9), Some((true, 3)));
+    same(&rt, tried(&rt, 4, 9), Some((false, 3)));
+    same(&rt, tried(&rt, 1, 1), Some((false, 1)));
+    same(&rt, tried(&rt, 2, 0), Some((false, 0)));
 }
 
 #[test]

@@ -7,13 +7,13 @@ use Rattle.std.specs.Prelude.{OnOk}
 use Rattle.px_base.specs.Causes.{Rose}
 use Rattle.px_base.specs.declared.faults.SinkFault.{SinkFault}
 use Rattle.px_base.specs.declared.faults.SinkFault.TheVariants as fault
-use Rattle.px_base.specs.Sinks.{SinkState, SinkGoesOn, Takes, Finishes}
+use Rattle.px_base.specs.Sinks.{SinkState, SinkGoesOn, Takes}
 use Rattle.px_base.specs.Sources.{SourceState}
 use Rattle.px_pool_ends.specs.Names.{Passed, passed_so_far, lent_mark}
 use Rattle.px_pool_ends.specs.Closings.{IsImage, replaced, as_it_is}
 use Rattle.px_pool_ends.specs.declared.steps.Step.{Step}
 use Rattle.px_pool_ends.specs.Steps.{SendingSteps, Decides, unfinished, replaces, passes}
-use Rattle.px_pool_ends.specs.Outgoings.{Sending, last_refusal, pending, taken_and_pending, behind_head, written_bytes, image, outer_sink, KeepsSending, IsSent, SendsBytes, StopCause, Wrote}
+use Rattle.px_pool_ends.specs.Outgoings.{Sending, last_refusal, pending, taken_and_pending, behind_head, written_bytes, image, outer_sink, KeepsSending, IsSent, SendsBytes, FinishesBehind, StopCause, Wrote}
 use Rattle.px_pool_ends.proofs.HeadLemmas.{none_in_none, no_closing}
 
 open_before : (a b : Bool) → (IsTrue a → IsTrue b) → b ≡ false → a ≡ false
@@ -60,9 +60,9 @@ rose_from begun old new le r = omega (arith, le, r)
 
 -- ---- what stands
 
-pub keeps_new : (sink : SinkState) (source : SourceState) → sink.finished ≡ false
-    → KeepsSending (record { sink = sink; begun = sink; begun_in = source; head = []; out = []; at = 0; holding = true; replaced = false; method = []; stopped = None; faults = 0; finished = false })
-keeps_new sink source fresh = record {
+pub keeps_new : (sink : SinkState) (source : SourceState) (host : List ℕ) (port : ℕ) → sink.finished ≡ false
+    → KeepsSending (record { sink = sink; begun = sink; begun_in = source; host = host; port = port; head = []; out = []; at = 0; holding = true; replaced = false; method = []; stopped = None; faults = 0; finished = false })
+keeps_new sink source host port fresh = record {
   within = omega arith;
   decides = unfinished [] (omega arith) none_in_none (inl refl);
   begins = λ _. ap (λ (x : List ℕ). sink.taken ++ x) (sym (drop_all (length sink.taken + 0) (sink.taken ++ []) (omega (arith, length-append sink.taken []))));
@@ -74,11 +74,13 @@ keeps_new sink source fresh = record {
   none_taken = λ _ _. refl;
   method = λ e. (cc);
   unfinished = λ _. fresh;
+  passed_on = λ e _. (cc);
+  ended = λ e _. (cc);
 }
 
 -- the same but for the sink, how far it is, and the faults
 abbrev pub moved : Sending → SinkState → ℕ → ℕ → Option SinkFault → Sending
-moved s new to faults stopped = record { sink = new; begun = s.begun; begun_in = s.begun_in; head = s.head; out = s.out; at = to; holding = s.holding; replaced = s.replaced; method = s.method; stopped = stopped; faults = faults; finished = s.finished }
+moved s new to faults stopped = record { sink = new; begun = s.begun; begun_in = s.begun_in; host = s.host; port = s.port; head = s.head; out = s.out; at = to; holding = s.holding; replaced = s.replaced; method = s.method; stopped = stopped; faults = faults; finished = s.finished }
 
 -- the line is as long as what stands before what came behind the head
 long_line : (s : Sending) → KeepsSending s → IsTrue s.sink.tells → length s.begun.taken + length s.out ≤ length (taken_and_pending s)
@@ -95,8 +97,8 @@ written_grown s new to faults stopped more k tells e =
     ap (λ (x : List ℕ). s.head ++ x) (behind_grown s new to faults stopped more k tells e) ∙ sym (append_assoc s.head (behind_head s) more)
 
 pub keeps_grown : (s : Sending) (new : SinkState) (to faults : ℕ) (stopped : Option SinkFault) (more : List ℕ) → KeepsSending s → s.holding ≡ false → to ≤ length s.out
-    → (IsTrue s.sink.tells → new.taken ++ drop to s.out ≡ taken_and_pending s ++ more) → new.tells ≡ s.sink.tells → new.finished ≡ s.sink.finished → (stopped ≡ None → to ≡ length s.out) → s.sink.faults ≤ new.faults → (stopped ≡ Some fault.Failed → Rose s.begun.faults new.faults) → (stopped ≡ None → faults ≡ 0 → new.faults ≡ s.begun.faults) → KeepsSending (moved s new to faults stopped)
-keeps_grown s new to faults stopped more k passing le grown same_tells same_end all more_faults rose clean = record {
+    → (IsTrue s.sink.tells → new.taken ++ drop to s.out ≡ taken_and_pending s ++ more) → new.tells ≡ s.sink.tells → new.finished ≡ s.sink.finished → (stopped ≡ None → to ≡ length s.out) → s.sink.faults ≤ new.faults → (stopped ≡ Some fault.Failed → Rose s.begun.faults new.faults) → (stopped ≡ None → faults ≡ 0 → new.faults ≡ s.begun.faults) → s.finished ≡ false → KeepsSending (moved s new to faults stopped)
+keeps_grown s new to faults stopped more k passing le grown same_tells same_end all more_faults rose clean still = record {
   within = le;
   decides = k.decides;
   begins = λ t.
@@ -112,14 +114,16 @@ keeps_grown s new to faults stopped more k passing le grown same_tells same_end 
   none_taken = λ h _. absurd (not_both s.holding h passing);
   method = k.method;
   unfinished = λ u. same_end ∙ k.unfinished u;
+  passed_on = λ e _. absurd (not_both s.finished e still);
+  ended = λ e _. absurd (not_both s.finished e still);
 }
 
 -- the line is the same once more was sent
 pub line_sent : (s : Sending) (new : SinkState) (to : ℕ) → SendsBytes s.sink new s.out s.at to → IsTrue s.sink.tells → new.taken ++ drop to s.out ≡ taken_and_pending s ++ []
 line_sent s new to h tells = h.joined tells ∙ sym (append-nil (taken_and_pending s))
 
-pub keeps_sent : (s : Sending) (new : SinkState) (to faults : ℕ) (stopped : Option SinkFault) → KeepsSending s → s.holding ≡ false → SendsBytes s.sink new s.out s.at to → (stopped ≡ None → to ≡ length s.out) → (stopped ≡ Some fault.Failed → Rose s.begun.faults new.faults) → (stopped ≡ None → faults ≡ 0 → new.faults ≡ s.begun.faults) → KeepsSending (moved s new to faults stopped)
-keeps_sent s new to faults stopped k passing h all rose clean = keeps_grown s new to faults stopped [] k passing h.within (line_sent s new to h) h.goes_on.tells_same h.open_same all h.goes_on.faults_later rose clean
+pub keeps_sent : (s : Sending) (new : SinkState) (to faults : ℕ) (stopped : Option SinkFault) → KeepsSending s → s.holding ≡ false → SendsBytes s.sink new s.out s.at to → (stopped ≡ None → to ≡ length s.out) → (stopped ≡ Some fault.Failed → Rose s.begun.faults new.faults) → (stopped ≡ None → faults ≡ 0 → new.faults ≡ s.begun.faults) → s.finished ≡ false → KeepsSending (moved s new to faults stopped)
+keeps_sent s new to faults stopped k passing h all rose clean still = keeps_grown s new to faults stopped [] k passing h.within (line_sent s new to h) h.goes_on.tells_same h.open_same all h.goes_on.faults_later rose clean still
 
 -- ---- the end
 
@@ -127,24 +131,6 @@ end_decides : (f h r : Bool) (head out : List ℕ) → Decides f h r head out �
 end_decides _ _ _ _ _ (unfinished head le none may) = passes true head (λ e. (cc))
 end_decides _ _ _ _ _ (replaces f front x) = replaces true front x
 end_decides _ _ _ _ _ (passes f head never) = passes true head (λ e. (cc))
-
-pub keeps_ended : (s : Sending) (sent fin : SinkState) (to : ℕ) (stopped : Option SinkFault) → KeepsSending s → SendsBytes s.sink sent s.out s.at to → Finishes sent fin → SinkGoesOn sent fin → (stopped ≡ None → to ≡ length s.out) → (stopped ≡ Some fault.Failed → Rose s.begun.faults sent.faults) → (stopped ≡ None → s.faults ≡ 0 → sent.faults ≡ s.begun.faults)
-    → KeepsSending (record { sink = fin; begun = s.begun; begun_in = s.begun_in; head = s.head; out = s.out; at = to; holding = false; replaced = s.replaced; method = s.method; stopped = stopped; faults = s.faults; finished = true })
-keeps_ended s sent fin to stopped k h f on all rose clean = record {
-  within = h.within;
-  decides = end_decides s.finished s.holding s.replaced s.head s.out k.decides;
-  begins = λ t.
-      let tells : IsTrue s.sink.tells = sym h.goes_on.tells_same ∙ sym on.tells_same ∙ t in
-      rw (f.taken_same, h.joined tells) (k.begins tells);
-  prompt = λ _ e. all e;
-  later = omega (arith, k.later, h.goes_on.faults_later, f.faults_same);
-  cause = λ e. rw f.faults_same (rose e);
-  clean = λ e z. f.faults_same ∙ clean e z;
-  none_sent = λ e. (cc);
-  none_taken = λ e _. (cc);
-  method = k.method;
-  unfinished = λ e. (cc);
-}
 
 -- ---- what is sent for what was written
 
@@ -154,16 +140,62 @@ image_of _ _ _ _ _ rest (replaces f front x) held e = replaced front rest x refl
 image_of _ _ _ _ _ rest (passes f head never) held e = as_it_is (never e rest) refl
 
 -- where the line is replaced, nothing is held back
-passed_on : (f h r : Bool) (head out : List ℕ) → Decides f h r head out → IsTrue r → h ≡ false
-passed_on _ _ _ _ _ (unfinished head le none may) t = (cc)
-passed_on _ _ _ _ _ (replaces f front x) t = refl
-passed_on _ _ _ _ _ (passes f head never) t = (cc)
+goes_out : (f h r : Bool) (head out : List ℕ) → Decides f h r head out → IsTrue r → h ≡ false
+goes_out _ _ _ _ _ (unfinished head le none may) t = (cc)
+goes_out _ _ _ _ _ (replaces f front x) t = refl
+goes_out _ _ _ _ _ (passes f head never) t = (cc)
+
+-- nor is it behind the end
+let_go : (f h r : Bool) (head out : List ℕ) → Decides f h r head out → IsTrue f → h ≡ false
+let_go _ _ _ _ _ (unfinished head le none may) t = (cc)
+let_go _ _ _ _ _ (replaces f front x) t = refl
+let_go _ _ _ _ _ (passes f head never) t = refl
 
 -- while bytes are held back, nothing came behind them
 pub nothing_behind : (begun out : List ℕ) (taken : List ℕ) (at : ℕ) → at ≡ 0 → taken ≡ begun → (taken ++ drop at out ≡ begun ++ out) × (drop (length begun + length out) (taken ++ drop at out) ≡ [])
 nothing_behind begun out taken at z e =
     let l : taken ++ drop at out ≡ begun ++ out = ap (λ k. taken ++ drop k out) z ∙ ap (λ (x : List ℕ). x ++ out) e in
     (l, ap (λ (x : List ℕ). drop (length begun + length out) x) l ∙ drop_all (length begun + length out) (begun ++ out) (omega (arith, length-append begun out)))
+
+-- what is sent for what was written, while the end wasn't said
+image_open : (s : Sending) → KeepsSending s → IsTrue s.sink.tells → s.finished ≡ false → IsImage (written_bytes s) (image s) s.replaced
+image_open s k tells still = image_of s.finished s.holding s.replaced s.head s.out (behind_head s) k.decides (λ h. (nothing_behind s.begun.taken s.out s.sink.taken s.at (k.none_sent h) (k.none_taken h tells)).1) still
+
+pub keeps_ended : (s : Sending) (fin : SinkState) (to : ℕ) (stopped : Option SinkFault) → KeepsSending s → s.finished ≡ false → FinishesBehind s.sink fin s.out s.at to → (stopped ≡ None → to ≡ length s.out) → (stopped ≡ Some fault.Failed → Rose s.begun.faults fin.faults) → (stopped ≡ None → s.faults ≡ 0 → fin.faults ≡ s.begun.faults)
+    → KeepsSending (record { sink = fin; begun = s.begun; begun_in = s.begun_in; host = s.host; port = s.port; head = s.head; out = s.out; at = to; holding = false; replaced = s.replaced; method = s.method; stopped = stopped; faults = s.faults; finished = true })
+keeps_ended s fin to stopped k still h all rose clean = record {
+  within = h.within;
+  decides = end_decides s.finished s.holding s.replaced s.head s.out k.decides;
+  begins = λ t. let tells : IsTrue s.sink.tells = sym h.goes_on.tells_same ∙ t in rw (h.joined tells) (k.begins tells);
+  prompt = λ _ e. all e;
+  later = omega (arith, k.later, h.goes_on.faults_later);
+  cause = rose;
+  clean = clean;
+  none_sent = λ e. (cc);
+  none_taken = λ e _. (cc);
+  method = k.method;
+  unfinished = λ e. (cc);
+  passed_on = λ _ t. h.finished (sym h.goes_on.tells_same ∙ t);
+  ended = λ _ t. let tells : IsTrue s.sink.tells = sym h.goes_on.tells_same ∙ t in rw (h.joined tells) (image_open s k tells still);
+}
+
+-- a write behind the end changes the count of failures alone
+pub keeps_refused : (s : Sending) (faults : ℕ) → KeepsSending s → IsTrue s.finished → (faults ≡ 0 → ⊥) → KeepsSending (moved s s.sink s.at faults s.stopped)
+keeps_refused s faults k e some = record {
+  within = k.within;
+  decides = k.decides;
+  begins = k.begins;
+  prompt = k.prompt;
+  later = k.later;
+  cause = k.cause;
+  clean = λ _ z. absurd (some z);
+  none_sent = k.none_sent;
+  none_taken = k.none_taken;
+  method = k.method;
+  unfinished = k.unfinished;
+  passed_on = k.passed_on;
+  ended = k.ended;
+}
 
 -- what stands before a rest is as long as the whole without it
 before_rest : (all front rest : List ℕ) → all ≡ front ++ rest → take (length all - length rest) all ≡ front
@@ -181,15 +213,21 @@ joined_less taken pending begun image e le =
     sym (drop-append-add begun image n) ∙ ap (λ (x : List ℕ). drop (length begun + n) x) (sym e) ∙ ap (λ m. drop m (taken ++ pending)) (sym long) ∙ drop-append_seam taken pending in
     (sym (take-append-drop n image) ∙ ap (λ (x : List ℕ). take n image ++ x) rest, front)
 
+image_still : (s : Sending) → KeepsSending s → IsTrue s.sink.tells → (f : Bool) → s.finished ≡ f → IsImage (written_bytes s) (image s) s.replaced
+image_still s k tells true e = k.ended e tells
+image_still s k tells false e = image_open s k tells e
+
 pub is_sent : (s : Sending) → KeepsSending s → IsTrue s.sink.tells → IsSent s
 is_sent s k tells =
     let less = joined_less s.sink.taken (pending s) s.begun.taken (image s) (k.begins tells) (omega (arith, length-drop s.at s.out, length-append s.out (behind_head s))) in record {
-      is_image = λ f.
-          rw tells (image_of s.finished s.holding s.replaced s.head s.out (behind_head s) k.decides (λ h. (nothing_behind s.begun.taken s.out s.sink.taken s.at (k.none_sent h) (k.none_taken h tells)).1) f);
+      is_image = rw tells (image_still s k tells s.finished refl);
       image_is = less.0;
       joined = less.1;
       prompt = λ h e. drop_all s.at s.out (omega (arith, k.prompt h e));
-      decided = passed_on s.finished s.holding s.replaced s.head s.out k.decides;
+      decided = goes_out s.finished s.holding s.replaced s.head s.out k.decides;
+      let_go = let_go s.finished s.holding s.replaced s.head s.out k.decides;
+      unfinished = k.unfinished;
+      passed_on = λ e. k.passed_on e tells;
       method = k.method;
       cause = k.cause;
       clean = k.clean;
@@ -202,11 +240,17 @@ held_is_out _ _ _ _ _ (unfinished head le none may) t = (refl, refl)
 held_is_out _ _ _ _ _ (replaces f front x) t = (cc)
 held_is_out _ _ _ _ _ (passes f head never) t = (cc)
 
+-- while bytes are held back, the end wasn't said
+pub open_held : (s : Sending) → KeepsSending s → IsTrue s.holding → s.finished ≡ false
+open_held s k h = (held_is_out s.finished s.holding s.replaced s.head s.out k.decides h).1
+
 abbrev pub held_by : Sending → Step → Option SinkFault → Sending
 held_by s step stopped = record {
   sink = s.sink;
   begun = s.begun;
   begun_in = s.begun_in;
+  host = s.host;
+  port = s.port;
   head = step.head.value;
   out = step.out;
   at = s.at;
@@ -235,6 +279,8 @@ keeps_held s step bytes stopped k h d un rose clean =
       none_taken = λ _ tells. k.none_taken h tells;
       method = d.method;
       unfinished = k.unfinished;
+      passed_on = k.passed_on;
+      ended = λ e _. absurd (not_both s.finished e was.1);
     }
 
 pub steady_parts : (s : Bool) (n : ℕ) → IsTrue (s && (n == 0)) → IsTrue s × (n ≡ 0)
@@ -249,7 +295,7 @@ pub same_mark : (t u : Bool) (m n : ℕ) (w x : Passed) → t ≡ u → m ≡ n 
 same_mark t u m n w x e f g = rw (e, f, g) refl
 
 -- what lasts at the inner sink lasts at the outer one
-pub outer_goes_on : (s t : Sending) → passed_so_far t.begun_in t.begun ≡ passed_so_far s.begun_in s.begun → SinkGoesOn s.sink t.sink → (IsTrue s.finished → IsTrue t.finished) → (t.finished ≡ false → t.sink.finished ≡ false) → s.faults ≤ t.faults
+pub outer_goes_on : (s t : Sending) → passed_so_far t.host t.port t.begun_in t.begun ≡ passed_so_far s.host s.port s.begun_in s.begun → SinkGoesOn s.sink t.sink → (IsTrue s.finished → IsTrue t.finished) → (t.finished ≡ false → t.sink.finished ≡ false) → s.faults ≤ t.faults
     → (s.sink.faults ≡ 0 → t.sink.faults ≡ 0 → t.faults ≡ s.faults) → SinkGoesOn (outer_sink s) (outer_sink t)
 outer_goes_on s t went h kept still le none = record {
   tells_same = h.tells_same;

@@ -16,6 +16,9 @@ pub record Sending : Type 0 where
   pub sink : SinkState
   pub begun : SinkState
   pub begun_in : SourceState
+  -- where the link was dialled to
+  pub host : List ℕ
+  pub port : ℕ
   -- the first bytes as they were written, up to the end of the head, and as they go out
   pub head : List ℕ
   pub out : List ℕ
@@ -60,7 +63,7 @@ outer_sink s = record {
   faults = s.faults;
   steady = s.sink.steady && (s.sink.faults == 0);
   room = 0;
-  mark = lent_mark s.sink.tells s.sink.mark (passed_so_far s.begun_in s.begun);
+  mark = lent_mark s.sink.tells s.sink.mark (passed_so_far s.host s.port s.begun_in s.begun);
 }
 
 -- the inner sink
@@ -89,16 +92,22 @@ pub record KeepsSending (s : Sending) : Type 0 where
   pub none_taken : IsTrue s.holding → IsTrue s.sink.tells → s.sink.taken ≡ s.begun.taken
   pub method : IsTrue s.replaced → IsMethodOf s.head s.method
   pub unfinished : s.finished ≡ false → s.sink.finished ≡ false
+  pub passed_on : IsTrue s.finished → IsTrue s.sink.tells → IsTrue s.sink.finished
+  pub ended : IsTrue s.finished → IsTrue s.sink.tells → IsImage (written_bytes s) (image s) s.replaced
 
 -- What the inner sink took since the link was lent is what is sent for the bytes written, less what is held back. Nothing is,
--- but the start of a head and what a sending that was refused left. Where none was refused, and no write failed, the inner sink
--- hasn't failed. Where the line is replaced, the method is that of the head.
+-- but the start of a head, while the end wasn't said, and what a sending that was refused left. The end was said to the inner
+-- sink exactly where it was said. Where no sending was refused, and no write failed, the inner sink hasn't failed. Where the
+-- line is replaced, the method is that of the head.
 pub record IsSent (s : Sending) : Type 0 where
-  pub is_image : s.finished ≡ false → IsImage (outer_sink s).taken (image s) s.replaced
+  pub is_image : IsImage (outer_sink s).taken (image s) s.replaced
   pub image_is : image s ≡ sent s ++ pending s
   pub joined : s.sink.taken ≡ s.begun.taken ++ sent s
   pub prompt : s.holding ≡ false → s.stopped ≡ None → pending s ≡ []
   pub decided : IsTrue s.replaced → s.holding ≡ false
+  pub let_go : IsTrue s.finished → s.holding ≡ false
+  pub unfinished : s.finished ≡ false → s.sink.finished ≡ false
+  pub passed_on : IsTrue s.finished → IsTrue s.sink.finished
   pub method : IsTrue s.replaced → IsMethodOf s.head s.method
   pub cause : s.stopped ≡ Some fault.Failed → Rose s.begun.faults s.sink.faults
   pub clean : s.stopped ≡ None → s.faults ≡ 0 → s.sink.faults ≡ s.begun.faults
@@ -109,6 +118,13 @@ pub record SendsBytes (old new : SinkState) (bytes : List ℕ) (from to : ℕ) :
   pub within : to ≤ length bytes
   pub joined : IsTrue old.tells → new.taken ++ drop to bytes ≡ old.taken ++ drop from bytes
   pub open_same : new.finished ≡ old.finished
+  pub goes_on : SinkGoesOn old new
+
+-- bytes are sent in order, up to a place, and then the end is said
+pub record FinishesBehind (old new : SinkState) (bytes : List ℕ) (from to : ℕ) : Type 0 where
+  pub within : to ≤ length bytes
+  pub joined : IsTrue old.tells → new.taken ++ drop to bytes ≡ old.taken ++ drop from bytes
+  pub finished : IsTrue old.tells → IsTrue new.finished
   pub goes_on : SinkGoesOn old new
 
 -- all clauses of a write

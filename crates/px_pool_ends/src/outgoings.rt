@@ -1,9 +1,9 @@
 // The outgoing side of a link.
-ghost use Rattle.std.specs.Prelude.{◌≡◌, ◌==◌, not, ◌<◌, ◌≤◌, IsTrue, length, OnOk, [], false};
+ghost use Rattle.std.specs.Prelude.{◌≡◌, ◌==◌, not, ◌<◌, ◌≤◌, IsTrue, length, OnOk, [], false, true};
 ghost use Rattle.px_base.specs.Causes.{Rose};
 ghost use Rattle.px_base.specs.Sinks.{SinkState, SinkCause, Finishes, SinkGoesOn};
 ghost use Rattle.px_pool_ends.specs.Closings.{IsMethodOf};
-ghost use Rattle.px_pool_ends.specs.Outgoings.{Sending, outer_sink, last_refusal as last_refusal_spec, SendsBytes, StopCause, Wrote, IsSent};
+ghost use Rattle.px_pool_ends.specs.Outgoings.{Sending, outer_sink, last_refusal as last_refusal_spec, SendsBytes, FinishesBehind, StopCause, Wrote, IsSent};
 
 use crate::steps::{Step, step_on};
 use px_base::{LocalSink, LocalSource, Sink, SinkFault, Source, Text};
@@ -19,6 +19,8 @@ pub struct Outgoing<S: LocalSource, O: LocalSink> {
     sink: O,
     begun: Snapshot<O>,
     begun_in: Snapshot<S>,
+    host: Snapshot<Text>,
+    port: Snapshot<u16>,
     head: Snapshot<Text>,
     out: Text,
     at: usize,
@@ -35,14 +37,15 @@ impl<S: LocalSource, O: LocalSink> Model for Outgoing<S, O> {
 
     ghost Value = { Sending };
 
-    ghost view = { λ s. record { sink = O.state s.sink; begun = O.state s.begun.value; begun_in = S.state s.begun_in.value; head = s.head.value; out = s.out; at = s.at; holding = s.holding; replaced = s.replaced; method = s.method; stopped = s.stopped; faults = s.faults; finished = s.finished } };
+    ghost view = { λ s. record { sink = O.state s.sink; begun = O.state s.begun.value; begun_in = S.state s.begun_in.value; host = s.host.value; port = s.port.value; head = s.head.value; out = s.out; at = s.at; holding = s.holding; replaced = s.replaced; method = s.method; stopped = s.stopped; faults = s.faults; finished = s.finished } };
 
-    ghost invariant = { λ s. KeepsSending (record { sink = O.state s.sink; begun = O.state s.begun.value; begun_in = S.state s.begun_in.value; head = s.head.value; out = s.out; at = s.at; holding = s.holding; replaced = s.replaced; method = s.method; stopped = s.stopped; faults = s.faults; finished = s.finished }) };
+    ghost invariant = { λ s. KeepsSending (record { sink = O.state s.sink; begun = O.state s.begun.value; begun_in = S.state s.begun_in.value; host = s.host.value; port = s.port.value; head = s.head.value; out = s.out; at = s.at; holding = s.holding; replaced = s.replaced; method = s.method; stopped = s.stopped; faults = s.faults; finished = s.finished }) };
 }
 
-/// Sends the bytes from a place on. It moves the place behind what was sent.
+/// Sends the bytes from a place on to a sink whose end wasn't said. It moves the place behind what was sent.
 fn send<O: LocalSink>(sink: &mut O, bytes: &[u8], at: &mut usize) -> Result<(), SinkFault>
-    requires { at.old ≤ length bytes.now }
+    requires within { at.old ≤ length bytes.now }
+    requires open { (O.state sink.old).finished ≡ false }
     ensures sends { SendsBytes (O.state sink.old) (O.state sink.new) bytes.now at.old at.new }
     ensures all { OnOk result (at.new ≡ length bytes.now) }
     ensures cause { StopCause (O.state sink.old) (O.state sink.new) result }
@@ -56,6 +59,19 @@ fn send<O: LocalSink>(sink: &mut O, bytes: &[u8], at: &mut usize) -> Result<(), 
     Ok(())
 }
 
+/// Sends the bytes from a place on, and then says the end, also where a sending was refused.
+fn send_last<O: LocalSink>(sink: &mut O, bytes: &[u8], at: &mut usize) -> Result<(), SinkFault>
+    requires within { at.old ≤ length bytes.now }
+    requires open { (O.state sink.old).finished ≡ false }
+    ensures ends { FinishesBehind (O.state sink.old) (O.state sink.new) bytes.now at.old at.new }
+    ensures all { OnOk result (at.new ≡ length bytes.now) }
+    ensures cause { StopCause (O.state sink.old) (O.state sink.new) result }
+{
+    let sent = send(sink, bytes, at);
+    sink.finish();
+    sent
+}
+
 /// Why a sending was refused, the last time that one was: this one, if it was, or one before it.
 fn last_refusal(stopped: Option<SinkFault>, sent: Result<(), SinkFault>) -> Option<SinkFault>
     ensures { result ≡ last_refusal_spec stopped sent }
@@ -67,13 +83,21 @@ fn last_refusal(stopped: Option<SinkFault>, sent: Result<(), SinkFault>) -> Opti
 }
 
 impl<S: LocalSource, O: LocalSink> Outgoing<S, O> {
-    /// The outgoing side of a link over that sink, to which nothing was written yet. `begun_in` is the inner source as it is
-    /// now.
-    pub fn new(alloc: Global, sink: O, begun_in: Snapshot<S>) -> Outgoing<S, O>
+    /// The outgoing side of a link to that host and port over that sink, to which nothing was written yet. `begun_in` is the
+    /// inner source as it is now.
+    pub fn new(
+        alloc: Global,
+        sink: O,
+        begun_in: Snapshot<S>,
+        host: Snapshot<Text>,
+        port: u16,
+    ) -> Outgoing<S, O>
         requires fresh { (O.state sink).finished ≡ false }
         ensures sink { result.sink ≡ O.state sink }
         ensures begun { result.begun ≡ O.state sink }
         ensures begun_in { result.begun_in ≡ S.state begun_in.value }
+        ensures host { result.host ≡ host.value }
+        ensures port { result.port ≡ port }
         ensures none { (outer_sink result).taken ≡ [] }
         ensures replaced { result.replaced ≡ false }
         ensures faults { result.faults ≡ 0 }
@@ -84,6 +108,8 @@ impl<S: LocalSource, O: LocalSink> Outgoing<S, O> {
             alloc,
             begun: Snapshot::of(&sink),
             begun_in,
+            host,
+            port: Snapshot::of(&port),
             sink,
             head: Snapshot::of(&none),
             out: none,
@@ -151,6 +177,8 @@ impl<S: LocalSource, O: LocalSink> Outgoing<S, O> {
             sink,
             begun: _,
             begun_in: _,
+            host: _,
+            port: _,
             head: _,
             out: _,
             at: _,
@@ -197,6 +225,7 @@ impl<S: LocalSource, O: LocalSink> Outgoing<S, O> {
     /// A write once nothing is held back any more.
     fn pass(&mut self, bytes: &[u8]) -> Result<usize, SinkFault>
         requires passing { self.old.holding ≡ false }
+        requires open { self.old.finished ≡ false }
         requires some { 0 < length bytes.now }
         ensures { Wrote (outer_sink self.old) (outer_sink self.new) result bytes.now }
     {
@@ -222,11 +251,16 @@ impl<S: LocalSource, O: LocalSink> Outgoing<S, O> {
         }
     }
 
+    /// Behind the end no write is taken, and it counts as one that failed.
     fn put(&mut self, bytes: &[u8]) -> Result<usize, SinkFault>
         ensures { Wrote (outer_sink self.old) (outer_sink self.new) result bytes.now }
     {
         if bytes.is_empty() {
             return Ok(0);
+        }
+        if self.finished {
+            self.faults = self.faults.saturating_add(1);
+            return Err(SinkFault::Failed);
         }
         if self.holding {
             return self.hold(bytes);
@@ -234,14 +268,17 @@ impl<S: LocalSource, O: LocalSink> Outgoing<S, O> {
         self.pass(bytes)
     }
 
-    /// Sends what is held back, and says the end. Where the inner sink fails in that, its count alone rises.
+    /// Sends what is held back, and says the end, once. Where the inner sink fails in that, its count alone rises.
     fn end(&mut self)
         ensures finishes { Finishes (outer_sink self.old) (outer_sink self.new) }
         ensures goes_on { SinkGoesOn (outer_sink self.old) (outer_sink self.new) }
+        ensures passed_on { IsTrue self.new.sink.tells → self.new.sink.finished ≡ true }
     {
-        let sent = send(&mut self.sink, self.out.as_bytes(), &mut self.at);
+        if self.finished {
+            return;
+        }
+        let sent = send_last(&mut self.sink, self.out.as_bytes(), &mut self.at);
         self.stopped = last_refusal(self.stopped, sent);
-        self.sink.finish();
         self.holding = false;
         self.finished = true;
     }

@@ -16,13 +16,18 @@ use Rattle.px_desk.proofs.Crossing.{desk_send}
 use Rattle.px_doors.specs.declared.doors.Doors as doors
 use Rattle.px_publish.proofs.Crossing.{reader_send}
 use Rattle.px_proxy.specs.contracts.workers.Shared as shared
+use Rattle.px_proxy.specs.contracts.workers.Shares as shares
 use Rattle.px_proxy.specs.contracts.workers.Worker as worker
 use Rattle.px_proxy.specs.declared.workers.Making as making
 
-module _ (N F A E I O D T LI LO : RattleType) (n : making.Ghosts N.Denot) (f : files.Ghosts F.Denot) (a : doors.Ghosts A.Denot I.Denot O.Denot D.Denot T.Denot LI.Denot LO.Denot) (i : source.Ghosts I.Denot) (o : sink.Ghosts O.Denot) (d : dialer.Ghosts D.Denot LI.Denot LO.Denot) (li : source.Ghosts LI.Denot) (lo : sink.Ghosts LO.Denot) (t : clock.Ghosts T.Denot) (e : sink.Ghosts E.Denot) (l : ledger.Ghosts N.Denot) where
-  pub shared_send : IsSend N → IsSync N → IsSend F → IsSend A → IsSend E → IsSend I → IsSend O → IsSend D → IsSend T → IsSend LI → IsSend LO → IsSend (shared.the_row N F A E I O D T LI LO n f a i o d li lo t e l)
-  shared_send sn yn sf sa se si so sd st sli slo = declared_send (shared.the_type N F A E I O D T LI LO n f a i o d li lo t e l) (search (sendable, desk_send) depth 40, (search (sendable, book.the_send) depth 40, tt))
+module _ (N L F A E I O D T LI LO : RattleType) (n : making.Ghosts N.Denot) (f : files.Ghosts F.Denot) (a : doors.Ghosts A.Denot I.Denot O.Denot D.Denot T.Denot LI.Denot LO.Denot) (i : source.Ghosts I.Denot) (o : sink.Ghosts O.Denot) (d : dialer.Ghosts D.Denot LI.Denot LO.Denot) (li : source.Ghosts LI.Denot) (lo : sink.Ghosts LO.Denot) (t : clock.Ghosts T.Denot) (e : sink.Ghosts E.Denot) (l : ledger.Ghosts N.Denot) (m : ledger.Ghosts L.Denot) where
+  pub shared_send : IsSend N → IsSync N → IsSend L → IsSync L → IsSend F → IsSend A → IsSend E → IsSend I → IsSend O → IsSend D → IsSend T → IsSend LI → IsSend LO → IsSend (shared.the_row N L F A E I O D T LI LO n f a i o d li lo t e l m)
+  shared_send sn yn sm ym sf sa se si so sd st sli slo = declared_send (shared.the_type N L F A E I O D T LI LO n f a i o d li lo t e l m) (search (sendable, desk_send) depth 40, (search (sendable, book.the_send) depth 40, (search (sendable, book.the_send) depth 40, tt)))
 
-module _ (N : RattleType) (n : making.Ghosts N.Denot) (l : ledger.Ghosts N.Denot) where
-  pub worker_send : IsSend N → IsSync N → IsSend (worker.the_row N n l)
-  worker_send sn yn = declared_send (worker.the_type N n l) (search (sendable, share.the_send) depth 40, (search (sendable, reader_send, config_send, config_sync) depth 40, tt))
+module _ (N L : RattleType) (l : ledger.Ghosts N.Denot) (m : ledger.Ghosts L.Denot) where
+  pub shares_send : IsSend N → IsSync N → IsSend L → IsSync L → IsSend (shares.the_row N L l m)
+  shares_send sn yn sm ym = declared_send (shares.the_type N L l m) (search (sendable, share.the_send) depth 40, (search (sendable, share.the_send) depth 40, tt))
+
+module _ (N L : RattleType) (n : making.Ghosts N.Denot) (l : ledger.Ghosts N.Denot) (m : ledger.Ghosts L.Denot) where
+  pub worker_send : IsSend N → IsSync N → IsSend L → IsSync L → IsSend (worker.the_row N L n l m)
+  worker_send sn yn sm ym = declared_send (worker.the_type N L n l m) (search (sendable, shares_send) depth 40, (search (sendable, reader_send, config_send, config_sync) depth 40, tt))

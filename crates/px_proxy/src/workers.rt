@@ -1,15 +1,15 @@
 // Workers that share a desk.
 ghost use denote.Param.Send.{IsSend};
-ghost use Rattle.std.specs.Prelude.{◌≡◌, ◌+◌, ◌<◌, ◌≤◌, [], length, vec_len, IfSome, IfNone, OnOk, IfOk, IsTrue, All};
+ghost use Rattle.std.specs.Prelude.{◌≡◌, ◌≢◌, ◌+◌, ◌<◌, ◌≤◌, [], None, length, vec_len, IfSome, IfNone, OnOk, IfOk, IsTrue, All};
 ghost use Rattle.px_publish.specs.Published.{told_by, receipt_pair, seen_by, reader_pair};
 ghost use Rattle.px_doors.specs.Doors.{DoorsState};
 ghost use Rattle.px_doors.specs.Conns.{conn_as, parted_as};
-ghost use Rattle.px_desk.specs.Facts.{Closes, Made, IsOut, DeskStands};
+ghost use Rattle.px_desk.specs.Facts.{IsClosed, Made, IsOut, DeskStands};
 ghost use Rattle.px_publish.specs.Views.{GoesOn};
 ghost use Rattle.px_desk.specs.Sessions.{IsNth, IsConnServed, ServedBy};
 ghost use Rattle.px_serve.specs.Keeping.{IsStored};
 ghost use Rattle.px_desk.specs.Desks.{handed_as, made_of, StandsAfter};
-ghost use Rattle.px_desk.specs.declared.desks.ServeEnd.TheVariants.{DoorsFailed};
+ghost use Rattle.px_proxy.specs.Ways.{IsAtOnce};
 
 use px_base::{Clock, Dialer, Files, Mem, Sink, Source};
 use px_config::Config;
@@ -47,21 +47,32 @@ impl Making for Brand {
     } };
 }
 
-/// A desk, with a book of the connections that are out.
-struct Shared<N: Making, F: Files, A: Doors, E: Sink> {
+/// A desk, with a book of the connections that are out, and one of the workers that were told that no more come. While the desk
+/// isn't closed no worker was told so.
+struct Shared<N: Making, L: Ledger, F: Files, A: Doors, E: Sink> {
     desk: Desk<F, A, E>,
-    book: Book<N>,
+    out: Book<N>,
+    told: Book<L>,
     ghost made: { made_of F.state A.state E.state desk ≡ N.made },
-    ghost counted: { book.total ≡ length desk.out },
+    ghost counted: { out.total ≡ length desk.out },
+    ghost open: { IfNone desk.closing (told.total ≡ 0) },
+}
+
+/// A worker's shares of both books: the connections that it has out, and how often it was told that no more come.
+#[derive(Drop)]
+struct Shares<N: Ledger, L: Ledger> {
+    out: Share<N>,
+    told: Share<L>,
+    ghost one_out: { out.parts ≡ 1 },
+    ghost one_told: { told.parts ≡ 1 },
 }
 
 /// A worker between two connections.
 #[derive(Drop)]
-struct Worker<N: Making> {
-    share: Share<N>,
+struct Worker<N: Making, L: Ledger> {
+    mine: Shares<N, L>,
     reader: ConfigReader<Config>,
-    ghost one_part: { share.parts ≡ 1 },
-    ghost idle: { share.amount ≡ 0 },
+    ghost idle: { mine.out.amount ≡ 0 },
     ghost pair: { reader_pair reader ≡ N.made.pair },
 }
 
@@ -142,6 +153,7 @@ fn served<N: Making, R: Threads + Sync, S: Source, O: Sink, D: Dialer, T: Clock>
     reader: &mut ConfigReader<Config>,
     task: Task<S, O, D, T>,
 ) -> Parted<S, O, D, T>
+    requires at_once { IsAtOnce way.now }
     requires pair { reader_pair reader.old ≡ N.made.pair }
     requires stored { IsStored (seen_by reader.old) store.old }
     requires learnt { task.handed < length (seen_by reader.old) }
@@ -161,6 +173,7 @@ fn task_of<N: Making, S: Source, O: Sink, D: Dialer, T: Clock>(
     requires pair { reader_pair reader.old ≡ N.made.pair }
     requires receipt_pair { receipt_pair handed.receipt ≡ N.made.pair }
     ensures pair { reader_pair reader.new ≡ N.made.pair }
+    ensures handed { length (told_by handed.receipt) ≡ result.handed + 1 }
     ensures learnt { result.handed < length (seen_by reader.new) }
     ensures on { GoesOn (seen_by reader.old) (seen_by reader.new) }
     ensures number { result.number ≡ handed.number }
@@ -181,27 +194,29 @@ fn task_of<N: Making, S: Source, O: Sink, D: Dialer, T: Clock>(
     }
 }
 
-impl<N: Making, F: Files, A: Doors, E: Sink> Shared<N, F, A, E> {
+impl<N: Making, L: Ledger, F: Files, A: Doors, E: Sink> Shared<N, L, F, A, E> {
     /// Takes the next connection.
     fn next<R: Wait>(
         &mut self,
         rt: &R,
-        mine: &mut Share<N>,
+        mine: &mut Shares<N, L>,
     ) -> DeskNext<A::In, A::Out, A::Dial, A::Time>
-        requires part { 0 < mine.old.parts }
-        ensures parts { mine.new.parts ≡ mine.old.parts }
-        ensures conn { IfSome (handed_as A.In.state A.Out.state A.Dial.state A.Time.state result) (λ h. mine.new.amount ≡ mine.old.amount + 1) }
+        ensures conn { IfSome (handed_as A.In.state A.Out.state A.Dial.state A.Time.state result) (λ h. mine.new.out.amount ≡ mine.old.out.amount + 1) }
         ensures nth { IfSome (handed_as A.In.state A.Out.state A.Dial.state A.Time.state result) (λ h. IsNth N.made.doors.tells N.made.doors.conns h.number h.conn) }
         ensures pair { IfSome (handed_as A.In.state A.Out.state A.Dial.state A.Time.state result) (λ h. h.pair ≡ N.made.pair) }
-        ensures closed { IfNone (handed_as A.In.state A.Out.state A.Dial.state A.Time.state result) (mine.new.amount ≡ mine.old.amount) }
+        ensures closed { IfNone (handed_as A.In.state A.Out.state A.Dial.state A.Time.state result) (mine.new.out.amount ≡ mine.old.out.amount) }
+        ensures told { IfNone (handed_as A.In.state A.Out.state A.Dial.state A.Time.state result) (0 < mine.new.told.amount) }
     {
-        let Shared { desk, book } = self;
+        let Shared { desk, out, told } = self;
         match desk.next(rt) {
             DeskNext::Conn(handed) => {
-                book.add(mine, 1);
+                out.add(&mut mine.out, 1);
                 DeskNext::Conn(handed)
             }
-            DeskNext::Closed(closing) => DeskNext::Closed(closing),
+            DeskNext::Closed(closing) => {
+                told.add(&mut mine.told, 1);
+                DeskNext::Closed(closing)
+            }
         }
     }
 
@@ -215,45 +230,51 @@ impl<N: Making, F: Files, A: Doors, E: Sink> Shared<N, F, A, E> {
     }
 
     /// Takes a connection back.
-    fn part(&mut self, mine: &mut Share<N>, parted: Parted<A::In, A::Out, A::Dial, A::Time>)
+    fn part(&mut self, mine: &mut Shares<N, L>, parted: Parted<A::In, A::Out, A::Dial, A::Time>)
         requires out { IsOut (record { number = parted.number; handed = parted.handed }) self.old.desk.out }
         requires served { IsConnServed N.made.doors.tells N.made.doors.conns self.old.desk.list (parted_as A.In.state A.Out.state A.Dial.state A.Time.state parted) }
-        requires one { 0 < mine.old.amount }
-        ensures parts { mine.new.parts ≡ mine.old.parts }
-        ensures amount { mine.new.amount + 1 ≡ mine.old.amount }
+        requires one { 0 < mine.old.out.amount }
+        ensures amount { mine.new.out.amount + 1 ≡ mine.old.out.amount }
     {
-        let Shared { desk, book } = self;
+        let Shared { desk, out, told: _ } = self;
         desk.part(parted);
-        book.sub(mine, 1);
+        out.sub(&mut mine.out, 1);
     }
 
-    /// The desk, once every share is back and none has a connection.
-    fn finish(self, all: &mut Share<N>) -> Desk<F, A, E>
-        requires whole { all.old.parts ≡ N.parts }
-        requires idle { all.old.amount ≡ 0 }
+    /// The desk, once every share is back, none has a connection, and a worker was told that no more come.
+    fn finish(self, all: &mut AllShares<N, L>) -> Desk<F, A, E>
+        requires whole_out { all.old.out.parts ≡ N.parts }
+        requires whole_told { all.old.told.parts ≡ L.parts }
+        requires idle { all.old.out.amount ≡ 0 }
+        requires told { 0 < all.old.told.amount }
         ensures made { made_of F.state A.state E.state result ≡ N.made }
         ensures none_out { result.out ≡ [] }
+        ensures closed { result.closing ≢ None }
     {
-        let Shared { desk, mut book } = self;
-        book.audit(all);
+        let Shared {
+            desk,
+            mut out,
+            mut told,
+        } = self;
+        out.audit(&mut all.out);
+        told.audit(&mut all.told);
         desk
     }
 }
 
 /// Takes the next connection from a desk that others use too, and learns its receipt.
-fn take<N: Making, F: Files, A: Doors, E: Sink, R: Wait>(
+fn take<N: Making, L: Ledger, F: Files, A: Doors, E: Sink, R: Wait>(
     rt: &R,
-    shared: &Mutex<Shared<N, F, A, E>>,
-    mine: &mut Share<N>,
+    shared: &Mutex<Shared<N, L, F, A, E>>,
+    mine: &mut Shares<N, L>,
     reader: &mut ConfigReader<Config>,
 ) -> Option<Task<A::In, A::Out, A::Dial, A::Time>>
-    requires part { 0 < mine.old.parts }
     requires pair { reader_pair reader.old ≡ N.made.pair }
-    ensures parts { mine.new.parts ≡ mine.old.parts }
     ensures pair { reader_pair reader.new ≡ N.made.pair }
     ensures on { GoesOn (seen_by reader.old) (seen_by reader.new) }
-    ensures counted { IfSome result (λ _. mine.new.amount ≡ mine.old.amount + 1) }
-    ensures closed { IfNone result (mine.new.amount ≡ mine.old.amount) }
+    ensures counted { IfSome result (λ _. mine.new.out.amount ≡ mine.old.out.amount + 1) }
+    ensures closed { IfNone result (mine.new.out.amount ≡ mine.old.out.amount) }
+    ensures told { IfNone result (0 < mine.new.told.amount) }
     ensures nth { IfSome result (λ task. IsNth N.made.doors.tells N.made.doors.conns task.number (conn_as A.In.state A.Out.state A.Dial.state A.Time.state task.conn)) }
     ensures learnt { IfSome result (λ task. task.handed < length (seen_by reader.new)) }
 {
@@ -269,18 +290,17 @@ fn take<N: Making, F: Files, A: Doors, E: Sink, R: Wait>(
 }
 
 /// Gives a connection back to a desk that others use too.
-fn give_back<N: Making, F: Files, A: Doors, E: Sink, R: Wait>(
+fn give_back<N: Making, L: Ledger, F: Files, A: Doors, E: Sink, R: Wait>(
     rt: &R,
-    shared: &Mutex<Shared<N, F, A, E>>,
-    mine: &mut Share<N>,
+    shared: &Mutex<Shared<N, L, F, A, E>>,
+    mine: &mut Shares<N, L>,
     reader: &ConfigReader<Config>,
     parted: Parted<A::In, A::Out, A::Dial, A::Time>,
 )
     requires pair { reader_pair reader.now ≡ N.made.pair }
     requires served { IsConnServed N.made.doors.tells N.made.doors.conns (seen_by reader.now) (parted_as A.In.state A.Out.state A.Dial.state A.Time.state parted) }
-    requires one { 0 < mine.old.amount }
-    ensures parts { mine.new.parts ≡ mine.old.parts }
-    ensures amount { mine.new.amount + 1 ≡ mine.old.amount }
+    requires one { 0 < mine.old.out.amount }
+    ensures amount { mine.new.out.amount + 1 ≡ mine.old.out.amount }
 {
     'again: for _ in rt.forever() {
         let mut desk = shared.lock(rt);
@@ -294,40 +314,49 @@ fn give_back<N: Making, F: Files, A: Doors, E: Sink, R: Wait>(
     unreachable!()
 }
 
+/// Lets go of what a connection that was served holds of the system: its client's socket, and the links that its dialer keeps. It
+/// is done before the desk is asked for, which a worker may hold while it waits for the next client.
+fn let_go<A: Doors>(parted: &mut Parted<A::In, A::Out, A::Dial, A::Time>)
+    ensures same { parted_as A.In.state A.Out.state A.Dial.state A.Time.state parted.new ≡ parted_as A.In.state A.Out.state A.Dial.state A.Time.state parted.old }
+{
+    A::leave(&mut parted.conn.client_in, &mut parted.conn.client_out);
+    A::rest(&mut parted.conn.dialer);
+}
+
 /// Serves connections with one store, as long as they are handed out with its entry. Gives the first that isn't, if one comes.
-fn serve_while_stored<N: Making, F: Files, A: Doors, E: Sink, R: Threads + Wait + Sync>(
+fn serve_while_stored<N: Making, L: Ledger, F: Files, A: Doors, E: Sink, R: Threads + Wait + Sync>(
     rt: &R,
     alloc: Global,
-    shared: &Mutex<Shared<N, F, A, E>>,
-    share: &mut Share<N>,
+    shared: &Mutex<Shared<N, L, F, A, E>>,
+    mine: &mut Shares<N, L>,
     reader: &mut ConfigReader<Config>,
     store: &mut Store<'_>,
     task: Task<A::In, A::Out, A::Dial, A::Time>,
 ) -> Option<Task<A::In, A::Out, A::Dial, A::Time>>
-    requires part { 0 < share.old.parts }
-    requires one { share.old.amount ≡ 1 }
+    requires one { mine.old.out.amount ≡ 1 }
     requires pair { reader_pair reader.old ≡ N.made.pair }
     requires stored { IsStored (seen_by reader.old) store.old }
     requires nth { IsNth N.made.doors.tells N.made.doors.conns task.number (conn_as A.In.state A.Out.state A.Dial.state A.Time.state task.conn) }
     requires learnt { task.handed < length (seen_by reader.old) }
-    ensures parts { share.new.parts ≡ share.old.parts }
     ensures pair { reader_pair reader.new ≡ N.made.pair }
-    ensures counted { IfSome result (λ _. share.new.amount ≡ 1) }
-    ensures closed { IfNone result (share.new.amount ≡ 0) }
+    ensures counted { IfSome result (λ _. mine.new.out.amount ≡ 1) }
+    ensures closed { IfNone result (mine.new.out.amount ≡ 0) }
+    ensures told { IfNone result (0 < mine.new.told.amount) }
     ensures nth { IfSome result (λ task. IsNth N.made.doors.tells N.made.doors.conns task.number (conn_as A.In.state A.Out.state A.Dial.state A.Time.state task.conn)) }
     ensures learnt { IfSome result (λ task. task.handed < length (seen_by reader.new)) }
 {
     let mut task = task;
     'same: for _ in rt.forever() {
-        let parted = served::<N, R, A::In, A::Out, A::Dial, A::Time>(
+        let mut parted = served::<N, R, A::In, A::Out, A::Dial, A::Time>(
             alloc,
             &Way::AtOnce(rt),
             store,
             reader,
             task,
         );
-        give_back(rt, shared, share, reader, parted);
-        match take(rt, shared, share, reader) {
+        let_go::<A>(&mut parted);
+        give_back(rt, shared, mine, reader, parted);
+        match take(rt, shared, mine, reader) {
             Some(next) => {
                 if !store.is_of(next.handed) {
                     return Some(next);
@@ -342,23 +371,22 @@ fn serve_while_stored<N: Making, F: Files, A: Doors, E: Sink, R: Threads + Wait 
 
 /// Serves a connection, and those behind it that are handed out with the same entry, with a store of that entry. Gives the first
 /// that isn't, if one comes.
-fn serve_entry<N: Making, F: Files, A: Doors, E: Sink, R: Threads + Wait + Sync>(
+fn serve_entry<N: Making, L: Ledger, F: Files, A: Doors, E: Sink, R: Threads + Wait + Sync>(
     rt: &R,
     alloc: Global,
-    shared: &Mutex<Shared<N, F, A, E>>,
-    share: &mut Share<N>,
+    shared: &Mutex<Shared<N, L, F, A, E>>,
+    mine: &mut Shares<N, L>,
     reader: &mut ConfigReader<Config>,
     task: Task<A::In, A::Out, A::Dial, A::Time>,
 ) -> Option<Task<A::In, A::Out, A::Dial, A::Time>>
-    requires part { 0 < share.old.parts }
-    requires one { share.old.amount ≡ 1 }
+    requires one { mine.old.out.amount ≡ 1 }
     requires pair { reader_pair reader.old ≡ N.made.pair }
     requires nth { IsNth N.made.doors.tells N.made.doors.conns task.number (conn_as A.In.state A.Out.state A.Dial.state A.Time.state task.conn) }
     requires learnt { task.handed < length (seen_by reader.old) }
-    ensures parts { share.new.parts ≡ share.old.parts }
     ensures pair { reader_pair reader.new ≡ N.made.pair }
-    ensures counted { IfSome result (λ _. share.new.amount ≡ 1) }
-    ensures closed { IfNone result (share.new.amount ≡ 0) }
+    ensures counted { IfSome result (λ _. mine.new.out.amount ≡ 1) }
+    ensures closed { IfNone result (mine.new.out.amount ≡ 0) }
+    ensures told { IfNone result (0 < mine.new.told.amount) }
     ensures nth { IfSome result (λ task. IsNth N.made.doors.tells N.made.doors.conns task.number (conn_as A.In.state A.Out.state A.Dial.state A.Time.state task.conn)) }
     ensures learnt { IfSome result (λ task. task.handed < length (seen_by reader.new)) }
 {
@@ -366,153 +394,211 @@ fn serve_entry<N: Making, F: Files, A: Doors, E: Sink, R: Threads + Wait + Sync>
     match reader.owner() {
         Ok(owner) => {
             let mut store = Store::new(alloc, number, &owner);
-            serve_while_stored(rt, alloc, shared, share, reader, &mut store, task)
+            serve_while_stored(rt, alloc, shared, mine, reader, &mut store, task)
         }
         Err(CountFull) => {
             let mut store = Store::Wanting;
-            serve_while_stored(rt, alloc, shared, share, reader, &mut store, task)
+            serve_while_stored(rt, alloc, shared, mine, reader, &mut store, task)
         }
     }
 }
 
-/// Serves one connection after another, until no more come.
-fn serve_each<N: Making, F: Files, A: Doors, E: Sink, R: Threads + Wait + Sync>(
+/// Serves one connection after another, until the desk says that no more come.
+fn serve_each<N: Making, L: Ledger, F: Files, A: Doors, E: Sink, R: Threads + Wait + Sync>(
     rt: &R,
     alloc: Global,
-    shared: &Mutex<Shared<N, F, A, E>>,
-    share: &mut Share<N>,
+    shared: &Mutex<Shared<N, L, F, A, E>>,
+    mine: &mut Shares<N, L>,
     reader: &mut ConfigReader<Config>,
 )
-    requires part { 0 < share.old.parts }
-    requires idle { share.old.amount ≡ 0 }
+    requires idle { mine.old.out.amount ≡ 0 }
     requires pair { reader_pair reader.old ≡ N.made.pair }
-    ensures parts { share.new.parts ≡ share.old.parts }
-    ensures idle { share.new.amount ≡ 0 }
+    ensures idle { mine.new.out.amount ≡ 0 }
+    ensures told { 0 < mine.new.told.amount }
     ensures pair { reader_pair reader.new ≡ N.made.pair }
 {
-    let mut next = take(rt, shared, share, reader);
+    let mut next = take(rt, shared, mine, reader);
     'more: for _ in rt.forever() {
         match next {
-            Some(task) => next = serve_entry(rt, alloc, shared, share, reader, task),
+            Some(task) => next = serve_entry(rt, alloc, shared, mine, reader, task),
             None => return,
         }
     }
     unreachable!()
 }
 
-/// Lets a worker serve until no more connections come.
-fn work<N: Making, F: Files, A: Doors, E: Sink, R: Threads + Wait + Sync>(
+/// Lets a worker serve until the desk says that no more connections come.
+fn work<N: Making, L: Ledger, F: Files, A: Doors, E: Sink, R: Threads + Wait + Sync>(
     rt: &R,
     alloc: Global,
-    shared: &Mutex<Shared<N, F, A, E>>,
-    worker: &mut Worker<N>,
-) {
-    let Worker { share, reader } = worker;
-    serve_each(rt, alloc, shared, share, reader);
+    shared: &Mutex<Shared<N, L, F, A, E>>,
+    worker: &mut Worker<N, L>,
+)
+    ensures told { 0 < worker.new.mine.told.amount }
+{
+    let Worker { mine, reader } = worker;
+    serve_each(rt, alloc, shared, mine, reader);
+}
+
+/// What no worker has of both books.
+#[derive(Drop)]
+struct AllShares<N: Ledger, L: Ledger> {
+    out: Share<N>,
+    told: Share<L>,
 }
 
 /// A worker for each reader.
-fn cut<N: Making>(
+fn cut<N: Making, L: Ledger>(
     alloc: Global,
-    all: &mut Share<N>,
+    all: &mut AllShares<N, L>,
     mut readers: Vec<ConfigReader<Config>>,
-) -> Result<Vec<Worker<N>>, Mem>
+) -> Result<Vec<Worker<N, L>>, Mem>
     requires pair { All (λ r. reader_pair r ≡ N.made.pair) readers.items }
-    requires parts { all.old.parts ≡ vec_len readers }
-    requires idle { all.old.amount ≡ 0 }
-    ensures none { OnOk result ((all.new.parts ≡ 0) × (all.new.amount ≡ 0)) }
+    requires parts_out { all.old.out.parts ≡ vec_len readers }
+    requires parts_told { all.old.told.parts ≡ vec_len readers }
+    requires idle { all.old.out.amount ≡ 0 }
+    requires none_told { all.old.told.amount ≡ 0 }
+    ensures none_out { OnOk result ((all.new.out.parts ≡ 0) × (all.new.out.amount ≡ 0)) }
+    ensures none_told { OnOk result ((all.new.told.parts ≡ 0) × (all.new.told.amount ≡ 0)) }
     ensures each { IfOk result (λ v. vec_len v ≡ vec_len readers) }
 {
     let mut workers = Vec::with_capacity(alloc, readers.len())?;
     'each: while let Some(reader) = readers.pop() {
-        let share = all.split_off(1, 0);
-        workers.push_reserved(Worker { share, reader });
+        let mine = Shares {
+            out: all.out.split_off(1, 0),
+            told: all.told.split_off(1, 0),
+        };
+        workers.push_reserved(Worker { mine, reader });
     }
     Ok(workers)
 }
 
 /// Puts the parts together.
-fn gather<N: Making>(all: &mut Share<N>, mut workers: Vec<Worker<N>>)
-    requires none { all.old.amount ≡ 0 }
-    ensures parts { all.new.parts ≡ all.old.parts + vec_len workers }
-    ensures idle { all.new.amount ≡ 0 }
+fn gather<N: Making, L: Ledger>(all: &mut AllShares<N, L>, mut workers: Vec<Worker<N, L>>)
+    requires none { all.old.out.amount ≡ 0 }
+    requires told { All (λ w. 0 < w.mine.told.amount) workers.items }
+    ensures parts_out { all.new.out.parts ≡ all.old.out.parts + vec_len workers }
+    ensures parts_told { all.new.told.parts ≡ all.old.told.parts + vec_len workers }
+    ensures idle { all.new.out.amount ≡ 0 }
+    ensures told { 0 < vec_len workers → 0 < all.new.told.amount }
 {
     'next: while let Some(worker) = workers.pop() {
-        let Worker { share, reader: _ } = worker;
-        all.merge(share);
+        let Worker { mine, reader: _ } = worker;
+        let Shares { out, told } = mine;
+        all.out.merge(out);
+        all.told.merge(told);
     }
 }
 
-/// Runs each worker in a thread.
-fn work_all<N: Making + Send + Sync, F: Files, A: Doors, E: Sink, R: Threads + Wait + Sync>(
+/// Runs each worker in a thread of its own.
+fn work_all<
+    N: Making + Send + Sync,
+    L: Ledger + Send + Sync,
+    F: Files,
+    A: Doors,
+    E: Sink,
+    R: Threads + Wait + Sync,
+>(
     rt: &R,
     alloc: &Global,
-    shared: &Mutex<Shared<N, F, A, E>>,
-    workers: &mut [Worker<N>],
+    shared: &Mutex<Shared<N, L, F, A, E>>,
+    workers: &mut [Worker<N, L>],
+    threads: usize,
 )
-    requires { 0 < length workers.old }
+    requires some { 0 < length workers.old }
+    requires each { threads ≡ length workers.old }
+    ensures told { All (λ w. 0 < w.mine.told.amount) workers.new }
 {
-    let count = workers.len();
     thread::for_each_mut(
         rt,
         workers,
-        count,
-        &|_, worker: &mut Worker<N>|
+        threads,
+        &|_, worker: &mut Worker<N, L>|
             requires { IsSend F.row × IsSend A.row × IsSend E.row × IsSend A.In.row × IsSend A.Out.row × IsSend A.Dial.row × IsSend A.Time.row × IsSend A.Dial.In.row × IsSend A.Dial.Out.row }
+            ensures { 0 < worker.exit.now.mine.told.amount }
         { work(rt, *alloc, shared, worker) },
     );
 }
 
 /// Runs the workers, and takes the desk back.
-fn run<N: Making + Send + Sync, F: Files, A: Doors, E: Sink, R: Threads + Wait + Sync>(
+fn run<
+    N: Making + Send + Sync,
+    L: Ledger + Send + Sync,
+    F: Files,
+    A: Doors,
+    E: Sink,
+    R: Threads + Wait + Sync,
+>(
     rt: &R,
     alloc: Global,
-    desk: Desk<F, A, E>,
-    book: Book<N>,
-    mut all: Share<N>,
-    mut workers: Vec<Worker<N>>,
+    shared: Shared<N, L, F, A, E>,
+    mut all: AllShares<N, L>,
+    mut workers: Vec<Worker<N, L>>,
 ) -> Desk<F, A, E>
-    requires made { made_of F.state A.state E.state desk ≡ N.made }
-    requires none_out { desk.out ≡ [] }
-    requires total { book.total ≡ 0 }
-    requires all { (all.parts ≡ 0) × (all.amount ≡ 0) }
-    requires parts { vec_len workers ≡ N.parts }
+    requires all_out { (all.out.parts ≡ 0) × (all.out.amount ≡ 0) }
+    requires all_told { (all.told.parts ≡ 0) × (all.told.amount ≡ 0) }
+    requires parts_out { vec_len workers ≡ N.parts }
+    requires parts_told { vec_len workers ≡ L.parts }
     requires some { 0 < vec_len workers }
     ensures made { made_of F.state A.state E.state result ≡ N.made }
     ensures none_out { result.out ≡ [] }
+    ensures closed { result.closing ≢ None }
 {
-    let shared = Mutex::new(Shared { desk, book });
-    work_all(rt, &alloc, &shared, workers.as_mut_slice());
+    let shared = Mutex::new(shared);
+    let threads = workers.len();
+    work_all(rt, &alloc, &shared, workers.as_mut_slice(), threads);
     gather(&mut all, workers);
     shared.into_inner().finish(&mut all)
 }
 
-fn serve_named<N: Making + Send + Sync, F: Files, A: Doors, E: Sink, R: Threads + Wait + Sync>(
+fn serve_named<
+    N: Making + Send + Sync,
+    L: Ledger + Send + Sync,
+    F: Files,
+    A: Doors,
+    E: Sink,
+    R: Threads + Wait + Sync,
+>(
     rt: &R,
     alloc: Global,
     desk: Desk<F, A, E>,
     readers: Vec<ConfigReader<Config>>,
-    blank: Blank,
+    out: Blank,
+    told: Blank,
 ) -> ServedDesk<F, A, E>
-    requires name { blank.name ≡ N.name }
-    requires parts { blank.parts ≡ N.parts }
-    requires count { blank.parts ≡ vec_len readers }
+    requires name_out { out.name ≡ N.name }
+    requires parts_out { out.parts ≡ N.parts }
+    requires count_out { out.parts ≡ vec_len readers }
+    requires name_told { told.name ≡ L.name }
+    requires parts_told { told.parts ≡ L.parts }
+    requires count_told { told.parts ≡ vec_len readers }
+    requires open { desk.closing ≡ None }
     requires made { made_of F.state A.state E.state desk ≡ N.made }
     requires pair { All (λ r. reader_pair r ≡ desk.pair) readers.items }
     requires none_out { desk.out ≡ [] }
     requires some { 0 < vec_len readers }
     ensures stands { StandsAfter (made_of F.state A.state E.state desk) (F.state result.parts.files) (A.state result.parts.doors) (E.state result.parts.err) result.counts }
-    ensures closes { Closes (A.state desk.made_doors) desk.most (A.state result.parts.doors) result.end }
+    ensures closes { IsClosed (A.state desk.made_doors) desk.most (A.state result.parts.doors) result.closing }
+    ensures unopened { IfNone result.closing (A.state result.parts.doors ≡ A.state desk.doors) }
 {
-    let (book, mut all) = blank.open::<N>();
+    let (out, all_out) = out.open::<N>();
+    let (told, all_told) = told.open::<L>();
+    let mut all = AllShares {
+        out: all_out,
+        told: all_told,
+    };
     match cut(alloc, &mut all, readers) {
-        Ok(workers) => run(rt, alloc, desk, book, all, workers).into_parts(rt),
+        Ok(workers) => {
+            let shared = Shared { desk, out, told };
+            run(rt, alloc, shared, all, workers).into_parts(rt)
+        }
         Err(Mem) => desk.into_parts(rt),
     }
 }
 
-/// Serves the connections of a desk that has none out, by one worker for each reader. Afterwards each was parted once. It may
-/// wait.
+/// Serves the connections of a desk that has none out and isn't closed, by one worker for each reader, which serves until the desk
+/// says that no more come. Afterwards each was parted once. Where the desk didn't close, memory was wanting for the workers, and the
+/// doors are as they were. It may wait.
 pub fn serve_all<F: Files, A: Doors, E: Sink, R: Threads + Wait + Sync>(
     rt: &R,
     alloc: Global,
@@ -521,10 +607,13 @@ pub fn serve_all<F: Files, A: Doors, E: Sink, R: Threads + Wait + Sync>(
 ) -> ServedDesk<F, A, E>
     requires pair { All (λ r. reader_pair r ≡ desk.pair) readers.items }
     requires none_out { desk.out ≡ [] }
+    requires open { desk.closing ≡ None }
     requires some { 0 < vec_len readers }
     ensures stands { StandsAfter (made_of F.state A.state E.state desk) (F.state result.parts.files) (A.state result.parts.doors) (E.state result.parts.err) result.counts }
-    ensures closes { Closes (A.state desk.made_doors) desk.most (A.state result.parts.doors) result.end }
+    ensures closes { IsClosed (A.state desk.made_doors) desk.most (A.state result.parts.doors) result.closing }
+    ensures unopened { IfNone result.closing (A.state result.parts.doors ≡ A.state desk.doors) }
 {
-    let blank = Blank::new(readers.len() as u64);
-    serve_named::<Brand, F, A, E, R>(rt, alloc, desk, readers, blank)
+    let out = Blank::new(readers.len() as u64);
+    let told = Blank::new(readers.len() as u64);
+    serve_named::<Brand, Brand, F, A, E, R>(rt, alloc, desk, readers, out, told)
 }

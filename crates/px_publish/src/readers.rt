@@ -1,6 +1,7 @@
 // A reader of published configurations.
 ghost use Rattle.std.specs.Prelude.{◌≡◌, ◌⊎◌, Some, false, max, length};
 ghost use Rattle.left_right.specs.Sides.{view};
+ghost use mathlib.Core.List.{IsPrefix};
 ghost use Rattle.px_publish.specs.Views.{GoesOn};
 
 use crate::configs::{Configs, CountFull, Snapshot, another_owner};
@@ -63,6 +64,16 @@ impl<C: Drop> ConfigReader<C> {
         ensures { result.now ≡ self.now.held.front }
     {
         &self.held.front
+    }
+
+    /// Of what two readers of one pair have seen the one begins the other. It changes nothing, takes no memory and waits for nobody.
+    pub fn sees_one_list(&self, other: &ConfigReader<C>)
+        requires { reader_pair other.now ≡ reader_pair self.now }
+        ensures { IsPrefix (seen_by self.now) (seen_by other.now) ⊎ IsPrefix (seen_by other.now) (seen_by self.now) }
+    {
+        if self.front().is_behind(other.front()) {
+            return;
+        }
     }
 
     fn looked(self) -> ConfigReader<C>

@@ -1,5 +1,5 @@
 -- What `serve` does: with its words, the files, the doors and the error output.
-use Rattle.std.specs.Prelude.{◌≡◌, ℕ, ◌⊎◌, List, [], Some, IsTrue, MatchBool}
+use Rattle.std.specs.Prelude.{◌≡◌, ℕ, ◌⊎◌, List, [], Option, Some, IfNone, IsTrue, MatchBool}
 use Rattle.px_base.specs.Causes.{Rose}
 use Rattle.px_base.specs.Contents.{FilesState, FilesGoOn}
 use Rattle.px_base.specs.Moments.{ClockState}
@@ -14,7 +14,7 @@ use Rattle.px_shared.specs.SharedDoors.{IsBelow, with_pools}
 use Rattle.px_doors.specs.Doors.{DoorsState, DoorsGoesOn, Stays}
 use Rattle.px_doors.specs.declared.addresses.ListenAddress.{ListenAddress}
 use Rattle.px_desk.specs.Desks.{StandsAfter}
-use Rattle.px_desk.specs.Facts.{Closes, Made}
+use Rattle.px_desk.specs.Facts.{IsClosed, Made}
 use Rattle.px_desk.specs.Sets.{Spells, set_of}
 use Rattle.px_desk.specs.Turns.{none}
 use Rattle.px_desk.specs.declared.desks.ServeEnd.{ServeEnd}
@@ -71,11 +71,13 @@ pub record WantsServing (old new : ProxyOutside) (counts : ReloadCounts) (s : St
   pub wanting : s ≡ status.NoMemory
   pub unserved : Unserved old new counts
 
--- the connections of a desk that was made so were served
+-- the connections of a desk that was made so were served, until the desk said that no more come; or memory was wanting before the
+-- first was accepted
 pub record ServesDesk (made : Made) (new : ProxyOutside) (counts : ReloadCounts) (s : Status) : Type 0 where
   pub stands : StandsAfter made new.files new.doors new.errors counts
-  pub ended : ServeEnd
-  pub closes : Closes made.doors made.most new.doors ended
+  pub ended : Option ServeEnd
+  pub closes : IsClosed made.doors made.most new.doors ended
+  pub unopened : IfNone ended (new.doors.accepted ≡ made.doors.accepted)
   pub status_is : s ≡ status_of_serving ended
 
 -- memory was wanting for the desk, and all is as it was

@@ -5,13 +5,14 @@ ghost use Rattle.px_serve_command.specs.Endings.{status_of_serving};
 use px_commands::Status;
 use px_desk::ServeEnd;
 
-/// The status behind serving.
-pub fn status_of_serving(end: ServeEnd) -> Status
-    ensures { result ≡ status_of_serving end }
+/// The status behind serving, by why no more connections came. Where nobody asked for any, memory was wanting.
+pub fn status_of_serving(closing: Option<ServeEnd>) -> Status
+    ensures { result ≡ status_of_serving closing }
 {
-    match end {
-        ServeEnd::End => Status::Done,
-        ServeEnd::DoorsFailed => Status::DoorsFailed,
-        ServeEnd::NoMemory => Status::NoMemory,
+    match closing {
+        Some(ServeEnd::End) => Status::Done,
+        Some(ServeEnd::DoorsFailed) => Status::DoorsFailed,
+        Some(ServeEnd::NoMemory) => Status::NoMemory,
+        None => Status::NoMemory,
     }
 }

@@ -12,11 +12,12 @@ ghost use Rattle.px_desk.specs.Turns.{none};
 ghost use Rattle.px_serve_command.specs.Proxies.{ProxyGoesOn, RunsProxy, RunsServe, ServesBy, ServesFirst, ServesLoaded, ServesPublished, ServesSharing};
 
 use crate::endings::status_of_serving;
-use px_base::{Failed, Files, Mem, Sink};
+use px_base::{Dialer, Failed, Files, Mem, Sink};
 use px_commands::{ServeWords, Status, USAGE, parse_serve, read_serve, report, report_load};
 use px_config::{Config, FileSet, LoadFault, gather, spell};
 use px_desk::{Desk, DeskParts, ReloadCounts};
 use px_doors::{Doors, ListenAddress};
+use px_link_pool::{Look, Sees};
 use px_proxy::serve_all;
 use px_publish::{ConfigReader, Publisher, publish_pair};
 use px_shared::{Opening, SharedDoors};
@@ -62,6 +63,8 @@ pub fn run_proxy<R: Threads + Wait + Sync, F: Files, A: Doors, E: Sink>(
     words: &[String],
     parts: DeskParts<F, A, E>,
 ) -> Proxied<F, A, E>
+where
+    Look: Sees<<A::Dial as Dialer>::In>,
     requires begun { DoorsBegun (A.state parts.doors) }
     ensures runs { RunsProxy (record { ins = A.Dial.In.state; outs = A.Dial.Out.state }) (map string_bytes words.now)
         (record { files = F.state parts.files; doors = A.state parts.doors; errors = E.state parts.err })
@@ -85,6 +88,8 @@ fn serve_by<R: Threads + Wait + Sync, F: Files, A: Doors, E: Sink>(
     words: &[String],
     parts: DeskParts<F, A, E>,
 ) -> Ended<F, A, E>
+where
+    Look: Sees<<A::Dial as Dialer>::In>,
     requires begun { DoorsBegun (A.state parts.doors) }
     ensures serves { ServesBy (record { ins = A.Dial.In.state; outs = A.Dial.Out.state }) (map string_bytes words.now)
         (record { files = F.state parts.files; doors = A.state parts.doors; errors = E.state parts.err })
@@ -136,6 +141,8 @@ fn run_serve<R: Threads + Wait + Sync, F: Files, A: Doors, E: Sink>(
     serve: ServeWords<'_>,
     parts: DeskParts<F, A, E>,
 ) -> Ended<F, A, E>
+where
+    Look: Sees<<A::Dial as Dialer>::In>,
     requires begun { DoorsBegun (A.state parts.doors) }
     requires some { 0 < serve.workers }
     requires at_most { serve.workers ≤ 64 }
@@ -172,6 +179,8 @@ fn serve_first<R: Threads + Wait + Sync, F: Files, A: Doors, E: Sink>(
     first: Config,
     parts: DeskParts<F, A, E>,
 ) -> Ended<F, A, E>
+where
+    Look: Sees<<A::Dial as Dialer>::In>,
     requires begun { DoorsBegun (A.state parts.doors) }
     requires spells { Spells loaded first }
     requires some { 0 < serve.workers }
@@ -199,6 +208,8 @@ fn serve_sharing<N: Opening + Send, R: Threads + Wait + Sync, F: Files, A: Doors
     first: Config,
     parts: DeskParts<F, A, E>,
 ) -> Ended<F, A, E>
+where
+    Look: Sees<<A::Dial as Dialer>::In>,
     requires begun { DoorsBegun (A.state parts.doors) }
     requires opening { A.state parts.doors ≡ N.doors }
     requires spells { Spells loaded first }
@@ -289,6 +300,7 @@ fn serve_published<R: Threads + Wait + Sync, F: Files, A: Doors, E: Sink>(
     requires begun { DoorsBegun (A.state parts.doors) }
     requires first { BeginsWithSpelling loaded (published publisher) }
     requires some { 0 < vec_len readers }
+    requires workers { vec_len readers ≡ serve.workers }
     requires pair { All (λ r. reader_pair r ≡ pair_of publisher) readers.items }
     ensures serves { ServesPublished
         (record { files = F.state parts.files; doors = A.state parts.doors; err = E.state parts.err; main = serve.entry.config.now; loaded = loaded; pair = pair_of publisher; most = serve.entry.most })
@@ -306,7 +318,7 @@ fn serve_published<R: Threads + Wait + Sync, F: Files, A: Doors, E: Sink>(
         Ok(desk) => {
             let served = serve_all(rt, alloc, desk, readers);
             Ended {
-                status: status_of_serving(served.end),
+                status: status_of_serving(served.closing),
                 parts: served.parts,
                 counts: served.counts,
             }

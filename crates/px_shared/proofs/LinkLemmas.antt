@@ -86,7 +86,7 @@ heard_due ask offered heard behind due e (inr all) false a = rw all at a
 
 -- a link as it is heard
 abbrev as_heard : LinkSeen → LinkSeen
-as_heard seen = record { offered = seen.heard; heard = seen.heard; sent = seen.sent; read_failed = seen.read_failed; write_failed = seen.write_failed }
+as_heard seen = record { offered = seen.heard; heard = seen.heard; sent = seen.sent; read_failed = seen.read_failed; write_failed = seen.write_failed; finished = seen.finished }
 
 follows_heard : (ask : Ask) (says : Says) (seen : LinkSeen) (mid : List ℕ) (how : Sent) → AnswersOne seen → FollowsSending ask says seen mid how → FollowsSending ask says (as_heard seen) mid how
 follows_heard ask says seen mid sent.Whole w h = record { due = h.due; is_due = heard_due ask seen.offered seen.heard w.behind h.due w.offered w.whole seen.read_failed h.is_due; is_so = h.is_so }
@@ -133,6 +133,8 @@ lasts_heard h = record {
   reach_later = h.reach_later;
   link_reads_later = h.link_reads_later;
   link_writes_later = h.link_writes_later;
+  opened_later = h.opened_later;
+  hung_up_later = h.hung_up_later;
 }
 
 -- the dials before, and the one that was added

@@ -1,10 +1,10 @@
 -- Doors with pools over their connections, by what the doors below do.
-use Rattle.std.proofs.Common.{◌≡◌, ℕ, zero, suc, ◌+◌, ◌<◌, IsTrue, List, [], ◌∷◌, ◌++◌, length, length-append, drop, map, slice_get, Option, Some, None, refl, sym, ap, ◌∙◌, arith}
+use Rattle.std.proofs.Common.{◌≡◌, ℕ, zero, suc, ◌<◌, IsTrue, List, [], ◌∷◌, ◌++◌, length, length-append, drop, map, slice_get, Some, refl, sym, ap, ◌∙◌, arith}
 use mathlib.Core.Logic.{∥∥₁_map}
 use Rattle.px_link_pool.specs.Histories.{Views}
-use Rattle.px_doors.specs.Conns.{ConnState, PartedState, IsFreshConn, HasMark}
+use Rattle.px_doors.specs.Conns.{ConnState, PartedState}
 use Rattle.px_doors.specs.Doors.{DoorsState, DoorsGoesOn, Stays, ConnComes, DoorsEnd}
-use Rattle.px_shared.specs.SharedDoors.{ComesOf, EachComesOf, IsBelow, pooled_conn, with_pools}
+use Rattle.px_shared.specs.SharedDoors.{ComesOf, EachComesOf, pooled_conn, with_pools}
 
 -- ---- lists
 
@@ -42,6 +42,8 @@ comes_over old new ps c on h = record {
     no_reach_failed = h.fresh.no_reach_failed;
     no_link_read_failed = refl;
     no_link_write_failed = refl;
+    none_opened = refl;
+    none_hung_up = refl;
     clock = h.fresh.clock;
   };
   mark = record { source = h.mark.source; sink = h.mark.sink; dialer = h.mark.dialer };

@@ -18,7 +18,7 @@ use Rattle.px_shared.proofs.LinkLemmas.{session_alone}
 pub shares : {S T : Type 0} (v : Views S T) (caller : Caller) (old new : Lent) (notes : List ExchangeNote) (e : SessionEnd) (wanting : ℕ) (made pool : DialerState) (history : History Hearing Sending S T) (before : List Dial)
     → made ≡ pooled old.inner → before ≡ old.inner.dials → DialerGoesOn made pool → IsLeftBy pool new.inner → Serves caller old.looks new.looks old.client_in new.client_in (lent_over old made) (lent_over new pool) notes e
     → (IsTrue pool.tells → pool.dials ≡ dials_over v history) → (IsTrue pool.tells → new.inner.dials ≡ inner_at_end before v history) → (IsTrue pool.tells → are_due v history ≡ true)
-    → (IsTrue pool.tells → ∥ AreJudged history ∥₁) → wanting ≡ wanting_count history → Shares v caller old new notes e wanting
+    → (IsTrue pool.tells → ∥ AreJudged history ∥₁) → wanting ≡ wanting_count history → Shares v caller old new notes e wanting history
 shares v caller old new notes e wanting made pool history before is_made base on left serves dials joined due judged counted =
     let on_from : DialerGoesOn (pooled old.inner) pool = rw is_made at on in
     let fronts : IsTrue pool.tells → EachHeardFront pool.dials = λ t. rw (sym (dials t)) at (judged_front v history (judged t)) in
@@ -31,7 +31,6 @@ shares v caller old new notes e wanting made pool history before is_made base on
       };
       goes_on = on_from;
       is_left = left;
-      history = history;
       told = λ t.
           let u : IsTrue pool.tells = on_from.tells_same ∙ t in
           record { dials = dials u; joined = rw base at (joined u); due = due u; judged = judged u };

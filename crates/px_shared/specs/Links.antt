@@ -1,5 +1,5 @@
 -- Links over which an origin answered by itself, and the dials whose sources offer just what was heard.
-use Rattle.std.specs.Prelude.{◌≡◌, ◌≢◌, ◌⊎◌, false, List, [], ◌∷◌, ◌++◌, ℕ, length, drop}
+use Rattle.std.specs.Prelude.{◌≡◌, ◌≢◌, ◌⊎◌, false, List, [], ◌∷◌, ◌++◌, length, drop}
 use Rattle.std.specs.List.{AllByRecursion}
 use Rattle.px_base.specs.Dials.{DialerState}
 use Rattle.px_base.specs.declared.dials.Dial.{Dial}
@@ -45,7 +45,7 @@ abbrev pub offers_heard : DialOutcome → DialOutcome
 offers_heard outcome.NoName = outcome.NoName
 offers_heard outcome.NotReached = outcome.NotReached
 offers_heard (outcome.Open mark offered) = outcome.Open mark offered
-offers_heard (outcome.Link seen) = outcome.Link (record { offered = seen.heard; heard = seen.heard; sent = seen.sent; read_failed = seen.read_failed; write_failed = seen.write_failed })
+offers_heard (outcome.Link seen) = outcome.Link (record { offered = seen.heard; heard = seen.heard; sent = seen.sent; read_failed = seen.read_failed; write_failed = seen.write_failed; finished = seen.finished })
 
 -- the dials, each offering just what was heard
 abbrev pub offering_heard : List Dial → List Dial
@@ -64,6 +64,8 @@ with_heard d = record {
   reach = d.reach;
   link_reads = d.link_reads;
   link_writes = d.link_writes;
+  opened = d.opened;
+  hung_up = d.hung_up;
   mark = d.mark;
 }
 

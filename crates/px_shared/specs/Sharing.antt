@@ -27,7 +27,7 @@ pub record Lent : Type 0 where
 
 -- a pool that was just made over a dialer, as a dialer
 abbrev pub pooled : DialerState → DialerState
-pooled d = record { tells = d.tells; dials = []; tells_coming = false; coming = []; through_servers = false; names = d.names; reach = d.reach; link_reads = 0; link_writes = 0; mark = d.mark }
+pooled d = record { tells = d.tells; dials = []; tells_coming = false; coming = []; through_servers = false; names = d.names; reach = d.reach; link_reads = 0; link_writes = 0; opened = 0; hung_up = 0; mark = d.mark }
 
 -- the dialer that a pool leaves when it is taken apart
 pub record IsLeftBy (pool inner : DialerState) : Type 0 where
@@ -56,12 +56,11 @@ pub record PoolTells {S T : Type 0} (v : Views S T) (before pool_dials inner_dia
   pub due : are_due v history ≡ true
   pub judged : ∥ AreJudged history ∥₁
 
--- a session over a pool that is made for it and taken apart behind it
-pub record Shares {S T : Type 0} (v : Views S T) (caller : Caller) (old new : Lent) (notes : List ExchangeNote) (e : SessionEnd) (wanting : ℕ) : Type 0 where
+-- a session over a pool that is made for it and taken apart behind it, with which that was done
+pub record Shares {S T : Type 0} (v : Views S T) (caller : Caller) (old new : Lent) (notes : List ExchangeNote) (e : SessionEnd) (wanting : ℕ) (history : History Hearing Sending S T) : Type 0 where
   pub pool : DialerState
   pub session : ServesOver caller old new pool notes e
   pub goes_on : DialerGoesOn (pooled old.inner) pool
   pub is_left : IsLeftBy pool new.inner
-  pub history : History Hearing Sending S T
   pub told : IsTrue old.inner.tells → PoolTells v old.inner.dials pool.dials new.inner.dials history
   pub counted : wanting ≡ wanting_count history

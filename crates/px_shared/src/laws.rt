@@ -1,7 +1,12 @@
 // What follows a whole answer, and sessions over links whose sources offer just that.
 ghost use Rattle.std.specs.Prelude.{◌↔◌, ◌≢◌, ◌++◌, List, ℕ, Bool, false};
 ghost use Rattle.px_base.specs.Dials.{DialerState};
+ghost use Rattle.px_base.specs.declared.dials.Dial.{Dial};
 ghost use Rattle.px_pool_ends.specs.Answers.{IsAnswer};
+ghost use Rattle.px_pool_ends.specs.Incomings.{Hearing};
+ghost use Rattle.px_pool_ends.specs.Outgoings.{Sending};
+ghost use Rattle.px_link_pool.specs.Histories.{Views};
+ghost use Rattle.px_link_pool.specs.declared.histories.History.{History};
 ghost use Rattle.px_pumps.specs.Answering.{Ask, Answered};
 ghost use Rattle.px_pumps.specs.declared.dues.Due.{Due};
 ghost use Rattle.px_serve.specs.declared.ends.SessionEnd.{SessionEnd};
@@ -10,6 +15,7 @@ ghost use Rattle.px_serve.specs.Histories.{Begun};
 ghost use Rattle.px_serve.specs.Sessions.{Caller, IsSession};
 ghost use Rattle.px_shared.specs.Answers.{IsAnswerTo};
 ghost use Rattle.px_shared.specs.Links.{EachAnswered, EachHeardFront, NoTunnel, with_heard};
+ghost use Rattle.px_shared.specs.Sharing.{PoolTells};
 
 /// What follows a whole answer changes nothing of what is due to the client for it: neither more bytes nor that their reading
 /// failed. So it is of an answer to a request of that method, and of what a pool of links takes for one, whatever the method.
@@ -29,4 +35,11 @@ pub fn heard_is_enough()
     ensures { (caller : Caller) (stream left : List ℕ) (old new : DialerState) (taken taken' : List ℕ) (begun : List Begun) (e : SessionEnd)
         → IsSession caller stream left old new taken taken' begun e → EachHeardFront new.dials → EachAnswered new.dials → NoTunnel begun → e ≢ end.NoMemory
         → IsSession caller stream left (with_heard old) (with_heard new) taken taken' begun e }
+{}
+
+/// Where the history of a pool tells its dials, what was heard over each of its links is the front of what the link offered. So the
+/// law on sessions holds for those over pools.
+pub fn pools_hear_fronts<S, T>()
+    ensures { (v : Views S T) (before pool_dials inner_dials : List Dial) (history : History Hearing Sending S T)
+        → PoolTells v before pool_dials inner_dials history → EachHeardFront pool_dials }
 {}

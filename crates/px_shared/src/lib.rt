@@ -8,7 +8,7 @@ mod partings;
 mod sessions;
 mod shared_doors;
 
-pub use laws::{answers_end, heard_is_enough};
+pub use laws::{answers_end, heard_is_enough, pools_hear_fronts};
 pub use openings::Opening;
 pub use partings::Partings;
 pub use sessions::{SharedSession, serve_shared};

@@ -8,20 +8,22 @@ ghost use Rattle.px_shared.specs.Sharing.{Shares};
 
 use px_base::{Clock, Dialer, Peer, Sink, Source, Text};
 use px_exchange::Config;
-use px_link_pool::{Base, LinkPool};
+use px_link_pool::{Base, LinkPool, Look, Past, Sees};
 use px_publish::Configs;
 use px_serve::{Session, serve_connection};
 use px_ways::Way;
 use std::alloc::Global;
 use std::marker::Brand;
+use std::snapshot::Snapshot;
 use std::thread::Threads;
 
-/// What came of a session over a pool of links: the session itself, the inner dialer with every link hung up, and for how many
-/// links memory was wanting while their answer was followed.
-pub struct SharedSession<D> {
+/// What came of a session over a pool of links: the session itself, the inner dialer with every link hung up, for how many links
+/// memory was wanting while their answer was followed, and what was done with the pool, which takes no bytes.
+pub struct SharedSession<D: Dialer> {
     pub session: Session,
     pub dialer: D,
     pub wanting: u64,
+    pub history: Snapshot<Past<D::In, D::Out>>,
 }
 
 /// Serves one connection as `serve_connection` does, over a pool of links of that dialer. The pool is made for this connection
@@ -44,10 +46,11 @@ where
     O: Sink,
     D: Dialer,
     T: Clock,
+    Look: Sees<D::In>,
     ensures shares { Shares (record { ins = D.In.state; outs = D.Out.state }) (record { tags = tags.now; peer = peer.now.address })
         (record { looks = record { tells = K.tells; view = K.view configs.old; pair = K.pair configs.old; coming = K.coming configs.old }; client_in = S.state client_in.old; client_out = O.state client_out.old; inner = D.state dialer; clock = T.state clock.old })
         (record { looks = record { tells = K.tells; view = K.view configs.new; pair = K.pair configs.new; coming = K.coming configs.new }; client_in = S.state client_in.new; client_out = O.state client_out.new; inner = D.state result.dialer; clock = T.state clock.new })
-        result.session.exchanges result.session.end result.wanting }
+        result.session.exchanges result.session.end result.wanting result.history.value }
     ensures read_cause { ReadEndCause (S.state client_in.old) (S.state client_in.new) result.session.end }
     ensures write_cause { WriteEndCause (O.state client_out.old) (O.state client_out.new) result.session.end }
     ensures finished { IsTrue (O.state client_out.old).tells → IsTrue (O.state client_out.new).finished }
@@ -80,11 +83,12 @@ where
     O: Sink,
     D: Dialer,
     T: Clock,
+    Look: Sees<D::In>,
     requires base { (D.state dialer).dials ≡ N.dialled }
     ensures shares { Shares (record { ins = D.In.state; outs = D.Out.state }) (record { tags = tags.now; peer = peer.now.address })
         (record { looks = record { tells = K.tells; view = K.view configs.old; pair = K.pair configs.old; coming = K.coming configs.old }; client_in = S.state client_in.old; client_out = O.state client_out.old; inner = D.state dialer; clock = T.state clock.old })
         (record { looks = record { tells = K.tells; view = K.view configs.new; pair = K.pair configs.new; coming = K.coming configs.new }; client_in = S.state client_in.new; client_out = O.state client_out.new; inner = D.state result.dialer; clock = T.state clock.new })
-        result.session.exchanges result.session.end result.wanting }
+        result.session.exchanges result.session.end result.wanting result.history.value }
     ensures read_cause { ReadEndCause (S.state client_in.old) (S.state client_in.new) result.session.end }
     ensures write_cause { WriteEndCause (O.state client_out.old) (O.state client_out.new) result.session.end }
     ensures finished { IsTrue (O.state client_out.old).tells → IsTrue (O.state client_out.new).finished }
@@ -97,9 +101,11 @@ where
         alloc, way, configs, client_in, client_out, &mut pool, clock, peer, tags,
     );
     let wanting = pool.wanting();
+    let history = pool.history();
     SharedSession {
         session,
         dialer: pool.into_inner(),
         wanting,
+        history,
     }
 }

@@ -3,6 +3,7 @@ ghost use Rattle.std.specs.Prelude.{◌≡◌, ◌<◌, [], IsTrue, length};
 ghost use Rattle.px_doors.specs.Conns.{parted_as};
 ghost use Rattle.px_doors.specs.Doors.{DoorsGoesOn, Parts};
 ghost use Rattle.px_link_pool.specs.Pools.{pool_state};
+ghost use Rattle.px_link_pool.specs.Shelves.{items};
 ghost use Rattle.px_shared.specs.Partings.{parted_of};
 ghost use Rattle.px_shared.specs.SharedDoors.{EachComesOf, IsBelow, with_pools};
 
@@ -10,7 +11,7 @@ use crate::openings::Opening;
 use crate::partings::{Partings, with_parting};
 use px_base::{Dialer, Failed, LocalDialer, LocalSink, LocalSource};
 use px_doors::{AcceptFault, Conn, Doors, ListenAddress, Parted};
-use px_link_pool::LinkPool;
+use px_link_pool::{LinkPool, Look, Sees};
 use std::alloc::Global;
 use std::marker::PhantomData;
 use std::snapshot::Snapshot;
@@ -43,11 +44,14 @@ where
     opening: PhantomData<N>,
     partings: Partings<SharedParted<A>>,
     ghost goes_on: { DoorsGoesOn N.doors (A.state inner) },
-    ghost below: { IsTrue (A.state inner).tells → ∥ EachComesOf (record { ins = ⟦<<A::Dial as LocalDialer>::In as LocalSource>⟧.state; outs = ⟦<<A::Dial as LocalDialer>::Out as LocalSink>⟧.state }) (parted_of (parted_as A.In.state A.Out.state (λ p. pool_state (⟦<A::Dial as LocalDialer>⟧.state p.inner) p.history p.link_reads p.link_writes) A.Time.state) partings) (A.state inner).parted ∥₁ },
-    ghost none_lost: { IsTrue (A.state inner).tells → length (parted_of (parted_as A.In.state A.Out.state (λ p. pool_state (⟦<A::Dial as LocalDialer>⟧.state p.inner) p.history p.link_reads p.link_writes) A.Time.state) partings) ≡ length (A.state inner).parted },
+    ghost below: { IsTrue (A.state inner).tells → ∥ EachComesOf (record { ins = ⟦<<A::Dial as LocalDialer>::In as LocalSource>⟧.state; outs = ⟦<<A::Dial as LocalDialer>::Out as LocalSink>⟧.state }) (parted_of (parted_as A.In.state A.Out.state (λ p. pool_state (⟦<A::Dial as LocalDialer>⟧.state p.inner) p.history p.link_reads p.link_writes p.opened p.hung_up) A.Time.state) partings) (A.state inner).parted ∥₁ },
+    ghost none_lost: { IsTrue (A.state inner).tells → length (parted_of (parted_as A.In.state A.Out.state (λ p. pool_state (⟦<A::Dial as LocalDialer>⟧.state p.inner) p.history p.link_reads p.link_writes p.opened p.hung_up) A.Time.state) partings) ≡ length (A.state inner).parted },
 }
 
-impl<A: Doors, N: Opening + Send> SharedDoors<A, N> {
+impl<A: Doors, N: Opening + Send> SharedDoors<A, N>
+where
+    Look: Sees<<A::Dial as Dialer>::In>,
+{
     /// Puts sharing over doors that have parted nothing.
     pub fn new(alloc: Global, inner: A) -> SharedDoors<A, N>
         requires opening { A.state inner ≡ N.doors }
@@ -77,7 +81,10 @@ impl<A: Doors, N: Opening + Send> SharedDoors<A, N> {
     }
 }
 
-impl<A: Doors, N: Opening + Send> Doors for SharedDoors<A, N> {
+impl<A: Doors, N: Opening + Send> Doors for SharedDoors<A, N>
+where
+    Look: Sees<<A::Dial as Dialer>::In>,
+{
     type In = A::In;
 
     type Out = A::Out;
@@ -118,6 +125,18 @@ impl<A: Doors, N: Opening + Send> Doors for SharedDoors<A, N> {
             },
             Err(fault) => Err(fault),
         }
+    }
+
+    fn leave(client_in: &mut A::In, client_out: &mut A::Out) {
+        A::leave(client_in, client_out);
+    }
+
+    /// Hangs up the links that the connection's pool keeps.
+    fn rest(dialer: &mut LinkPool<A::Dial>)
+        ensures dialer_same { ⟦<LinkPool<A::Dial> as Dialer>⟧.state dialer.new ≡ ⟦<LinkPool<A::Dial> as Dialer>⟧.state dialer.old }
+        ensures none_kept { items dialer.new.kept ≡ [] }
+    {
+        dialer.rest();
     }
 
     /// Takes the connection's pool apart, which hangs up the links that it kept.

@@ -1,1 +1,4 @@
 pub mod Untold
+pub mod Bounds
+pub mod Tried
+pub mod Guests

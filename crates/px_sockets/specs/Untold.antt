@@ -4,9 +4,9 @@ use Rattle.px_base.specs.Sources.{SourceState, untold_source}
 use Rattle.px_base.specs.Sinks.{SinkState, untold_sink}
 use Rattle.px_base.specs.Dials.{DialerState}
 
--- a dialer that tells nothing and has these counts of faults
-abbrev pub untold_dialer : (names reach link_reads link_writes mark : ℕ) → DialerState
-untold_dialer names reach link_reads link_writes mark = record {
+-- a dialer that tells nothing and has these counts
+abbrev pub untold_dialer : (names reach link_reads link_writes opened hung_up mark : ℕ) → DialerState
+untold_dialer names reach link_reads link_writes opened hung_up mark = record {
   tells = false;
   dials = [];
   tells_coming = false;
@@ -16,6 +16,8 @@ untold_dialer names reach link_reads link_writes mark = record {
   reach = reach;
   link_reads = link_reads;
   link_writes = link_writes;
+  opened = opened;
+  hung_up = hung_up;
   mark = mark;
 }
 

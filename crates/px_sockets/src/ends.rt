@@ -8,7 +8,8 @@ ghost use Rattle.px_sockets.specs.Untold.{AreNew};
 use crate::Times;
 use crate::shared_sockets::{SharedSocket, SocketSide, Work};
 use crate::times::{LOOK_MILLIS, now_millis};
-use px_base::{Failed, Sink, SinkFault, Source};
+use px_base::{Failed, Rests, Sink, SinkFault, Source};
+use px_socks::Looks;
 use std::alloc::Global;
 use std::io;
 use std::io::{ErrorKind, Read, Write};
@@ -20,7 +21,8 @@ use std::time::Duration;
 #[derive(Drop)]
 struct SocketReader<'r> {
     rt: &'r HostRuntime,
-    socket: Arc<SharedSocket>,
+    /// Its socket, until it is let go.
+    socket: Option<Arc<SharedSocket>>,
     /// How long one read of the system waits, as it was last set.
     wait: Option<Duration>,
 }
@@ -38,7 +40,8 @@ pub struct SocketSource<'r> {
 #[derive(Drop)]
 pub struct SocketSink<'r> {
     rt: &'r HostRuntime,
-    socket: Arc<SharedSocket>,
+    /// Its socket, until it is let go.
+    socket: Option<Arc<SharedSocket>>,
     faults: u64,
     mark: u64,
 }
@@ -94,7 +97,7 @@ pub(crate) fn ends_with<'r>(
         SocketSource {
             reader: SocketReader {
                 rt,
-                socket,
+                socket: Some(socket),
                 wait: None,
             },
             faults: 0,
@@ -102,7 +105,7 @@ pub(crate) fn ends_with<'r>(
         },
         SocketSink {
             rt,
-            socket: second,
+            socket: Some(second),
             faults: 0,
             mark,
         },
@@ -119,62 +122,97 @@ impl<'r> SocketSource<'r> {
 
     /// One more owner of the socket, for whoever looks after its end.
     pub(crate) fn shared(&self) -> Option<Arc<SharedSocket>> {
-        Arc::try_clone(&self.reader.socket).ok()
+        match &self.reader.socket {
+            Some(socket) => Arc::try_clone(socket).ok(),
+            None => None,
+        }
     }
 
     /// What its connection is at, to be shared with its links.
     pub(crate) fn work(&self) -> Option<Arc<Work>> {
-        self.reader.socket.work()
+        match &self.reader.socket {
+            Some(socket) => socket.work(),
+            None => None,
+        }
     }
 
     /// Nobody uses it any more.
     pub(crate) fn rests(&self) {
-        let SocketReader { rt, socket, .. } = &self.reader;
-        socket.rests(now_millis(*rt));
+        if let Some(socket) = &self.reader.socket {
+            socket.rests(now_millis(self.reader.rt));
+        }
+    }
+
+    /// Lets its socket go; every later read fails. A socket that nobody else has is closed, and one that its listener gave is left to
+    /// whoever looks after its end.
+    pub fn close(&mut self)
+        ensures same { ⟦<SocketSource<'r> as Source>⟧.state self.new ≡ ⟦<SocketSource<'r> as Source>⟧.state self.old }
+    {
+        self.rests();
+        self.reader.socket = None;
     }
 }
 
 impl<'r> SocketReader<'r> {
-    /// Lets one read of the system wait for so long.
-    fn wait_at_most(&mut self, wait: Duration) -> io::Result<()> {
-        if self.wait != Some(wait) {
-            self.socket.stream.set_read_timeout(Some(wait))?;
-            self.wait = Some(wait);
-        }
-        Ok(())
-    }
-
-    /// Reads, and again where the wait was cut short or the other half of the socket moved in it.
+    /// Reads, as long as the socket isn't let go.
     fn read_some(&mut self, buf: &mut [u8]) -> io::Result<usize>
         ensures { ReadsAtMost result buf.new }
     {
-        self.socket.is_read();
-        let began = now_millis(self.rt);
-        let mut now = began;
-        for _ in 0..u64::MAX {
-            let left = self.socket.left(began, now);
-            if left.is_zero() {
-                return Err(io::Error::from(ErrorKind::TimedOut));
+        match &self.socket {
+            Some(socket) => read_from(self.rt, socket, &mut self.wait, buf),
+            None => Err(io::Error::from(ErrorKind::NotConnected)),
+        }
+    }
+}
+
+/// Lets one read of the system wait for so long, where it is set otherwise.
+fn wait_at_most(
+    socket: &SharedSocket,
+    set: &mut Option<Duration>,
+    wait: Duration,
+) -> io::Result<()> {
+    if *set != Some(wait) {
+        socket.stream.set_read_timeout(Some(wait))?;
+        *set = Some(wait);
+    }
+    Ok(())
+}
+
+/// Reads, and again where the wait was cut short or the other half of the socket moved in it.
+fn read_from(
+    rt: &HostRuntime,
+    socket: &SharedSocket,
+    set: &mut Option<Duration>,
+    buf: &mut [u8],
+) -> io::Result<usize>
+    ensures { ReadsAtMost result buf.new }
+{
+    socket.is_read();
+    let began = now_millis(rt);
+    let mut now = began;
+    for _ in 0..u64::MAX {
+        let left = socket.left(began, now);
+        if left.is_zero() {
+            return Err(io::Error::from(ErrorKind::TimedOut));
+        }
+        wait_at_most(socket, set, left.min(Duration::from_millis(LOOK_MILLIS)))?;
+        let mut stream = &socket.stream;
+        let read = stream.read(buf);
+        now = now_millis(rt);
+        match read {
+            Ok(count) => {
+                socket.came(count, now);
+                return Ok(count);
             }
-            self.wait_at_most(left.min(Duration::from_millis(LOOK_MILLIS)))?;
-            let mut stream = &self.socket.stream;
-            let read = stream.read(buf);
-            now = now_millis(self.rt);
-            match read {
-                Ok(count) => {
-                    self.socket.came(count, now);
-                    return Ok(count);
-                }
-                Err(error) => {
-                    if !is_short(error.kind()) {
-                        self.socket.drained();
-                        return Err(error);
-                    }
+            Err(error) => {
+                if !is_short(error.kind()) {
+                    socket.drained();
+                    return Err(error);
                 }
             }
         }
-        Err(io::Error::from(ErrorKind::TimedOut))
     }
+    Err(io::Error::from(ErrorKind::TimedOut))
 }
 
 /// Whether a call of the system only ended before its time, or at its end without a byte.
@@ -196,6 +234,22 @@ impl<'r> Source for SocketSource<'r> {
     }
 }
 
+impl<'r> Looks for SocketSource<'r> {
+    /// So has a socket that is let go, or one that failed.
+    fn is_spent(&mut self) -> bool {
+        match &self.reader.socket {
+            Some(socket) => socket.is_spent(),
+            None => true,
+        }
+    }
+}
+
+impl<'r> Rests for SocketSource<'r> {
+    fn has_ended(&mut self) -> bool {
+        self.is_spent()
+    }
+}
+
 impl<'r> SocketSink<'r> {
     /// Whether a write has failed.
     pub fn has_failed(&self) -> bool
@@ -204,33 +258,51 @@ impl<'r> SocketSink<'r> {
         self.faults != 0
     }
 
-    /// Writes, and says that it does.
+    /// Writes, as long as the socket isn't let go.
     fn write_some(&self, bytes: &[u8]) -> io::Result<usize>
         ensures { WritesAtMost result bytes.now }
     {
-        self.socket.is_written();
-        let written = self.write_once(bytes);
-        self.socket.went(written.is_ok(), now_millis(self.rt));
-        written
+        match &self.socket {
+            Some(socket) => write_to(self.rt, socket, bytes),
+            None => Err(io::Error::from(ErrorKind::NotConnected)),
+        }
     }
 
-    /// Writes, and again where the call was only interrupted.
-    fn write_once(&self, bytes: &[u8]) -> io::Result<usize>
-        ensures { WritesAtMost result bytes.now }
+    /// Lets its socket go; every later write fails. A socket that nobody else has is closed, and one that its listener gave is left to
+    /// whoever looks after its end.
+    pub fn close(&mut self)
+        ensures same { ⟦<SocketSink<'r> as Sink>⟧.state self.new ≡ ⟦<SocketSink<'r> as Sink>⟧.state self.old }
     {
-        for _ in 0..u64::MAX {
-            let mut stream = &self.socket.stream;
-            match stream.write(bytes) {
-                Ok(count) => return Ok(count),
-                Err(error) => {
-                    if error.kind() != ErrorKind::Interrupted {
-                        return Err(error);
-                    }
+        self.socket = None;
+    }
+}
+
+/// Writes, and says that it does.
+fn write_to(rt: &HostRuntime, socket: &SharedSocket, bytes: &[u8]) -> io::Result<usize>
+    ensures { WritesAtMost result bytes.now }
+{
+    socket.is_written();
+    let written = write_once(socket, bytes);
+    socket.went(written.is_ok(), now_millis(rt));
+    written
+}
+
+/// Writes, and again where the call was only interrupted.
+fn write_once(socket: &SharedSocket, bytes: &[u8]) -> io::Result<usize>
+    ensures { WritesAtMost result bytes.now }
+{
+    for _ in 0..u64::MAX {
+        let mut stream = &socket.stream;
+        match stream.write(bytes) {
+            Ok(count) => return Ok(count),
+            Err(error) => {
+                if error.kind() != ErrorKind::Interrupted {
+                    return Err(error);
                 }
             }
         }
-        Err(io::Error::from(ErrorKind::TimedOut))
     }
+    Err(io::Error::from(ErrorKind::TimedOut))
 }
 
 impl<'r> Sink for SocketSink<'r> {
@@ -246,8 +318,10 @@ impl<'r> Sink for SocketSink<'r> {
         }
     }
 
-    /// Closes the outgoing side. A socket that is closed already stays so. A client's connection of which no link is in use ends with it.
+    /// Closes the outgoing side. A socket that is closed already or let go stays so. A client's connection of which no link is in use ends with it.
     fn finish(&mut self) {
-        self.socket.finish(now_millis(self.rt));
+        if let Some(socket) = &self.socket {
+            socket.finish(now_millis(self.rt));
+        }
     }
 }

@@ -1,5 +1,9 @@
 // Connections that were accepted, until they are closed: at its end each is read on, and what comes is thrown away, so that the
 // system doesn't reset it and its client gets the whole answer (RFC 9112, section 9.6).
+ghost use Rattle.std.specs.Prelude.{◌≡◌, ◌<◌, IsTrue, false, slice_index_or, length, vec_len};
+ghost use Rattle.px_sockets.specs.Guests.{in_use};
+ghost use Rattle.px_sockets.specs.declared.guests.Guest.{Guest};
+
 use crate::shared_sockets::SharedSocket;
 use crate::times::{SWEEP_MILLIS, between, now_millis};
 use std::alloc::{AllocError, Global};
@@ -20,62 +24,117 @@ const PIECE: usize = 16_384;
 
 /// The socket of a connection, and what was thrown away since it ended.
 #[derive(Drop)]
-struct Guest {
+pub(crate) struct Guest {
     socket: Arc<SharedSocket>,
+    /// Whether its connection was seen to have ended.
+    ended: bool,
     thrown: u64,
     /// Whether its reads don't wait any more.
     is_swift: bool,
 }
 
+/// Whether a connection has ended: its last answer was finished, or nobody else has its socket any more.
+fn has_ended(socket: &Arc<SharedSocket>, now: u64) -> bool {
+    if !socket.has_ended() && Arc::strong_count(socket) == 1 {
+        socket.finish(now);
+        socket.end(now);
+    }
+    socket.has_ended()
+}
+
+/// Throws away what has come. Whether nothing more is to be waited for.
+fn is_over(socket: &SharedSocket, thrown: &mut u64, is_swift: &mut bool, now: u64) -> bool {
+    let times = socket.times();
+    if socket.is_drained() {
+        return true;
+    }
+    if socket.since_end(now) >= times.linger {
+        return true;
+    }
+    if !*is_swift {
+        if socket.stream.set_nonblocking(true).is_err() {
+            return true;
+        }
+        *is_swift = true;
+    }
+    throw_away(socket, thrown, times.linger_bytes)
+}
+
+/// Throws away what has come, up to so many bytes in all. Whether that was the end, or as much as is thrown away.
+fn throw_away(socket: &SharedSocket, thrown: &mut u64, most: u64) -> bool {
+    let mut piece = [0; PIECE];
+    'pieces: for _ in 0..u64::MAX {
+        let mut stream = &socket.stream;
+        match stream.read(&mut piece) {
+            Ok(0) => return true,
+            Ok(count) => {
+                *thrown = thrown.saturating_add(count as u64);
+                if *thrown >= most {
+                    return true;
+                }
+            }
+            Err(error) => {
+                let kind = error.kind();
+                return kind != ErrorKind::WouldBlock && kind != ErrorKind::Interrupted;
+            }
+        }
+    }
+    true
+}
+
 impl Guest {
-    /// Whether its connection has ended: its last answer was finished, or nobody else has its socket any more.
-    fn has_ended(&self, now: u64) -> bool {
-        if !self.socket.has_ended() && Arc::strong_count(&self.socket) == 1 {
-            self.socket.finish(now);
-            self.socket.end(now);
+    /// Whether its connection has ended and is to be closed: no more may linger, or nothing more is to be waited for. One that is in use
+    /// stays as it is.
+    fn is_done(&mut self, is_full: bool, now: u64) -> bool
+        ensures ended_same { self.new.ended ≡ self.old.ended }
+        ensures used_same { self.old.ended ≡ false → self.new ≡ self.old }
+        ensures ended { IsTrue result → IsTrue self.old.ended }
+    {
+        if !self.ended {
+            return false;
         }
-        self.socket.has_ended()
+        is_full || is_over(&self.socket, &mut self.thrown, &mut self.is_swift, now)
     }
+}
 
-    /// Throws away what has come. Whether nothing more is to be waited for.
-    fn is_over(&mut self, now: u64) -> bool {
-        let times = self.socket.times();
-        if self.socket.is_drained() {
-            return true;
-        }
-        if self.socket.since_end(now) >= times.linger {
-            return true;
-        }
-        if !self.is_swift {
-            if self.socket.stream.set_nonblocking(true).is_err() {
-                return true;
-            }
-            self.is_swift = true;
-        }
-        self.throw_away(times.linger_bytes)
+/// Sees which connections have ended.
+fn look(all: &mut Vec<Guest>, now: u64)
+    ensures len { vec_len all.new ≡ vec_len all.old }
+{
+    for guest in all.iter_mut() {
+        guest.ended = guest.ended || has_ended(&guest.socket, now);
     }
+}
 
-    /// Throws away what has come, up to so many bytes in all. Whether that was the end, or as much as is thrown away.
-    fn throw_away(&mut self, most: u64) -> bool {
-        let mut piece = [0; PIECE];
-        'pieces: for _ in 0..u64::MAX {
-            let mut stream = &self.socket.stream;
-            match stream.read(&mut piece) {
-                Ok(0) => return true,
-                Ok(count) => {
-                    self.thrown = self.thrown.saturating_add(count as u64);
-                    if self.thrown >= most {
-                        return true;
-                    }
-                }
-                Err(error) => {
-                    let kind = error.kind();
-                    return kind != ErrorKind::WouldBlock && kind != ErrorKind::Interrupted;
-                }
+/// Whether the connection at that place is to be closed.
+fn is_done_at(all: &mut Vec<Guest>, at: usize, is_full: bool, now: u64) -> bool
+    requires within { at < length all.old.items }
+    ensures len { length all.new.items ≡ length all.old.items }
+    ensures used { in_use all.new.items ≡ in_use all.old.items }
+    ensures ended { IsTrue result → (g : Guest) → IsTrue (slice_index_or all.new.items at g).ended }
+{
+    all[at].is_done(is_full, now)
+}
+
+/// Closes those that have ended and of which nothing more is to be waited for; how many linger. At most so many do, and all that
+/// are in use stay.
+fn close_ended(all: &mut Vec<Guest>, now: u64) -> usize
+    ensures used { in_use all.new.items ≡ in_use all.old.items }
+{
+    let mut lingering = 0usize;
+    let mut at = 0;
+    while at < all.len() {
+        if is_done_at(all, at, lingering >= LINGER_MOST, now) {
+            let guest = all.remove(at);
+            let _shut = guest.socket.stream.shutdown(Shutdown::Both);
+        } else {
+            if all[at].ended {
+                lingering = lingering.saturating_add(1);
             }
+            at += 1;
         }
-        true
     }
+    lingering
 }
 
 /// The connections that a listener gave and that aren't closed.
@@ -118,6 +177,7 @@ impl Guests {
     pub(crate) fn add(&mut self, socket: Arc<SharedSocket>) {
         let guest = Guest {
             socket,
+            ended: false,
             thrown: 0,
             is_swift: false,
         };
@@ -136,19 +196,8 @@ impl Guests {
 
     /// Throws away what those that have ended still send, and closes those that are over.
     pub(crate) fn sweep(&mut self, now: u64) {
-        let mut lingering = 0usize;
-        self.all.retain_mut(|guest| {
-            if !guest.has_ended(now) {
-                return true;
-            }
-            if lingering >= LINGER_MOST || guest.is_over(now) {
-                let _shut = guest.socket.stream.shutdown(Shutdown::Both);
-                return false;
-            }
-            lingering = lingering.saturating_add(1);
-            true
-        });
-        self.lingering = lingering;
+        look(&mut self.all, now);
+        self.lingering = close_ended(&mut self.all, now);
         self.more = 0;
         self.swept = now;
     }

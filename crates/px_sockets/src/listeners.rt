@@ -1,7 +1,11 @@
 // A listener over TCP, for clients of this machine.
 ghost use Rattle.std.specs.Prelude.{◌≡◌, IsErr, false, IfOk};
+ghost use Rattle.std.specs.List.{Contains};
 ghost use Rattle.std.specs.Net.Text.{ip_text};
 ghost use Rattle.std.specs.Str.{is_utf8};
+ghost use Rattle.std.specs.Net.Socket.{socket_port};
+ghost use Rattle.std.specs.Net.ToAddrs.{host_addrs};
+ghost use Rattle.px_sockets.specs.Bounds.{IsLoopback, IsAddressOf, IsAddressText};
 ghost use Rattle.px_sockets.specs.Untold.{AreNew};
 
 use crate::ends::EndsFault;
@@ -12,7 +16,7 @@ use px_base::{Mem, Peer, Sink, Source, Text, as_text};
 use std::alloc::Global;
 use std::fmt::{Display, Formatter, Write};
 use std::io::ErrorKind;
-use std::net::{IpAddr, Net, TcpListener, TcpStream, ToSocketAddrs};
+use std::net::{HostAddrs, IpAddr, Net, SocketAddr, TcpListener, TcpStream, ToSocketAddrs};
 use std::os::fd::OwnedFd;
 use std::time::Duration;
 use std::{fmt, io, thread};
@@ -66,9 +70,62 @@ fn listen_fault(error: &io::Error) -> ListenFault {
     }
 }
 
+/// An address of this machine alone, and what listens at it.
+#[derive(Drop)]
+struct Bound {
+    listener: TcpListener,
+    address: SocketAddr,
+}
+
+/// Binds an address, which no other machine can reach. Nothing else binds one.
+fn bind_loopback(rt: &HostRuntime, address: SocketAddr) -> io::Result<Bound>
+    requires here { IsLoopback address }
+    ensures address { IfOk result (λ bound. bound.address ≡ address) }
+{
+    match rt.bind(address) {
+        Ok(listener) => Ok(Bound { listener, address }),
+        Err(error) => Err(error),
+    }
+}
+
+/// Binds the first of these addresses that has that port, is one of this machine alone and can be bound.
+fn bind_first(rt: &HostRuntime, mut addresses: HostAddrs, port: u16) -> Result<Bound, ListenFault>
+    ensures here { IfOk result (λ bound. IsLoopback bound.address) }
+    ensures port { IfOk result (λ bound. socket_port bound.address ≡ port) }
+    ensures among { IfOk result (λ bound. Contains (host_addrs addresses) bound.address) }
+{
+    let mut fault = ListenFault::NoAddress;
+    for _ in 0..u64::MAX {
+        let Some(address) = addresses.next() else {
+            return Err(fault);
+        };
+        if address.ip().is_loopback() && address.port() == port {
+            match bind_loopback(rt, address) {
+                Ok(bound) => return Ok(bound),
+                Err(error) => fault = listen_fault(&error),
+            }
+        }
+    }
+    Err(fault)
+}
+
 /// Takes connections at an address of this machine, and looks after those that end. Letting it go waits until all that ended are
 /// closed, for as long as the times say at most.
+#[derive(Drop)]
 pub struct SocketListener<'r> {
+    gate: Gate<'r>,
+    /// The address that was bound.
+    bound: SocketAddr,
+    /// The host for which it listens.
+    pub host: Text,
+    /// The port for which it listens; 0 is any that is free.
+    pub asked: u16,
+    /// The port at which it listens: for port 0 the one that was free.
+    pub port: u16,
+}
+
+/// What listens, and the connections that it gave. Letting it go waits for those that ended.
+struct Gate<'r> {
     alloc: Global,
     rt: &'r HostRuntime,
     times: Times,
@@ -78,8 +135,6 @@ pub struct SocketListener<'r> {
     /// How long one accept of the system waits; none waits for good.
     wait: Option<Duration>,
     guests: Guests,
-    /// The port at which it listens: for port 0 the one that was free.
-    pub port: u16,
 }
 
 /// What becomes of an accept that failed.
@@ -121,8 +176,8 @@ fn outcome_of(error: &io::Error) -> Outcome {
 }
 
 impl<'r> SocketListener<'r> {
-    /// Listens at the first loopback address of a host that can be bound; port 0 is any free port. A host that isn't UTF-8
-    /// is refused, and so is one with no loopback address.
+    /// Listens at the first loopback address of a host that can be bound, at no other and at no other port; port 0 is any free port. A
+    /// host that isn't UTF-8 is refused, and so is one with no loopback address.
     pub fn listen(
         alloc: Global,
         rt: &'r HostRuntime,
@@ -130,24 +185,25 @@ impl<'r> SocketListener<'r> {
         host: &[u8],
         port: u16,
     ) -> Result<SocketListener<'r>, ListenFault>
-        ensures { is_utf8 host.now ≡ false → IsErr result }
+        ensures no_text { is_utf8 host.now ≡ false → IsErr result }
+        ensures host { IfOk result (λ listener. listener.host ≡ host.now) }
+        ensures port { IfOk result (λ listener. listener.asked ≡ port) }
+        ensures here { IfOk result (λ listener. IsLoopback listener.bound) }
+        ensures there { IfOk result (λ listener. IsAddressOf host.now port listener.bound) }
     {
         let Some(name) = as_text(host) else {
             return Err(ListenFault::NoAddress);
         };
+        let Ok(kept) = Text::from_bytes(alloc, host) else {
+            return Err(ListenFault::Refused(ErrorKind::OutOfMemory));
+        };
         let Ok(addresses) = (name, port).to_socket_addrs(rt) else {
             return Err(ListenFault::NoAddress);
         };
-        let mut fault = ListenFault::NoAddress;
-        for address in addresses {
-            if address.ip().is_loopback() {
-                match rt.bind(address) {
-                    Ok(listener) => return SocketListener::over(alloc, rt, times, listener),
-                    Err(error) => fault = listen_fault(&error),
-                }
-            }
+        match bind_first(rt, addresses, port) {
+            Ok(bound) => SocketListener::over(alloc, rt, times, kept, port, bound),
+            Err(fault) => Err(fault),
         }
-        Err(fault)
     }
 
     /// The listener with its port, which the system tells.
@@ -155,18 +211,33 @@ impl<'r> SocketListener<'r> {
         alloc: Global,
         rt: &'r HostRuntime,
         times: Times,
-        listener: TcpListener,
-    ) -> Result<SocketListener<'r>, ListenFault> {
+        host: Text,
+        asked: u16,
+        bound: Bound,
+    ) -> Result<SocketListener<'r>, ListenFault>
+        ensures host { IfOk result (λ listener. listener.host ≡ host) }
+        ensures port { IfOk result (λ listener. listener.asked ≡ asked) }
+        ensures bound { IfOk result (λ listener. listener.bound ≡ bound.address) }
+    {
+        let Bound {
+            listener,
+            address: bound,
+        } = bound;
         let second = listener.try_clone();
         match (listener.local_addr(), second) {
             (Ok(address), Ok(second)) => Ok(SocketListener {
-                alloc,
-                rt,
-                times,
-                listener,
-                handle: TcpStream::from(OwnedFd::from(second)),
-                wait: None,
-                guests: Guests::new(alloc),
+                gate: Gate {
+                    alloc,
+                    rt,
+                    times,
+                    listener,
+                    handle: TcpStream::from(OwnedFd::from(second)),
+                    wait: None,
+                    guests: Guests::new(alloc),
+                },
+                bound,
+                host,
+                asked,
                 port: address.port(),
             }),
             (Err(error), _) | (_, Err(error)) => Err(listen_fault(&error)),
@@ -178,7 +249,21 @@ impl<'r> SocketListener<'r> {
     /// again, for as long as the times say. At a refusal the connection is closed. While it waits, it looks after connections that
     /// ended: what their clients still send is thrown away before they are closed.
     pub fn accept(&mut self, mark: u64) -> Result<Caller<'r>, CallerFault>
-        ensures { IfOk result (λ caller. AreNew mark (⟦<SocketSource<'r> as Source>⟧.state caller.client_in) (⟦<SocketSink<'r> as Sink>⟧.state caller.client_out)) }
+        ensures new { IfOk result (λ caller. AreNew mark (⟦<SocketSource<'r> as Source>⟧.state caller.client_in) (⟦<SocketSink<'r> as Sink>⟧.state caller.client_out)) }
+        ensures peer { IfOk result (λ caller. IsAddressText caller.peer.address) }
+        ensures host_same { self.new.host ≡ self.old.host }
+        ensures asked_same { self.new.asked ≡ self.old.asked }
+        ensures bound_same { self.new.bound ≡ self.old.bound }
+    {
+        self.gate.accept(mark)
+    }
+}
+
+impl<'r> Gate<'r> {
+    /// The next connection, as the listener gives it.
+    fn accept(&mut self, mark: u64) -> Result<Caller<'r>, CallerFault>
+        ensures new { IfOk result (λ caller. AreNew mark (⟦<SocketSource<'r> as Source>⟧.state caller.client_in) (⟦<SocketSink<'r> as Sink>⟧.state caller.client_out)) }
+        ensures peer { IfOk result (λ caller. IsAddressText caller.peer.address) }
     {
         if self.guests.make_room().is_err() {
             return Err(CallerFault::Mem);
@@ -258,9 +343,9 @@ impl<'r> SocketListener<'r> {
     }
 }
 
-impl Drop for SocketListener<'_> {
+impl Drop for Gate<'_> {
     fn drop(self) {
-        let SocketListener {
+        let Gate {
             alloc: _,
             rt,
             times,
@@ -268,7 +353,6 @@ impl Drop for SocketListener<'_> {
             handle: _,
             wait: _,
             guests,
-            port: _,
         } = self;
         guests.see_out(rt, times.linger);
     }

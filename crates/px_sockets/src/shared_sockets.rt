@@ -2,6 +2,7 @@
 use crate::Times;
 use crate::times::between;
 use std::io;
+use std::io::ErrorKind;
 use std::net::{Shutdown, TcpStream};
 use std::sync::Arc;
 use std::sync::atomic::{AtomicBool, AtomicU64, Ordering};
@@ -172,6 +173,16 @@ impl SharedSocket {
         self.is_drained.load(Ordering::SeqCst)
     }
 
+    /// Whether it can't be used again: its other side has said the end, or has sent bytes that nobody read (RFC 9112, section 9.2),
+    /// or it failed. The look takes no byte and doesn't wait, and reads and writes wait behind it as before.
+    pub(crate) fn is_spent(&self) -> bool {
+        if self.stream.set_nonblocking(true).is_err() {
+            return true;
+        }
+        let is_quiet = is_quiet(&self.stream);
+        self.stream.set_nonblocking(false).is_err() || !is_quiet
+    }
+
     /// Shuts the outgoing side. Where no link of its connection is in use, nothing is left to do for a client, and the connection has
     /// ended.
     pub(crate) fn finish(&self, now: u64) {
@@ -196,5 +207,14 @@ impl SharedSocket {
     /// How long ago the connection ended.
     pub(crate) fn since_end(&self, now: u64) -> Duration {
         between(self.ended.load(Ordering::SeqCst), now)
+    }
+}
+
+/// Whether neither a byte nor the end of them nor a fault waits at a stream that doesn't block.
+fn is_quiet(stream: &TcpStream) -> bool {
+    let mut byte = [0; 1];
+    match stream.peek(&mut byte) {
+        Ok(_) => false,
+        Err(error) => error.kind() == ErrorKind::WouldBlock,
     }
 }

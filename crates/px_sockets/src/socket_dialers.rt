@@ -6,12 +6,12 @@ ghost use Rattle.std.specs.Str.{is_utf8};
 ghost use Rattle.std.specs.declared.net.ip_addr.IpAddr.{IpAddr};
 ghost use Rattle.px_sockets.specs.Untold.{untold_dialer, AreNew};
 
-use crate::counts::raised;
 use crate::ends::{EndsFault, ends_with};
 use crate::shared_sockets::{SocketSide, Work};
 use crate::times::{between, now_millis};
+use crate::tries::{NetTries, try_in_turn};
 use crate::{SocketSink, SocketSource, Times, both_ends};
-use px_base::{DialFault, Dialer, Sink, Source, as_text};
+use px_base::{DialFault, Dialer, Sink, Source, as_text, raised};
 use std::alloc::Global;
 use std::io::ErrorKind;
 use std::net::{HostAddrs, Net, TcpListener, TcpStream, ToSocketAddrs};
@@ -31,13 +31,15 @@ pub struct SocketDialer<'r> {
     reach: u64,
     link_reads: u64,
     link_writes: u64,
+    opened: u64,
+    hung_up: u64,
     mark: u64,
 }
 
 impl<'r> SocketDialer<'r> {
     /// A dialer over a network, with a mark and no faults.
     pub fn new(alloc: Global, rt: &'r HostRuntime, times: Times, mark: u64) -> SocketDialer<'r>
-        ensures { ⟦<SocketDialer<'r> as Dialer>⟧.state result ≡ untold_dialer 0 0 0 0 mark }
+        ensures { ⟦<SocketDialer<'r> as Dialer>⟧.state result ≡ untold_dialer 0 0 0 0 0 0 mark }
     {
         SocketDialer {
             alloc,
@@ -48,6 +50,8 @@ impl<'r> SocketDialer<'r> {
             reach: 0,
             link_reads: 0,
             link_writes: 0,
+            opened: 0,
+            hung_up: 0,
             mark,
         }
     }
@@ -60,7 +64,7 @@ impl<'r> SocketDialer<'r> {
         client: &SocketSource<'r>,
         mark: u64,
     ) -> SocketDialer<'r>
-        ensures { ⟦<SocketDialer<'r> as Dialer>⟧.state result ≡ untold_dialer 0 0 0 0 mark }
+        ensures { ⟦<SocketDialer<'r> as Dialer>⟧.state result ≡ untold_dialer 0 0 0 0 0 0 mark }
     {
         let mut dialer = SocketDialer::new(alloc, rt, times, mark);
         dialer.work = client.work();
@@ -86,31 +90,13 @@ pub fn connect_in_turn<R: Net<Listener = TcpListener, Stream = TcpStream> + rt::
     rt: &R,
     times: &Times,
     left: Duration,
-    mut addresses: HostAddrs,
+    addresses: HostAddrs,
 ) -> Result<TcpStream, DialFault>
     ensures refusal { IfErr result (λ fault. fault ≡ DialFault.NotReached) }
 {
-    let began = now_millis(rt);
-    let mut next = addresses.next();
-    for _ in 0..u64::MAX {
-        let Some(address) = next else {
-            return Err(DialFault::NotReached);
-        };
-        next = addresses.next();
-        let left = left.saturating_sub(between(began, now_millis(rt)));
-        let wait = if next.is_some() {
-            left.min(times.address)
-        } else {
-            left
-        };
-        if wait.is_zero() {
-            return Err(DialFault::NotReached);
-        }
-        if let Ok(stream) = rt.connect_timeout(address, wait) {
-            return Ok(stream);
-        }
-    }
-    Err(DialFault::NotReached)
+    let left = u64::try_from(left.as_millis()).unwrap_or(u64::MAX);
+    let until = now_millis(rt).saturating_add(left);
+    try_in_turn(&mut NetTries::new(rt), times.address, until, addresses)
 }
 
 /// A stream to the first address of a host that answers in time. An address in text isn't looked up, and a host that isn't UTF-8
@@ -186,7 +172,7 @@ impl<'r> Dialer for SocketDialer<'r> {
 
     type Out = SocketSink<'r>;
 
-    ghost state = { λ d. untold_dialer d.names d.reach d.link_reads d.link_writes d.mark };
+    ghost state = { λ d. untold_dialer d.names d.reach d.link_reads d.link_writes d.opened d.hung_up d.mark };
 
     fn dial(
         &mut self,
@@ -196,12 +182,14 @@ impl<'r> Dialer for SocketDialer<'r> {
         let link = self.link_to(host, port);
         self.names = raised(self.names, matches!(&link, Err(DialFault::NoName)));
         self.reach = raised(self.reach, matches!(&link, Err(DialFault::NotReached)));
+        self.opened = raised(self.opened, matches!(&link, Ok(_)));
         link
     }
 
     fn hang_up(&mut self, link_in: SocketSource<'r>, link_out: SocketSink<'r>) {
         self.link_reads = raised(self.link_reads, link_in.has_failed());
         self.link_writes = raised(self.link_writes, link_out.has_failed());
+        self.hung_up = raised(self.hung_up, true);
         link_in.rests();
     }
 }

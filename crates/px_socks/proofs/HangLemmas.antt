@@ -1,12 +1,10 @@
 -- A link that is hung up, in both lists.
-use Rattle.std.proofs.Common.{◌≡◌, ℕ, ◌+◌, ◌-◌, Bool, true, false, List, length, take, drop, sym, ap, subst, ◌∙◌, refl, arith, length-drop, inl, inr}
+use Rattle.std.proofs.Common.{◌≡◌, ℕ, ◌+◌, ◌-◌, true, List, length, take, drop, sym, ap, subst, ◌∙◌, refl, arith, length-drop, inl, inr}
 use Rattle.std.proofs.lemmas.List.{drop-take, drop_all, length-take}
 use Rattle.std.proofs.lemmas.Bool.{cases_lt}
 use Rattle.px_base.specs.Dials.{DialerState, traffic, is_open, finish}
-use Rattle.std.specs.Prelude.{MatchBool, not, ◌==◌}
-use Rattle.px_base.specs.Causes.{Rose, RisesWith}
 use Rattle.px_socks.specs.Marks.{mark_behind}
-use Rattle.px_socks.specs.Ends.{InnerSource, InnerSink, BeginsWithMessages, has_failed, source_behind, sink_behind}
+use Rattle.px_socks.specs.Ends.{InnerSource, InnerSink, BeginsWithMessages, source_behind, sink_behind}
 use Rattle.px_socks.specs.Notes.{traffic_behind, outer_dials, KeepsNotes}
 use Rattle.px_socks.specs.Dialers.{KeptDialer, outer_state}
 use Rattle.px_socks.proofs.MarkLemmas.{mark_injective}
@@ -65,11 +63,3 @@ hung_keeps k d i o h kept begins e = record {
   tied = rw e (tied_finish i.source.mark i.passage (traffic i.source o.sink) k.notes k.inner.dials kept.tied kept.distinct h.outer_there (rw h.one_passage at (begins h.out_tells)));
   distinct = rw e (distinct_finish i.source.mark (traffic i.source o.sink) k.inner.dials kept.distinct);
 }
-
-swap : (X Y : Type 0) (t : Bool) → MatchBool (not t) X Y → MatchBool t Y X
-swap X Y true h = h
-swap X Y false h = h
-
--- a count that is raised where the end has failed
-pub rises : (before now faults : ℕ) (b : Bool) → b ≡ has_failed faults → MatchBool b (Rose before now) (now ≡ before) → RisesWith before now faults
-rises before now faults b e h = swap (Rose before now) (now ≡ before) (faults == 0) (rw e at h)

@@ -1,5 +1,5 @@
 -- Sending the messages one behind the other, and what a handshake sends that gives no link.
-use Rattle.std.proofs.Common.{◌≡◌, ℕ, ◌+◌, ◌-◌, ◌≤◌, false, List, [], ◌∷◌, ◌++◌, length, take, drop, sym, ap, subst, ◌∙◌, arith, append_assoc, length-append}
+use Rattle.std.proofs.Common.{◌≡◌, ℕ, ◌+◌, ◌-◌, ◌≤◌, inl, List, [], ◌∷◌, ◌++◌, length, take, drop, sym, ap, subst, ◌∙◌, arith, append_assoc, length-append}
 use Rattle.std.proofs.Math.Seq.{take-append-add}
 use Rattle.std.proofs.lemmas.Grind.{common_steps}
 use Rattle.px_base.specs.Causes.{Rose}
@@ -7,7 +7,8 @@ use Rattle.px_base.specs.Sources.{SourceState}
 use Rattle.px_base.specs.Sinks.{SinkState}
 use Rattle.px_socks.specs.declared.handshakes.Refusal.{Refusal}
 use Rattle.px_socks.specs.declared.handshakes.Refusal.TheVariants as refusal
-use Rattle.px_socks.specs.Messages.{selects, TookSome, AnyBytes}
+use Rattle.px_socks.specs.Messages.{TookSome}
+use Rattle.px_socks.specs.Replies.{IsReplyFront, SelectsNone}
 use Rattle.px_socks.specs.Shaking.{AddsFrontOrAll, SendsDue}
 
 -- the two parts of the bytes, as slices read them
@@ -35,12 +36,13 @@ both_sent old mid new both within e h =
     h ∙ ap (λ (l : List ℕ). l ++ take (length both - 3) (drop 3 both)) e ∙ append_assoc old (take 3 both) (take (length both - 3) (drop 3 both)) ∙ ap (λ (l : List ℕ). old ++ l) (parts_of 3 both within)
 
 -- the greeting was sent, and the method isn't selected
-pub due_greeting : (i i' : SourceState) (o o' : SinkState) (both : List ℕ) (r : Refusal) → TookSome (λ bytes. selects bytes ≡ false) i.left i'.left → o'.taken ≡ o.taken ++ take 3 both → SendsDue i i' o o' both r
+pub due_greeting : (i i' : SourceState) (o o' : SinkState) (both : List ℕ) (r : Refusal) → TookSome SelectsNone i.left i'.left → o'.taken ≡ o.taken ++ take 3 both → SendsDue i i' o o' both r
 due_greeting i i' o o' both r k sent = record {
   heard = k.bytes;
   moved = k.moved;
-  front = rw k.taken (all_some o.taken o'.taken (take 3 both) sent);
-  whole = λ e none. rw k.taken sent;
+  enough = rw k.taken.other k.taken.few;
+  front = rw k.taken.other (all_some o.taken o'.taken (take 3 both) sent);
+  whole = λ e none. rw k.taken.other sent;
 }
 
 -- the method was selected, and a write of the request is refused
@@ -49,15 +51,17 @@ pub due_front : (i i' : SourceState) (o o' : SinkState) (both : List ℕ) (r : R
 due_front i i' o o' both r e sent rose = record {
   heard = 5 ∷ 0 ∷ [];
   moved = e;
+  enough = inl (omega arith);
   front = sent;
   whole = λ f none. absurd (none (rose f));
 }
 
 -- both messages were sent
-pub due_both : (i m i' : SourceState) (o o' : SinkState) (both : List ℕ) (r : Refusal) → i.left ≡ 5 ∷ 0 ∷ m.left → TookSome AnyBytes m.left i'.left → o'.taken ≡ o.taken ++ both → SendsDue i i' o o' both r
+pub due_both : (i m i' : SourceState) (o o' : SinkState) (both : List ℕ) (r : Refusal) → i.left ≡ 5 ∷ 0 ∷ m.left → TookSome IsReplyFront m.left i'.left → o'.taken ≡ o.taken ++ both → SendsDue i i' o o' both r
 due_both i m i' o o' both r e k sent = record {
   heard = 5 ∷ 0 ∷ k.bytes;
   moved = e ∙ ap (λ (l : List ℕ). 5 ∷ 0 ∷ l) k.moved;
+  enough = k.taken;
   front = all_some o.taken o'.taken both sent;
   whole = λ f none. sent;
 }

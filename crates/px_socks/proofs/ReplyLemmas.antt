@@ -1,13 +1,14 @@
 -- Reading a reply piece by piece.
-use Rattle.std.proofs.Common.{◌≡◌, ℕ, ◌+◌, ◌-◌, ◌≤◌, Bool, true, false, IsTrue, List, [], ◌∷◌, ◌++◌, length, take, drop, sym, ap, ◌∙◌, arith, length-append, append_assoc, refl, Option, Some, None, Result, Ok, cond}
+use Rattle.std.proofs.Common.{◌≡◌, ℕ, ◌+◌, ◌-◌, ◌<◌, ◌≤◌, Bool, true, false, IsTrue, List, [], ◌∷◌, ◌++◌, length, take, drop, sym, ap, ◌∙◌, arith, length-append, append_assoc, refl, inl, inr, Option, Some, None, Result, Ok, cond}
 use Rattle.std.specs.Prelude.{◌==◌, ◌&&◌}
 use Rattle.std.proofs.lemmas.Grind.{common_steps}
+use Rattle.std.proofs.Math.Seq.{take-append_seam}
 use Rattle.std.proofs.lemmas.List.{take_at, take-append-drop}
 use Rattle.std.proofs.lemmas.Bool.{eqb-true, and_parts}
 use borrow.Rule.Slice.PartMut.{put_mid, post_of}
 use Rattle.px_base.specs.Sources.{SourceState, SourceGoesOn, Gives}
 use Rattle.px_socks.specs.Messages.{IsReply, IsAccepted, is_bound_address, Took, TookSome, AnyBytes}
-use Rattle.px_socks.specs.Replies.{Filled, rest_by, rest_length}
+use Rattle.px_socks.specs.Replies.{Filled, rest_by, rest_length, IsReplyFront}
 
 -- what lasts over two calls lasts over both
 pub source_goes_on : {a b c : SourceState} → SourceGoesOn a b → SourceGoesOn b c → SourceGoesOn a c
@@ -166,13 +167,28 @@ prefix_free left rest rest' m n t u =
     let more : one.more ≡ other.more = (cc) in
     omega (arith, t.counted, ap (λ (l : List ℕ). length l) p.parts, u.counted, ap (λ (l : List ℕ). length l) q.parts, one.counted, other.counted, more)
 
--- the first bytes were taken, and then others
-pub some_behind : {P : List ℕ → Type 0} (first old mid new : List ℕ) → old ≡ first ++ mid → TookSome P mid new → TookSome AnyBytes old new
-some_behind first old mid new e k = record { bytes = first ++ k.bytes; moved = e ∙ ap (λ (l : List ℕ). first ++ l) k.moved ∙ sym (append_assoc first k.bytes new); taken = tt }
+-- fewer bytes were taken than that
+pub few_taken : (n : ℕ) (old new : List ℕ) → n ≤ 5 → TookSome (λ bytes. length bytes < n) old new → TookSome IsReplyFront old new
+few_taken n old new few k = record { bytes = k.bytes; moved = k.moved; taken = inl (omega (arith, k.taken)) }
 
-pub some_counted : (count : ℕ) (old new : List ℕ) → Took AnyBytes count old new → TookSome AnyBytes old new
-some_counted count old new k = record { bytes = k.bytes; moved = k.moved; taken = tt }
+-- the first five bytes were taken
+pub five_taken : (first old mid : List ℕ) → length first ≡ 5 → old ≡ first ++ mid → TookSome IsReplyFront old mid
+five_taken first old mid n e = record { bytes = first; moved = e; taken = inl (omega arith) }
+
+-- the first five bytes were taken, and then fewer than follow
+pub cut_taken : (first old mid new : List ℕ) (more : ℕ) → length first ≡ 5 → Some more ≡ rest_length first → old ≡ first ++ mid → TookSome (λ bytes. length bytes < more) mid new → TookSome IsReplyFront old new
+cut_taken first old mid new more n h e k =
+    let front : take 5 (first ++ k.bytes) ≡ first = ap (λ (i : ℕ). take i (first ++ k.bytes)) (sym n) ∙ take-append_seam first k.bytes in
+    record {
+      bytes = first ++ k.bytes;
+      moved = e ∙ ap (λ (l : List ℕ). first ++ l) k.moved ∙ sym (append_assoc first k.bytes new);
+      taken = inr (record { more = more; begins = ap rest_length front ∙ sym h; fewer = omega (arith, length-append first k.bytes, k.taken) });
+    }
 
 -- what is not filled is not answered by true
 pub unfilled : {E : Type 0} (r : Result Bool E) (b : Bool) → r ≡ Ok b → b ≡ false → ¬ (r ≡ Ok true)
 unfilled r b e f h = absurd (cc)
+
+-- no reply is not answered by its length
+pub not_some : {E : Type 0} (r : Result (Option ℕ) E) (o : Option ℕ) → r ≡ Ok o → o ≡ None → (n : ℕ) → ¬ (r ≡ Ok (Some n))
+not_some r o e f n h = absurd (cc)

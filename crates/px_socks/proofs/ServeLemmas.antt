@@ -15,6 +15,7 @@ use Rattle.px_socks.specs.declared.servers.ServerStop.{ServerStop}
 use Rattle.px_socks.specs.declared.servers.ServerStop.TheVariants as stop
 use Rattle.px_socks.specs.Ends.{InnerSource, InnerSink, has_failed}
 use Rattle.px_socks.specs.Messages.{due_messages, IsAccepted, Took, NoneAhead}
+use Rattle.px_socks.specs.Replies.{IsHeardFront}
 use Rattle.px_socks.specs.Notes.{IsFrontSent}
 use Rattle.px_socks.specs.Shaking.{AddsFrontOrAll, SendsDue, IsHandshakeRefused}
 use Rattle.px_socks.specs.Serving.{IsOpenLink, RefusedOver, Hung, IsBehindHandshake, open_dial, IsNewLink, ServesDial}
@@ -37,6 +38,9 @@ given_is i i' heard fresh same moved =
     let e : i'.offered ≡ heard ++ i'.left = same ∙ sym fresh ∙ moved in
     let count : length i'.offered - length i'.left ≡ length heard = omega (arith, ap (λ (l : List ℕ). length l) e, length-append heard i'.left) in
     rw (count, e) (take-append_seam heard i'.left)
+
+pub heard_front : (i i' : SourceState) (o o' : SinkState) (both : List ℕ) (r : Refusal) → i.left ≡ i.offered → i'.offered ≡ i.offered → SendsDue i i' o o' both r → IsHeardFront (given i')
+heard_front i i' o o' both r fresh same h = subst IsHeardFront (sym (given_is i i' h.heard fresh same h.moved)) h.enough
 
 pub sent_front : (i i' : SourceState) (o o' : SinkState) (both : List ℕ) (r : Refusal) → i.left ≡ i.offered → i'.offered ≡ i.offered → o.taken ≡ [] → SendsDue i i' o o' both r
     → IsFrontSent o'.taken (due_messages (given i') both)
@@ -114,7 +118,7 @@ serves_hung old mid new host port messages i o stop.Refused t added told h never
   added = hung_dials old mid new host port messages i o stop.Refused t added told h;
   to_host = refl;
   to_port = refl;
-  outcome = (h.sent told.in_tells told.out_tells, λ never_failed. h.whole told.in_tells told.out_tells refl never_failed, why (h.why refl));
+  outcome = (h.enough told.in_tells told.out_tells, h.sent told.in_tells told.out_tells, λ never_failed. h.whole told.in_tells told.out_tells refl never_failed, why (h.why refl));
 }
   where
     why : RefusedOver h.last_in h.last_out i → (has_failed h.last_in.faults ≡ true) ⊎ ((has_failed h.last_out.faults ≡ true) ⊎ NoneAhead IsAccepted i.offered)
@@ -126,7 +130,7 @@ serves_hung old mid new host port messages i o stop.Lost t added told h never = 
   added = hung_dials old mid new host port messages i o stop.Lost t added told h;
   to_host = refl;
   to_port = refl;
-  outcome = h.sent told.in_tells told.out_tells;
+  outcome = (h.enough told.in_tells told.out_tells, h.sent told.in_tells told.out_tells);
 }
 serves_hung old mid new host port messages i o stop.Mem t added told h never = absurd (never refl)
 

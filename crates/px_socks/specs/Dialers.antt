@@ -13,6 +13,8 @@ pub record KeptDialer : Type 0 where
   pub reach : ℕ
   pub link_reads : ℕ
   pub link_writes : ℕ
+  pub opened : ℕ
+  pub hung_up : ℕ
 
 -- it tells its dials where the dialer below does, and what its next dials give where that one tells both; it has that one's mark
 abbrev pub outer_state : KeptDialer → DialerState
@@ -26,5 +28,7 @@ outer_state k = record {
   reach = k.reach;
   link_reads = k.link_reads;
   link_writes = k.link_writes;
+  opened = k.opened;
+  hung_up = k.hung_up;
   mark = k.inner.mark;
 }

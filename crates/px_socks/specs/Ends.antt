@@ -1,5 +1,5 @@
 -- Both ends of a link behind a handshake, made of those below it: what went over the link in the handshake isn't seen.
-use Rattle.std.specs.Prelude.{◌≡◌, ℕ, Bool, not, IsTrue, ◌==◌, List, [], ◌++◌, length, drop}
+use Rattle.std.specs.Prelude.{◌≡◌, ℕ, Bool, not, IsTrue, ◌==◌, List, ◌++◌, length, drop}
 use Rattle.px_base.specs.Sources.{SourceState}
 use Rattle.px_base.specs.Sinks.{SinkState}
 use Rattle.px_socks.specs.declared.ends.HandshakePassage.{HandshakePassage}

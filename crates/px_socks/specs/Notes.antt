@@ -9,6 +9,7 @@ use Rattle.px_socks.specs.declared.notes.DialNote.{DialNote}
 use Rattle.px_socks.specs.declared.notes.DialNote.TheVariants as note
 use Rattle.px_socks.specs.Marks.{mark_behind}
 use Rattle.px_socks.specs.Messages.{messages, due_messages, IsAccepted, Took, NoneAhead}
+use Rattle.px_socks.specs.Replies.{IsHeardFront}
 use Rattle.px_base.specs.DialNames.{is_dial_name, target_of, server_of}
 
 -- the passage of a link without a handshake
@@ -30,11 +31,12 @@ outcome_behind p (outcome.Link seen) = outcome.Link (record {
   sent = drop (length p.messages) seen.sent;
   read_failed = seen.read_failed;
   write_failed = seen.write_failed;
+  finished = seen.finished;
 })
 
 -- what went over a link behind a handshake
 abbrev pub traffic_behind : HandshakePassage → Traffic → Traffic
-traffic_behind p t = record { heard = drop p.heard t.heard; sent = drop (length p.messages) t.sent; read_failed = t.read_failed; write_failed = t.write_failed }
+traffic_behind p t = record { heard = drop p.heard t.heard; sent = drop (length p.messages) t.sent; read_failed = t.read_failed; write_failed = t.write_failed; finished = t.finished }
 
 -- a dial of that host and port, behind a handshake over the inner one
 abbrev pub dial_behind : List ℕ → ℕ → HandshakePassage → Dial → Dial
@@ -78,7 +80,7 @@ IsRefusedBy bytes outcome.NoName = Unit {0}
 IsRefusedBy bytes outcome.NotReached = Unit {0}
 IsRefusedBy bytes (outcome.Open mark offered) = ⊥
 IsRefusedBy bytes (outcome.Link seen) =
-    IsFrontSent seen.sent (due_messages seen.heard bytes) × (seen.write_failed ≡ false → seen.sent ≡ due_messages seen.heard bytes)
+    IsHeardFront seen.heard × IsFrontSent seen.sent (due_messages seen.heard bytes) × (seen.write_failed ≡ false → seen.sent ≡ due_messages seen.heard bytes)
     × ((seen.read_failed ≡ true) ⊎ ((seen.write_failed ≡ true) ⊎ NoneAhead IsAccepted seen.offered))
 
 -- the inner outcome of a dial in whose handshake memory was wanting: a link that is hung up and was sent a front of what was
@@ -87,7 +89,7 @@ abbrev pub IsLostBy : List ℕ → DialOutcome → Type 0
 IsLostBy bytes outcome.NoName = ⊥
 IsLostBy bytes outcome.NotReached = ⊥
 IsLostBy bytes (outcome.Open mark offered) = ⊥
-IsLostBy bytes (outcome.Link seen) = IsFrontSent seen.sent (due_messages seen.heard bytes)
+IsLostBy bytes (outcome.Link seen) = IsHeardFront seen.heard × IsFrontSent seen.sent (due_messages seen.heard bytes)
 
 -- a dial name whose target's host has more than 255 bytes, so no request can tell its length
 abbrev pub IsTooLong : List ℕ → Type 0

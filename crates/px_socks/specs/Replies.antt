@@ -1,7 +1,7 @@
 -- How long a reply is, by its first five bytes (RFC 1928, section 6): no fewer tell it, and each reply has at least seven.
-use Rattle.std.specs.Prelude.{◌≡◌, ℕ, ◌+◌, ◌≤◌, IsTrue, ◌++◌, length, take, ◌==◌, ◌&&◌, if◌then◌else◌, List, Option, Some, None, slice_index}
+use Rattle.std.specs.Prelude.{◌≡◌, ℕ, false, ◌+◌, ◌<◌, ◌≤◌, ◌⊎◌, IsTrue, ◌++◌, length, take, drop, ◌==◌, ◌&&◌, if◌then◌else◌, List, Option, Some, None, slice_index, MatchBool}
 use Rattle.px_base.specs.Sources.{SourceState, SourceGoesOn}
-use Rattle.px_socks.specs.Messages.{Took, NoneAhead}
+use Rattle.px_socks.specs.Messages.{selects, Took, NoneAhead}
 
 -- how many bytes stand behind the first of the bound address, its port among them, by the address's type and that byte
 abbrev pub rest_by : ℕ → ℕ → Option ℕ
@@ -15,6 +15,27 @@ rest_length bs = if slice_index bs 0 == 5 && slice_index bs 1 == 0 then rest_by 
 abbrev pub TookOrNone : (List ℕ → Type 0) → Option ℕ → List ℕ → List ℕ → Type 0
 TookOrNone P (Some count) old new = Took P count old new
 TookOrNone P None old new = NoneAhead P old
+
+-- the bytes begin a reply that says "succeeded", and are fewer than it has
+pub record IsCutReply (bytes : List ℕ) : Type 0 where
+  pub more : ℕ
+  pub begins : rest_length (take 5 bytes) ≡ Some more
+  pub fewer : length bytes < 5 + more
+
+-- what may be read of a reply that isn't accepted: its first five bytes at most, or more that begin one that says "succeeded" and
+-- are fewer than it has
+abbrev pub IsReplyFront : List ℕ → Type 0
+IsReplyFront bytes = (length bytes ≤ 5) ⊎ IsCutReply bytes
+
+-- two bytes at most, which don't select the method that was offered
+pub record SelectsNone (bytes : List ℕ) : Type 0 where
+  pub other : selects bytes ≡ false
+  pub few : length bytes ≤ 2
+
+-- what may be heard of a server that isn't accepted: the two bytes of the method at most, and behind the method that was offered
+-- what may be read of the reply
+abbrev pub IsHeardFront : List ℕ → Type 0
+IsHeardFront heard = MatchBool (selects heard) (IsReplyFront (drop 2 heard)) (length heard ≤ 2)
 
 -- the first bytes of a buffer came from the source, and no read failed
 pub record Filled (old new : SourceState) (done : ℕ) (buf : List ℕ) : Type 0 where

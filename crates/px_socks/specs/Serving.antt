@@ -11,6 +11,7 @@ use Rattle.px_socks.specs.declared.servers.ServerStop.TheVariants as stop
 use Rattle.px_socks.specs.Ends.{InnerSource, InnerSink, has_failed}
 use Rattle.px_socks.specs.Comings.{accepted_length}
 use Rattle.px_socks.specs.Messages.{due_messages, IsAccepted, Took, NoneAhead}
+use Rattle.px_socks.specs.Replies.{IsHeardFront}
 use Rattle.px_socks.specs.Notes.{IsFrontSent, IsRefusedBy, IsLostBy}
 
 -- a link behind a handshake: nothing else went over it, and nothing failed
@@ -32,8 +33,8 @@ pub record IsOpenLink (d : DialerState) (i : SourceState) (o : SinkState) : Type
 abbrev pub RefusedOver : SourceState → SinkState → SourceState → Type 0
 RefusedOver i' o' i = (has_failed i'.faults ≡ true) ⊎ ((has_failed o'.faults ≡ true) ⊎ (IsTrue i.tells → NoneAhead IsAccepted i.offered))
 
--- the link was hung up, and had been sent a front of what was due by the bytes heard; all of it where it was refused without a
--- failed write
+-- the link was hung up; of the server no more was heard than might be accepted, and it had been sent a front of what was due by
+-- that; all of it where it was refused without a failed write
 pub record Hung (old new : DialerState) (i : SourceState) (o : SinkState) (messages : List ℕ) (s : ServerStop) : Type 0 where
   pub last_in : SourceState
   pub last_out : SinkState
@@ -41,6 +42,7 @@ pub record Hung (old new : DialerState) (i : SourceState) (o : SinkState) (messa
   pub in_goes_on : SourceGoesOn i last_in
   pub out_goes_on : SinkGoesOn o last_out
   pub still_open : last_out.finished ≡ o.finished
+  pub enough : IsTrue i.tells → IsTrue o.tells → IsHeardFront (given last_in)
   pub sent : IsTrue i.tells → IsTrue o.tells → IsFrontSent last_out.taken (due_messages (given last_in) messages)
   pub whole : IsTrue i.tells → IsTrue o.tells → s ≡ stop.Refused → has_failed last_out.faults ≡ false → last_out.taken ≡ due_messages (given last_in) messages
   pub why : s ≡ stop.Refused → RefusedOver last_in last_out i

@@ -4,6 +4,7 @@ use Rattle.px_base.specs.Sources.{SourceState}
 use Rattle.px_base.specs.Sinks.{SinkState}
 use Rattle.px_base.specs.Causes.{Rose}
 use Rattle.px_socks.specs.Messages.{due_messages, IsAccepted, NoneAhead}
+use Rattle.px_socks.specs.Replies.{IsHeardFront}
 use Rattle.px_socks.specs.declared.handshakes.Refusal.{Refusal}
 use Rattle.px_socks.specs.declared.handshakes.Refusal.TheVariants as refusal
 
@@ -15,11 +16,12 @@ AddsFrontOrAll old new bytes = (n : ℕ) × (n ≤ length bytes) × (new ≡ old
 abbrev pub SendsToServer : {T E : Type 0} → SinkState → SinkState → Result T E → List ℕ → Type 0
 SendsToServer old new result bytes = IsTrue old.tells → MatchResult result (λ _. new.taken ≡ old.taken ++ bytes) (λ _. AddsFrontOrAll old.taken new.taken bytes)
 
--- what a handshake sends that gives no link, by the bytes that it heard: a front of what is due; all of it, unless a write was
--- refused
+-- what a handshake hears and sends that gives no link: it reads on only where what it heard may be accepted, and sends a front of
+-- what is due by that; all of it, unless a write was refused
 pub record SendsDue (i i' : SourceState) (o o' : SinkState) (messages : List ℕ) (r : Refusal) : Type 0 where
   pub heard : List ℕ
   pub moved : i.left ≡ heard ++ i'.left
+  pub enough : IsHeardFront heard
   pub front : AddsFrontOrAll o.taken o'.taken (due_messages heard messages)
   pub whole : r ≡ refusal.NotReached → ¬ (Rose o.faults o'.faults) → o'.taken ≡ o.taken ++ due_messages heard messages
 

@@ -1,6 +1,5 @@
 // A dialer through SOCKS servers over any dialer.
 ghost use Rattle.std.specs.Prelude.{◌≡◌, ◌<◌, ◌≤◌, ◌++◌, ◌∷◌, [], IsTrue, IfOk, MatchBool, Some, false, length, vec_len, vec_capacity};
-ghost use Rattle.px_base.specs.Causes.{Rose};
 ghost use Rattle.px_base.specs.Dials.{linked, dialed, IsFresh, IsTold, met, agrees, LeavesComing, DialCause, DialerGoesOn};
 ghost use Rattle.px_socks.specs.Ends.{socks_source, socks_sink};
 ghost use Rattle.px_socks.specs.Dialers.{outer_state};
@@ -11,7 +10,7 @@ ghost use Rattle.px_socks.specs.Notes.{no_handshake, IsTooLong};
 use crate::handshakes::greeting_and_request;
 use crate::servers::{ServerStop, dial_server};
 use crate::{DialNote, HandshakePassage, SocksSink, SocksSource};
-use px_base::{DialFault, Dialer, LocalDialer, Text};
+use px_base::{DialFault, Dialer, LocalDialer, Text, raised};
 use px_dial_names::{DialName, read_name};
 use std::alloc::Global;
 use std::marker::Model;
@@ -34,6 +33,8 @@ pub struct SocksDialer<D: LocalDialer> {
     reach: u64,
     link_reads: u64,
     link_writes: u64,
+    opened: u64,
+    hung_up: u64,
 }
 
 impl<D: LocalDialer> Model for SocksDialer<D> {
@@ -43,17 +44,9 @@ impl<D: LocalDialer> Model for SocksDialer<D> {
 
     ghost Value = { KeptDialer };
 
-    ghost view = { λ d. record { inner = D.state d.inner; notes = d.notes.items; names = d.names; reach = d.reach; link_reads = d.link_reads; link_writes = d.link_writes } };
+    ghost view = { λ d. record { inner = D.state d.inner; notes = d.notes.items; names = d.names; reach = d.reach; link_reads = d.link_reads; link_writes = d.link_writes; opened = d.opened; hung_up = d.hung_up } };
 
     ghost invariant = { λ d. IsTrue (D.state d.inner).tells → KeepsNotes d.notes.items (D.state d.inner).dials };
-}
-
-/// One more where it is so; at the end of its type it stays.
-fn raised(count: u64, by: bool) -> u64
-    ensures later { count ≤ result }
-    ensures cases { MatchBool by (Rose count result) (result ≡ count) }
-{
-    if by { count.saturating_add(1) } else { count }
 }
 
 /// Adds a note, for which there is room.
@@ -79,7 +72,7 @@ impl<D: LocalDialer> SocksDialer<D> {
     /// note for each, from `alloc`.
     pub fn new(alloc: Global, inner: D) -> SocksDialer<D>
         requires first { IsTrue (D.state inner).tells → (D.state inner).dials ≡ [] }
-        ensures made { result ≡ record { inner = D.state inner; notes = []; names = 0; reach = 0; link_reads = 0; link_writes = 0 } }
+        ensures made { result ≡ record { inner = D.state inner; notes = []; names = 0; reach = 0; link_reads = 0; link_writes = 0; opened = 0; hung_up = 0 } }
     {
         SocksDialer {
             inner,
@@ -89,6 +82,8 @@ impl<D: LocalDialer> SocksDialer<D> {
             reach: 0,
             link_reads: 0,
             link_writes: 0,
+            opened: 0,
+            hung_up: 0,
         }
     }
 
@@ -105,6 +100,8 @@ impl<D: LocalDialer> SocksDialer<D> {
             reach: _,
             link_reads: _,
             link_writes: _,
+            opened: _,
+            hung_up: _,
         } = self;
         inner
     }
@@ -130,6 +127,7 @@ impl<D: LocalDialer> SocksDialer<D> {
         match self.inner.dial(host, port) {
             Ok((link_in, link_out)) => {
                 note_down(&mut self.notes, DialNote::Plain);
+                self.opened = raised(self.opened, true);
                 Ok((
                     SocksSource::new(link_in, no_handshake(self.alloc)),
                     SocksSink::new(link_out, no_handshake(self.alloc)),
@@ -203,6 +201,7 @@ impl<D: LocalDialer> SocksDialer<D> {
             Ok((link_in, link_out)) => {
                 let heard = link_in.heard();
                 note_down(&mut self.notes, DialNote::Accepted { name, port, heard });
+                self.opened = raised(self.opened, true);
                 Ok((link_in, link_out))
             }
             Err(ServerStop::Refused) => {
@@ -246,6 +245,7 @@ impl<D: Dialer> Dialer for SocksDialer<D> {
     fn hang_up(&mut self, link_in: SocksSource<D::In>, link_out: SocksSink<D::Out>) {
         self.link_reads = raised(self.link_reads, link_in.has_failed());
         self.link_writes = raised(self.link_writes, link_out.has_failed());
+        self.hung_up = raised(self.hung_up, true);
         self.inner
             .hang_up(link_in.into_inner(), link_out.into_inner());
     }

@@ -3,7 +3,8 @@ ghost use Rattle.std.specs.Prelude.{◌≡◌, IsTrue};
 ghost use Rattle.px_base.specs.Sources.{SourceState};
 ghost use Rattle.px_socks.specs.Ends.{socks_source, socks_sink, has_failed, BeginsWithMessages};
 
-use px_base::{Failed, LocalSink, LocalSource, Sink, SinkFault, Source, Text};
+use crate::Looks;
+use px_base::{Failed, LocalSink, LocalSource, Rests, Sink, SinkFault, Source, Text};
 use std::marker::Model;
 
 /// What a handshake took of a link. That of a plain host, with which there is none, has 0 and no message.
@@ -139,6 +140,12 @@ impl<S: Source> Source for SocksSource<S> {
                 Err(Failed)
             }
         }
+    }
+}
+
+impl<S: Looks> Rests for SocksSource<S> {
+    fn has_ended(&mut self) -> bool {
+        self.inner.is_spent()
     }
 }
 

@@ -1,10 +1,10 @@
 // What the server sends in the handshake (RFC 1928, sections 3 and 6): the method that it selects, and its reply. No read asks
 // for a byte that isn't surely one of these.
-ghost use Rattle.std.specs.Prelude.{◌≡◌, ◌≢◌, ◌<◌, ◌≤◌, ◌++◌, ◌∷◌, true, false, length, IsTrue, IfOk, MatchOption, IfSome, IfNone, Some, None, Ok};
+ghost use Rattle.std.specs.Prelude.{◌≡◌, ◌≢◌, ℕ, ◌<◌, ◌≤◌, ◌++◌, ◌∷◌, true, false, length, IsTrue, IfOk, MatchOption, IfSome, IfNone, Some, None, Ok};
 ghost use Rattle.px_base.specs.Causes.{HasCause};
 ghost use Rattle.px_base.specs.Sources.{SourceGoesOn};
-ghost use Rattle.px_socks.specs.Messages.{selects, IsReply, IsAccepted, Took, TookSome, AnyBytes, NoneAhead};
-ghost use Rattle.px_socks.specs.Replies.{rest_length, TookOrNone};
+ghost use Rattle.px_socks.specs.Messages.{IsReply, IsAccepted, Took, TookSome, AnyBytes, NoneAhead};
+ghost use Rattle.px_socks.specs.Replies.{rest_length, TookOrNone, IsReplyFront, SelectsNone};
 
 use px_base::{Failed, LocalSource};
 
@@ -57,11 +57,11 @@ fn rest_of(first: &[u8; 5]) -> Option<usize>
 }
 
 /// Reads the server's reply (RFC 1928, section 6), and gives its length in bytes. `None` means that the bytes end before or
-/// leave the form of a reply that says "succeeded".
+/// leave the form of a reply that says "succeeded"; of others no more is read than its first five bytes.
 pub fn read_reply<S: LocalSource>(source: &mut S) -> Result<Option<usize>, Failed>
     ensures bytes { IsTrue (S.state source.old).tells → IfOk result (λ count. TookOrNone IsReply count (S.state source.old).left (S.state source.new).left) }
     ensures most { IfOk result (λ count. IfSome count (λ n. n ≤ 262)) }
-    ensures some { IsTrue (S.state source.old).tells → TookSome AnyBytes (S.state source.old).left (S.state source.new).left }
+    ensures front { IsTrue (S.state source.old).tells → ((n : ℕ) → result ≢ Ok (Some n)) → TookSome IsReplyFront (S.state source.old).left (S.state source.new).left }
     ensures cause { HasCause (S.state source.old).faults (S.state source.new).faults result }
     ensures goes_on { SourceGoesOn (S.state source.old) (S.state source.new) }
 {
@@ -84,7 +84,7 @@ pub fn read_reply<S: LocalSource>(source: &mut S) -> Result<Option<usize>, Faile
 pub fn read_method<S: LocalSource>(source: &mut S) -> Result<bool, Failed>
     ensures chosen { IsTrue (S.state source.old).tells → IfOk result (λ chosen. chosen ≡ true → (S.state source.old).left ≡ 5 ∷ 0 ∷ (S.state source.new).left) }
     ensures other { IsTrue (S.state source.old).tells → IfOk result (λ chosen. chosen ≡ false → NoneAhead IsAccepted (S.state source.old).left) }
-    ensures unselected { IsTrue (S.state source.old).tells → result ≢ Ok true → TookSome (λ bytes. selects bytes ≡ false) (S.state source.old).left (S.state source.new).left }
+    ensures unselected { IsTrue (S.state source.old).tells → result ≢ Ok true → TookSome SelectsNone (S.state source.old).left (S.state source.new).left }
     ensures cause { HasCause (S.state source.old).faults (S.state source.new).faults result }
     ensures goes_on { SourceGoesOn (S.state source.old) (S.state source.new) }
 {

@@ -1,5 +1,6 @@
 // Seats at a board.
-ghost use Rattle.std.specs.Prelude.{◌≡◌, ◌+◌, ◌<◌, ◌≤◌, ◌∷◌, [], IfOk, IfErr, OnOk, OnErr, length, option_copied};
+ghost use Rattle.std.specs.Prelude.{◌≡◌, ◌⊎◌, ◌+◌, ◌<◌, ◌≤◌, ◌∷◌, [], IfOk, IfErr, OnOk, OnErr, length, option_copied};
+ghost use mathlib.Core.List.{IsPrefix};
 ghost use Rattle.px_publish.specs.Published.{told_by, receipt_pair, seen_by, reader_pair};
 ghost use Rattle.px_publish.specs.Views.{GoesOn};
 ghost use Rattle.px_tag_board.specs.Chains.{IsChained};
@@ -171,6 +172,14 @@ impl<N: BoardName> Seat<N> {
             }
             ChangeOutcome::Full => Err(WearFault::Full(worn)),
         }
+    }
+
+    /// Two seats of a board see one history: of what they have seen the one begins the other. It changes nothing, takes no memory and
+    /// waits for nobody.
+    pub fn one_history(&self, other: &Seat<N>)
+        ensures { IsPrefix self.now.seen other.now.seen ⊎ IsPrefix other.now.seen self.now.seen }
+    {
+        self.reader.sees_one_list(&other.reader);
     }
 
     /// The number of the newest state that it has seen. It takes no memory.

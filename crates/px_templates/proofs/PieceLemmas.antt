@@ -10,7 +10,7 @@ use Rattle.px_templates.specs.declared.conditions.Condition.TheVariants as condi
 use Rattle.px_templates.specs.declared.fronts.TemplateFront.{TemplateFront}
 use Rattle.px_templates.specs.declared.fronts.TemplateFront.TheVariants as front
 use Rattle.px_templates.specs.declared.runs.TemplateRun.{TemplateRun}
-use Rattle.px_templates.specs.Symbols.{mark_of, symbol_at, start_of, end_of}
+use Rattle.px_templates.specs.Symbols.{mark_of, symbol_at, start_of, end_mark}
 use Rattle.px_templates.specs.Pieces.{PiecePart, Piece, part_in, plain, parts_behind, front_at, front_pieces, width, pieces_behind, open_behind, open_or, end_place, line_at, open_line}
 use Rattle.px_templates.specs.Runs.{held_pieces}
 
@@ -179,12 +179,12 @@ pub record HasPieces (text : List ℕ) (from at : ℕ) (runs : List TemplateRun)
   pub unended : open_behind 0 0 text ≡ open_behind at 0 (drop at text)
 
 -- the mark that ends a block, at the front of a text
-end_place-here : (c : Condition) (text : List ℕ) → 0 < length text → starts_with nat_eq text (end_of c) ≡ true → end_place c text ≡ Some 0
+end_place-here : (c : Condition) (text : List ℕ) → 0 < length text → starts_with nat_eq text (end_mark c) ≡ true → end_place c text ≡ Some 0
 unfolding end_place
 end_place-here c [] some here = absurd (omega arith)
 end_place-here c (b ∷ bs) some here = rw here
 
-end_place-later : (c : Condition) (text : List ℕ) → 0 < length text → starts_with nat_eq text (end_of c) ≡ false →
+end_place-later : (c : Condition) (text : List ℕ) → 0 < length text → starts_with nat_eq text (end_mark c) ≡ false →
     end_place c text ≡ option_map (λ n. n + 1) (end_place c (drop 1 text))
 unfolding end_place
 end_place-later c [] some later = absurd (omega arith)
@@ -200,20 +200,20 @@ moved None i = refl
 moved (Some n) i = let e : n + 1 + i ≡ n + (i + 1) = omega arith in ap Some e
 
 -- the search for the mark: it stands at this place, or behind it, or nowhere
-pub end_found : (c : Condition) (text slice mark : List ℕ) (at : ℕ) (r : Bool) → at < length text → slice ≡ drop at text → mark ≡ end_of c →
+pub end_found : (c : Condition) (text slice mark : List ℕ) (at : ℕ) (r : Bool) → at < length text → slice ≡ drop at text → mark ≡ end_mark c →
     r ≡ starts_with nat_eq slice mark → r ≡ true → end_place c text ≡ option_map (λ n. n + at) (end_place c (drop at text)) → Some at ≡ end_place c text
 end_found c text slice mark at r within slice_is mark_is r_is here so_far =
     let zero_more : 0 + at ≡ at = omega arith in
     sym (so_far ∙ ap (option_map (λ n. n + at)) (end_place-here c (drop at text) (omega (arith, length-drop at text))
-    (ap (λ s. starts_with nat_eq s (end_of c)) (sym slice_is) ∙ ap (starts_with nat_eq slice) (sym mark_is) ∙ sym r_is ∙ here)) ∙ ap Some zero_more)
+    (ap (λ s. starts_with nat_eq s (end_mark c)) (sym slice_is) ∙ ap (starts_with nat_eq slice) (sym mark_is) ∙ sym r_is ∙ here)) ∙ ap Some zero_more)
 
-pub end_not_found : (c : Condition) (text slice mark : List ℕ) (at : ℕ) (r : Bool) → at < length text → slice ≡ drop at text → mark ≡ end_of c →
+pub end_not_found : (c : Condition) (text slice mark : List ℕ) (at : ℕ) (r : Bool) → at < length text → slice ≡ drop at text → mark ≡ end_mark c →
     r ≡ starts_with nat_eq slice mark → r ≡ false → end_place c text ≡ option_map (λ n. n + at) (end_place c (drop at text)) →
     end_place c text ≡ option_map (λ n. n + (at + 1)) (end_place c (drop (at + 1) text))
 end_not_found c text slice mark at r within slice_is mark_is r_is later so_far =
     so_far ∙ ap (option_map (λ n. n + at))
     (end_place-later c (drop at text) (omega (arith, length-drop at text))
-    (ap (λ s. starts_with nat_eq s (end_of c)) (sym slice_is) ∙ ap (starts_with nat_eq slice) (sym mark_is) ∙ sym r_is ∙ later)
+    (ap (λ s. starts_with nat_eq s (end_mark c)) (sym slice_is) ∙ ap (starts_with nat_eq slice) (sym mark_is) ∙ sym r_is ∙ later)
     ∙ ap (λ s. option_map (λ n. n + 1) (end_place c s)) (drop-drop 1 at text))
     ∙ moved (end_place c (drop (at + 1) text)) at
 

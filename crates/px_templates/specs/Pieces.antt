@@ -6,7 +6,7 @@ use Rattle.px_templates.specs.declared.symbols.Symbol.{Symbol}
 use Rattle.px_templates.specs.declared.conditions.Condition.{Condition}
 use Rattle.px_templates.specs.declared.fronts.TemplateFront.{TemplateFront}
 use Rattle.px_templates.specs.declared.fronts.TemplateFront.TheVariants as front
-use Rattle.px_templates.specs.Symbols.{mark_of, symbol_at, start_of, end_of, condition_at}
+use Rattle.px_templates.specs.Symbols.{mark_of, symbol_at, start_of, end_mark, condition_at}
 
 -- a byte as it is, or the value of a symbol
 pub data PiecePart : Type 0 where
@@ -36,7 +36,7 @@ parts_behind c zero (b ∷ bs) =
 -- the first place of a text at which the mark that ends a block stands
 unfoldable pub end_place : Condition → List ℕ → Option ℕ
 end_place c [] = None
-end_place c (b ∷ bs) = if starts_with nat_eq (b ∷ bs) (end_of c) then Some 0 else option_map (λ n. n + 1) (end_place c bs)
+end_place c (b ∷ bs) = if starts_with nat_eq (b ∷ bs) (end_mark c) then Some 0 else option_map (λ n. n + 1) (end_place c bs)
 
 -- a block whose first mark begins the text, or that mark where no other ends it
 abbrev pub block_at : Condition → List ℕ → TemplateFront
@@ -52,7 +52,7 @@ front_at text =
 abbrev pub width : TemplateFront → ℕ
 width front.Byte = 1
 width (front.Value s) = length (mark_of s)
-width (front.Block c n) = length (start_of c) + n + length (end_of c)
+width (front.Block c n) = length (start_of c) + n + length (end_mark c)
 width front.Open = 1
 
 -- the pieces of what stands at the front of a text

@@ -38,9 +38,9 @@ abbrev pub start_of : Condition → List ℕ
 start_of condition.BlockReason = codes "@if-block-reason-start"
 start_of condition.Parent = codes "@if-parent-start"
 
-abbrev pub end_of : Condition → List ℕ
-end_of condition.BlockReason = codes "if-block-reason-end@"
-end_of condition.Parent = codes "if-parent-end@"
+abbrev pub end_mark : Condition → List ℕ
+end_mark condition.BlockReason = codes "if-block-reason-end@"
+end_mark condition.Parent = codes "if-parent-end@"
 
 -- the condition with whose first mark a text begins
 unfoldable pub condition_at : List ℕ → Option Condition

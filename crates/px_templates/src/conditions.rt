@@ -1,6 +1,6 @@
 // The conditions of a template: values by which a block stands or falls.
 ghost use Rattle.std.specs.Prelude.{◌≡◌, ◌≤◌, length, IfSome};
-ghost use Rattle.px_templates.specs.Symbols.{condition_at, end_of, condition_holds, start_of, symbol_of};
+ghost use Rattle.px_templates.specs.Symbols.{condition_at, end_mark, condition_holds, start_of, symbol_of};
 
 use crate::symbols::{Symbol, Symbols};
 
@@ -23,7 +23,7 @@ impl Condition {
 
     /// The mark that ends a block.
     pub(crate) fn end(self) -> &'static [u8]
-        ensures { result.now ≡ end_of self }
+        ensures { result.now ≡ end_mark self }
     {
         match self {
             Condition::BlockReason => b"if-block-reason-end@",

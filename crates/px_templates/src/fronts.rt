@@ -1,6 +1,6 @@
 // What stands at the front of a text that no block holds.
 ghost use Rattle.std.specs.Prelude.{◌≡◌, ◌+◌, ◌<◌, ◌≤◌, length, IfSome};
-ghost use Rattle.px_templates.specs.Symbols.{end_of, start_of};
+ghost use Rattle.px_templates.specs.Symbols.{end_mark, start_of};
 ghost use Rattle.px_templates.specs.Pieces.{block_at, end_place, front_at, width};
 
 use crate::conditions::Condition;
@@ -51,7 +51,7 @@ fn block_at(condition: Condition, text: &[u8]) -> TemplateFront
 /// The first place at which the mark that ends a block stands.
 fn end_place(condition: Condition, text: &[u8]) -> Option<usize>
     ensures place { result ≡ end_place condition text.now }
-    ensures within { IfSome result (λ n. n + length (end_of condition) ≤ length text.now) }
+    ensures within { IfSome result (λ n. n + length (end_mark condition) ≤ length text.now) }
 {
     for at in 0..text.len() {
         if text[at..].starts_with(condition.end()) {

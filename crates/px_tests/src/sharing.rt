@@ -86,6 +86,7 @@ fn was_shared(rt: &impl Abort, alloc: Global, ends: &Ends, shared: SharedSession
         session,
         dialer,
         wanting,
+        history: _,
     } = shared;
     let replies = twice(rt, alloc, REPLY);
     same(rt, ends.client_out.taken(), replies.as_bytes());
@@ -142,6 +143,7 @@ fn a_link_that_gave_too_much_is_not_shared(rt: HostRuntime) {
         session,
         dialer,
         wanting: _,
+        history: _,
     } = shared;
     same(&rt, session.end, SessionEnd::Closed);
     begins_with_one_reply(&rt, ends.client_out.taken());

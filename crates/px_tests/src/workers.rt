@@ -7,8 +7,8 @@ ghost use Rattle.px_doors.specs.Doors.{DoorsGoesOn, Parts as TakesPart, untold_d
 
 use crate::common::same;
 use px_base::{
-    Clock, DialFault, Dialer, Failed, FixedClock, List, Mem, MemFiles, Peer, Sink, SinkFault,
-    Source, TapeIn, TapeOut, Text,
+    Clock, DialFault, Dialer, Failed, FixedClock, List, Mem, MemFiles, Peer, Rests, Sink,
+    SinkFault, Source, TapeIn, TapeOut, Text,
 };
 use px_doors::{AcceptFault, Conn, Doors, ListenAddress, Parted};
 use px_serve_command::{DeskParts, Proxied, ReloadCounts, run_proxy};
@@ -95,6 +95,12 @@ impl<'c> Source for Waiting<'c> {
         }
         self.faults = self.faults.saturating_add(1);
         Err(Failed)
+    }
+}
+
+impl<'c> Rests for Waiting<'c> {
+    fn has_ended(&mut self) -> bool {
+        false
     }
 }
 
@@ -264,6 +270,10 @@ impl<'c> Doors for WaitingDoors<'c> {
             Err(Mem) => Err(AcceptFault::Mem),
         }
     }
+
+    fn leave(_client_in: &mut TapeIn, _client_out: &mut Told<'c>) {}
+
+    fn rest(_dialer: &mut Origin<'c>) {}
 
     fn part(&mut self, parted: RowParted<'c>)
         ensures parts { TakesPart (⟦<WaitingDoors<'c> as Doors>⟧.state self.old) (⟦<WaitingDoors<'c> as Doors>⟧.state self.new) (parted_as ⟦<TapeIn as Source>⟧.state ⟦<Told<'c> as Sink>⟧.state ⟦<Origin<'c> as Dialer>⟧.state ⟦<FixedClock as Clock>⟧.state parted.entry) }

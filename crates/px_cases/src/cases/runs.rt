@@ -478,6 +478,7 @@ fn share_links<R: Threads + Sync>(
         session,
         dialer,
         wanting: _,
+        history: _,
     } = serve_shared(
         run.alloc,
         &Way::AtOnce(rt),

@@ -7,10 +7,10 @@ use Rattle.px_proxy.proofs.workers.serve_each.Given as goal
 
 abbrev pub invariant-more : goal.invariant-more
 invariant-more g l = record {
-  parts : l.share.parts ≡ l.initial.share.parts;
   pair : reader_pair l.reader ≡ g.N.Making.made.pair;
-  counted : IfSome l.next (λ _. l.share.amount ≡ 1);
-  closed : IfNone l.next (l.share.amount ≡ 0);
+  counted : IfSome l.next (λ _. l.mine.out.amount ≡ 1);
+  closed : IfNone l.next (l.mine.out.amount ≡ 0);
+  told : IfNone l.next (0 < l.mine.told.amount);
   nth : IfSome l.next (λ task. IsNth g.N.Making.made.doors.tells g.N.Making.made.doors.conns task.number (conn_as g.A.In.Source.state g.A.Out.Sink.state g.A.Dial.Dialer.state g.A.Time.Clock.state task.conn));
   learnt : IfSome l.next (λ task. task.handed < length (seen_by l.reader));
 }

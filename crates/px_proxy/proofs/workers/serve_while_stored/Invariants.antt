@@ -7,8 +7,7 @@ use Rattle.px_proxy.proofs.workers.serve_while_stored.Given as goal
 
 abbrev pub invariant-same : goal.invariant-same
 invariant-same g l = record {
-  parts : l.share.parts ≡ l.initial.share.parts;
-  one : l.share.amount ≡ 1;
+  one : l.mine.out.amount ≡ 1;
   pair : reader_pair l.reader ≡ g.N.Making.made.pair;
   stored : IsStored (seen_by l.reader) l.store;
   nth : IsNth g.N.Making.made.doors.tells g.N.Making.made.doors.conns l.task.number (conn_as g.A.In.Source.state g.A.Out.Sink.state g.A.Dial.Dialer.state g.A.Time.Clock.state l.task.conn);

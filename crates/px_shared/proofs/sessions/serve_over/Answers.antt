@@ -20,6 +20,8 @@ returns-clause-shares g c =
       reach = (g.D.Dialer.state p.inner).reach;
       link_reads = p.link_reads;
       link_writes = p.link_writes;
+      opened = p.opened;
+      hung_up = p.hung_up;
       mark = (g.D.Dialer.state p.inner).mark;
     } in
     let pool : DialerState = record {
@@ -32,14 +34,17 @@ returns-clause-shares g c =
       reach = (g.D.Dialer.state q.inner).reach;
       link_reads = q.link_reads;
       link_writes = q.link_writes;
+      opened = q.opened;
+      hung_up = q.hung_up;
       mark = (g.D.Dialer.state q.inner).mark;
     } in
     let inner = c.new-pool.ensures.inner in
     let left = c.into_inner.ensures.goes_on in
-    shares _ _ _ _ _ _ _ made pool q.history g.N.Base.dialled
-    (rw (inner, c.new-pool.ensures.history, c.new-pool.ensures.no_link_read_failed, c.new-pool.ensures.no_link_write_failed) refl) (sym c.requires.base) c.serve_connection-session.ensures.lasts.dialer (record {
+    rw c.history-history.ensures
+    (shares _ _ _ _ _ _ _ made pool q.history g.N.Base.dialled
+    (rw (inner, c.new-pool.ensures.history, c.new-pool.ensures.no_link_read_failed, c.new-pool.ensures.no_link_write_failed, c.new-pool.ensures.none_opened, c.new-pool.ensures.none_hung_up) refl) (sym c.requires.base) c.serve_connection-session.ensures.lasts.dialer (record {
       tells = left.tells_same;
       names_later = left.names_later;
       reach_later = left.reach_later;
       mark = left.mark_same;
-    }) c.serve_connection-session.ensures.serves c.into_inner.ensures.told c.into_inner.ensures.joined c.into_inner.ensures.due c.into_inner.ensures.judged c.wanting-wanting.ensures
+    }) c.serve_connection-session.ensures.serves c.into_inner.ensures.told c.into_inner.ensures.joined c.into_inner.ensures.due c.into_inner.ensures.judged c.wanting-wanting.ensures)

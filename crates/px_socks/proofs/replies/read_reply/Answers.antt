@@ -1,5 +1,5 @@
 use Rattle.std.proofs.Common.{arith, ◌∙◌, refl}
-use Rattle.px_socks.proofs.ReplyLemmas.{took_reply, some_behind, some_counted, unfilled}
+use Rattle.px_socks.proofs.ReplyLemmas.{took_reply, few_taken, cut_taken, unfilled}
 use Rattle.px_socks.proofs.replies.read_reply.Goals as goal
 
 pub returns-clause-bytes : goal.returns-clause-bytes
@@ -8,16 +8,21 @@ returns-clause-bytes g c = λ t.
     c.in-Some.more (omega arith) c.in-Some.ensures.rest (c.in_ok-read_whole.ensures.whole t c.if-not-branch.false)
     (c.in_ok-read_past.ensures.whole (c.in_ok-read_whole.ensures.goes_on.tells_same ∙ t) c.if-not-branch-2.false)
 
-pub returns-in_err-read_past-clause-some : goal.returns-in_err-read_past-clause-some
-returns-in_err-read_past-clause-some g c = λ t.
-    some_behind _ _ _ _ (c.in_ok-read_whole.ensures.whole t c.if-not-branch.false) (c.in_err-read_past.ensures.fewer (c.in_ok-read_whole.ensures.goes_on.tells_same ∙ t) (λ e. absurd (cc)))
+pub returns-in_err-read_whole-clause-front : goal.returns-in_err-read_whole-clause-front
+returns-in_err-read_whole-clause-front g c = λ t none. few_taken _ _ _ (omega arith) (c.in_err-read_whole.ensures.fewer t (λ e. absurd (cc)))
 
-pub returns-then-not-branch-2-clause-some : goal.returns-then-not-branch-2-clause-some
-returns-then-not-branch-2-clause-some g c = λ t.
-    some_behind _ _ _ _ (c.in_ok-read_whole.ensures.whole t c.if-not-branch.false)
+pub returns-then-not-branch-clause-front : goal.returns-then-not-branch-clause-front
+returns-then-not-branch-clause-front g c = λ t none. few_taken _ _ _ (omega arith) (c.in_ok-read_whole.ensures.fewer t (unfilled _ _ refl c.if-not-branch.true))
+
+pub returns-clause-front : goal.returns-clause-front
+returns-clause-front g c = λ t none. absurd (none _ refl)
+
+pub returns-in_err-read_past-clause-front : goal.returns-in_err-read_past-clause-front
+returns-in_err-read_past-clause-front g c = λ t none.
+    cut_taken c.read_whole.new.buf _ _ _ c.in-Some.more (omega arith) c.in-Some.ensures.rest (c.in_ok-read_whole.ensures.whole t c.if-not-branch.false)
+    (c.in_err-read_past.ensures.fewer (c.in_ok-read_whole.ensures.goes_on.tells_same ∙ t) (λ e. absurd (cc)))
+
+pub returns-then-not-branch-2-clause-front : goal.returns-then-not-branch-2-clause-front
+returns-then-not-branch-2-clause-front g c = λ t none.
+    cut_taken c.read_whole.new.buf _ _ _ c.in-Some.more (omega arith) c.in-Some.ensures.rest (c.in_ok-read_whole.ensures.whole t c.if-not-branch.false)
     (c.in_ok-read_past.ensures.fewer (c.in_ok-read_whole.ensures.goes_on.tells_same ∙ t) (unfilled _ _ refl c.if-not-branch-2.true))
-
-pub returns-clause-some : goal.returns-clause-some
-returns-clause-some g c = λ t.
-    some_behind _ _ _ _ (c.in_ok-read_whole.ensures.whole t c.if-not-branch.false)
-    (some_counted _ _ _ (c.in_ok-read_past.ensures.whole (c.in_ok-read_whole.ensures.goes_on.tells_same ∙ t) c.if-not-branch-2.false))

@@ -2,7 +2,7 @@ use Rattle.std.proofs.Common.{◌≡◌, ◌++◌, ◌+◌, ◌∙◌, ap, Some,
 use Rattle.std.proofs.lemmas.List.{take_rest}
 use Rattle.px_templates.specs.declared.fronts.TemplateFront.TheVariants as front
 use Rattle.px_templates.specs.Pieces.{parts_behind}
-use Rattle.px_templates.specs.Symbols.{start_of, end_of}
+use Rattle.px_templates.specs.Symbols.{start_of, end_mark}
 use Rattle.px_templates.specs.Runs.{held_pieces}
 use Rattle.px_templates.proofs.PieceLemmas.{ended_all, inside-is, open_here, pieces_byte, pieces_end, pieces_front, pieces_init}
 use Rattle.px_templates.proofs.templates.read_runs.Goals as goal
@@ -27,7 +27,7 @@ fronts-preserved c =
     let k = c.in-Block.condition in
     let n = c.in-Block.len in
     let starts : length c.start.result.now ≡ length (start_of k) = ap length c.start.ensures in
-    let ends : length c.end.result.now ≡ length (end_of k) = ap length c.end.ensures in
+    let ends : length c.end.result.now ≡ length (end_mark k) = ap length c.end.ensures in
     pieces_front c.args.text.now _ c.fronts.from c.fronts.at (c.fronts.at + length c.start.result.now + n + length c.end.result.now) (front.Block k n)
     c.fronts.runs.items c.push_bytes-in-Block.new.runs.items c.push_parts.new.runs.items c.fronts.invariant c.fronts-test.true
     (take_rest c.args.text.now c.fronts.at) c.in-Block.ensures.front c.in-Block.ensures.within (λ e. cc) (omega arith)

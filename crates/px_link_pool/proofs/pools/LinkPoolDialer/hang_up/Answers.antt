@@ -9,7 +9,7 @@ use Rattle.px_link_pool.specs.Joins.{over}
 use Rattle.px_link_pool.specs.Standing.{kept_state}
 use Rattle.px_link_pool.proofs.MarkLemmas.{IsLent, lent_by}
 use Rattle.px_link_pool.proofs.StandingLemmas.{told_parts}
-use Rattle.px_link_pool.proofs.HandingLemmas.{shelved_by, handed_by, none_stands, some_told, some_stands, shelved_states, same_kept, handed_tells, closes_some, closes_none}
+use Rattle.px_link_pool.proofs.HandingLemmas.{shelved_by, handed_by, none_stands, some_told, some_stands, shelved_states, same_kept, handed_tells, closes_some, closes_none, counted_by}
 use Rattle.px_link_pool.proofs.JoinLemmas.{joins_back}
 use Rattle.px_link_pool.proofs.pools.LinkPoolDialer.hang_up.Goals as goal
 
@@ -25,10 +25,10 @@ invariant_of-self-in-None g c =
       told = λ t. handed_tells _ _ _ _ _ _ _ _ _ _ _ _ _ (c.args.self.now.told t) (same_kept _ _ _ _ _ _ _ c.of-noted_host.ensures (ap inner_source c.of-noted_in.ensures ∙ sym c.handed-link.ensures.source) (ap inner_sink c.of-noted_out.ensures ∙ sym c.handed-link.ensures.sink)) (closes_none g.D.In.Source.state g.D.Out.Sink.state _ _ c.in-None.is) (c.hung_up.ensures.inner _ _ _)
           (c.hung_up.ensures.kept (record { ins = g.D.In.Source.state; outs = g.D.Out.Sink.state })) (c.hung_up.ensures.due (record { ins = g.D.In.Source.state; outs = g.D.Out.Sink.state })) (shelved_states _ _ _ _ _ _ _ shelved) (rw (c.of-noted_in.ensures, c.of-noted_out.ensures) c.handed-link.ensures.exactly);
       joins = λ t. joins_back (record { ins = g.D.In.Source.state; outs = g.D.Out.Sink.state }) _ _ _ _ _ _ _ c.handed-link.result.0 _ _ _ c.args.link_in c.args.link_out (traffic (outer_source c.args.link_in) (outer_sink c.args.link_out)) (traffic (inner_source c.args.link_in) (inner_sink c.args.link_out)) (c.args.self.now.joins t) shelved c.args.self.now.stands t
-          c.handed-link.ensures.source c.handed-link.ensures.sink (lent t) (c.handed-link.ensures.later (lent t).in_tells) (c.handed-link.ensures.judged (lent t).in_tells (lent t).out_tells).sent
-          (rw (c.of-noted_in.ensures, c.of-noted_out.ensures) at (c.hung_up.ensures.over (record { ins = g.D.In.Source.state; outs = g.D.Out.Sink.state }))) (c.hung_up.ensures.joined _ (record { ins = g.D.In.Source.state; outs = g.D.Out.Sink.state })) (closes_none g.D.In.Source.state g.D.Out.Sink.state _ _ c.in-None.is)
+          c.handed-link.ensures.source c.handed-link.ensures.sink c.handed-link.ensures.host c.handed-link.ensures.port (lent t) (c.handed-link.ensures.later (lent t).in_tells) (c.handed-link.ensures.judged (lent t).in_tells (lent t).out_tells).sent
+          (rw (c.of-noted_in.ensures, c.of-noted_out.ensures) at (c.hung_up.ensures.over (record { ins = g.D.In.Source.state; outs = g.D.Out.Sink.state }))) (c.hung_up.ensures.home (record { ins = g.D.In.Source.state; outs = g.D.Out.Sink.state })) (c.hung_up.ensures.joined _ (record { ins = g.D.In.Source.state; outs = g.D.Out.Sink.state })) (closes_none g.D.In.Source.state g.D.Out.Sink.state _ _ c.in-None.is)
           (rw (c.of-noted_in.ensures, c.of-noted_out.ensures) at (c.hung_up.ensures.dials outer_source outer_sink)) (rw (c.of-noted_in.ensures, c.of-noted_out.ensures) at (c.hung_up.ensures.dials inner_source inner_sink)) (rw (c.of-noted_in.ensures, c.of-noted_out.ensures) at (c.hung_up.ensures.lent (record { ins = g.D.In.Source.state; outs = g.D.Out.Sink.state })));
-      counts = c.raised-self-3.ensures.counted ∙ ap (λ b. counted_up b c.args.self.now.wanting) c.has_lost.ensures ∙ ap (counted_up (is_lost c.args.link_in.following)) c.args.self.now.counts ∙ sym (c.hung_up.ensures.wanted ∙ ap (λ h. counted_up (is_lost h.following) (wanting_count c.args.self.now.history)) c.of-noted_in.ensures);
+      counts = counted_by c.has_lost.result c.args.self.now.wanting c.raised-self-3.result c.raised-self-3.ensures.exact ∙ ap (λ b. counted_up b c.args.self.now.wanting) c.has_lost.ensures ∙ ap (counted_up (is_lost c.args.link_in.following)) c.args.self.now.counts ∙ sym (c.hung_up.ensures.wanted ∙ ap (λ h. counted_up (is_lost h.following) (wanting_count c.args.self.now.history)) c.of-noted_in.ensures);
       judged = λ t. ∥∥₁_map (c.args.self.now.judged t) (c.hung_up.ensures.judged (rw (c.of-noted_in.ensures, c.of-noted_out.ensures) (c.handed-link.ensures.judged (lent t).in_tells (lent t).out_tells)));
     }
 
@@ -62,9 +62,9 @@ invariant_of-self g c =
       told = λ t. let was = sym c.hang_up.ensures.goes_on.tells_same ∙ t in handed_tells _ _ _ _ _ _ _ _ _ _ _ _ _ (c.args.self.now.told was) (same_kept _ _ _ _ _ _ _ c.of-noted_host.ensures (ap inner_source c.of-noted_in.ensures ∙ sym c.handed-link.ensures.source) (ap inner_sink c.of-noted_out.ensures ∙ sym c.handed-link.ensures.sink)) (closes_some g.D.In.Source.state g.D.Out.Sink.state _ c.in-Some.closing _ _ c.in-Some.is (c.hang_up.ensures.hung_up.dials was)) (c.hung_up.ensures.inner _ _ _)
           (c.hung_up.ensures.kept (record { ins = g.D.In.Source.state; outs = g.D.Out.Sink.state })) (c.hung_up.ensures.due (record { ins = g.D.In.Source.state; outs = g.D.Out.Sink.state })) (shelved_states _ _ _ _ _ _ _ shelved) (rw (c.of-noted_in.ensures, c.of-noted_out.ensures) c.handed-link.ensures.exactly);
       joins = λ t. let was = sym c.hang_up.ensures.goes_on.tells_same ∙ t in joins_back (record { ins = g.D.In.Source.state; outs = g.D.Out.Sink.state }) _ _ _ _ _ _ _ c.handed-link.result.0 _ _ _ c.args.link_in c.args.link_out (traffic (outer_source c.args.link_in) (outer_sink c.args.link_out)) (traffic (inner_source c.args.link_in) (inner_sink c.args.link_out)) (c.args.self.now.joins was) shelved c.args.self.now.stands was
-          c.handed-link.ensures.source c.handed-link.ensures.sink (lent was) (c.handed-link.ensures.later (lent was).in_tells) (c.handed-link.ensures.judged (lent was).in_tells (lent was).out_tells).sent
-          (rw (c.of-noted_in.ensures, c.of-noted_out.ensures) at (c.hung_up.ensures.over (record { ins = g.D.In.Source.state; outs = g.D.Out.Sink.state }))) (c.hung_up.ensures.joined _ (record { ins = g.D.In.Source.state; outs = g.D.Out.Sink.state })) (closes_some g.D.In.Source.state g.D.Out.Sink.state _ c.in-Some.closing _ _ c.in-Some.is (c.hang_up.ensures.hung_up.dials was))
+          c.handed-link.ensures.source c.handed-link.ensures.sink c.handed-link.ensures.host c.handed-link.ensures.port (lent was) (c.handed-link.ensures.later (lent was).in_tells) (c.handed-link.ensures.judged (lent was).in_tells (lent was).out_tells).sent
+          (rw (c.of-noted_in.ensures, c.of-noted_out.ensures) at (c.hung_up.ensures.over (record { ins = g.D.In.Source.state; outs = g.D.Out.Sink.state }))) (c.hung_up.ensures.home (record { ins = g.D.In.Source.state; outs = g.D.Out.Sink.state })) (c.hung_up.ensures.joined _ (record { ins = g.D.In.Source.state; outs = g.D.Out.Sink.state })) (closes_some g.D.In.Source.state g.D.Out.Sink.state _ c.in-Some.closing _ _ c.in-Some.is (c.hang_up.ensures.hung_up.dials was))
           (rw (c.of-noted_in.ensures, c.of-noted_out.ensures) at (c.hung_up.ensures.dials outer_source outer_sink)) (rw (c.of-noted_in.ensures, c.of-noted_out.ensures) at (c.hung_up.ensures.dials inner_source inner_sink)) (rw (c.of-noted_in.ensures, c.of-noted_out.ensures) at (c.hung_up.ensures.lent (record { ins = g.D.In.Source.state; outs = g.D.Out.Sink.state })));
-      counts = c.raised-self-3.ensures.counted ∙ ap (λ b. counted_up b c.args.self.now.wanting) c.has_lost.ensures ∙ ap (counted_up (is_lost c.args.link_in.following)) c.args.self.now.counts ∙ sym (c.hung_up.ensures.wanted ∙ ap (λ h. counted_up (is_lost h.following) (wanting_count c.args.self.now.history)) c.of-noted_in.ensures);
+      counts = counted_by c.has_lost.result c.args.self.now.wanting c.raised-self-3.result c.raised-self-3.ensures.exact ∙ ap (λ b. counted_up b c.args.self.now.wanting) c.has_lost.ensures ∙ ap (counted_up (is_lost c.args.link_in.following)) c.args.self.now.counts ∙ sym (c.hung_up.ensures.wanted ∙ ap (λ h. counted_up (is_lost h.following) (wanting_count c.args.self.now.history)) c.of-noted_in.ensures);
       judged = λ t. let was = sym c.hang_up.ensures.goes_on.tells_same ∙ t in ∥∥₁_map (c.args.self.now.judged was) (c.hung_up.ensures.judged (rw (c.of-noted_in.ensures, c.of-noted_out.ensures) (c.handed-link.ensures.judged (lent was).in_tells (lent was).out_tells)));
     }

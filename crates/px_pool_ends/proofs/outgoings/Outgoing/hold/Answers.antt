@@ -1,7 +1,7 @@
 use Rattle.std.proofs.Common.{Some}
 use Rattle.px_base.specs.declared.faults.SinkFault.TheVariants as fault
 use Rattle.std.proofs.Common.{◌∙◌, sym}
-use Rattle.px_pool_ends.proofs.SendLemmas.{keeps_held, keeps_sent, wrote_held, sends_none, refusal_sent, refusal_cause, refusal_none, both_values}
+use Rattle.px_pool_ends.proofs.SendLemmas.{keeps_held, keeps_sent, wrote_held, sends_none, refusal_sent, refusal_cause, refusal_none, both_values, open_held}
 use Rattle.px_pool_ends.proofs.outgoings.Outgoing.hold.Goals as goal
 
 pub invariant_of-self : goal.invariant_of-self
@@ -23,6 +23,7 @@ invariant_of-self-2 g c =
     (λ e. rw c.as_bytes-2.ensures at (refusal_sent c.self.inside.stopped c.send-sent.result _ c.send-sent.ensures.all (sym c.last_refusal-self-inside.ensures ∙ e)))
     (λ e. refusal_cause _ (g.O.LocalSink.state c.self.inside.sink) (g.O.LocalSink.state c.send-sent.new.sink) c.self.inside.stopped c.send-sent.result c.self.invariant.cause c.self.invariant.later c.send-sent.ensures.cause (sym c.last_refusal-self-inside.ensures ∙ e))
     (λ e z. refusal_none _ c.self.inside.faults (g.O.LocalSink.state c.self.inside.sink) (g.O.LocalSink.state c.send-sent.new.sink) c.self.inside.stopped c.send-sent.result c.self.invariant.clean c.send-sent.ensures.cause (sym c.last_refusal-self-inside.ensures ∙ e) z)
+    (open_held _ c.self.invariant (rw (← c.self.view_is) at c.requires.holding))
 
 pub returns : goal.returns
 returns g c =
