@@ -9,6 +9,7 @@ use px_filter_files::FilterFault;
 use px_framing::BodyFault;
 use px_head::HeadFault;
 use px_headers::HeaderFault;
+use px_host_lists::ListFault;
 use px_patterns::{PatternFault, UrlFault};
 use px_subst::JobFault;
 use px_templates::TemplateFault;
@@ -112,6 +113,16 @@ impl From<HeadFault> for Fault {
         match fault {
             HeadFault::Mem => Fault::Mem,
             _ => refused(fault.number(), fault.name()),
+        }
+    }
+}
+
+impl From<ListFault> for Fault {
+    fn from(fault: ListFault) -> Fault {
+        match fault {
+            ListFault::Mem => Fault::Mem,
+            ListFault::TooLong { line: _ } => Fault::Form("the list has too many bytes"),
+            ListFault::TooMany { line: _ } => Fault::Form("the list has too many hosts"),
         }
     }
 }

@@ -25,6 +25,7 @@ pub(crate) fn gives(kind: &str, row: &Row<'_>) -> Result<Text, Fault> {
         "words" => actions::words(row),
         "sets" => actions::sets(row),
         "lines" => files::lines(row),
+        "lists" => files::lists(row),
         "actions" => files::actions(row),
         "refusals" => files::refusals(row),
         "jobs" => files::jobs(row),

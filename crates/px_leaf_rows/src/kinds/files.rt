@@ -5,6 +5,7 @@ use crate::kinds::made::{as_str, filter_file_of, lines_of, push_item, said, vars
 use crate::leaves::Row;
 use px_action_files::{ActionFile, Pattern, refusal_name};
 use px_base::{List, Text};
+use px_host_lists::{ListNotes, read_list};
 use px_subst::{Filter, Job, JobOutcome, Vars};
 use std::alloc::Global;
 
@@ -20,6 +21,34 @@ pub(crate) fn lines(row: &Row<'_>) -> Result<Text, Fault> {
         out.push_all(line.text.as_bytes())?;
     }
     Ok(out)
+}
+
+/// The line that a list's file has for each asked host, or `-`, and behind them how many hosts it has, and on how many lines
+/// something else stands, and the first of these.
+pub(crate) fn lists(row: &Row<'_>) -> Result<Text, Fault> {
+    let read = read_list(row.alloc, row.file("file")?.as_bytes())?;
+    let mut out = Text::new(row.alloc);
+    for host in row.items("asked")?.as_slice() {
+        match read.list.find(host.as_bytes()) {
+            Some(line) => push_item(&mut out, format!(in row.alloc; "{line}")?.as_bytes())?,
+            None => push_item(&mut out, b"-")?,
+        }
+    }
+    push_notes(row.alloc, &mut out, &read.notes)?;
+    Ok(out)
+}
+
+/// Adds the notes on a list's file.
+fn push_notes(alloc: Global, out: &mut Text, notes: &ListNotes) -> Result<(), Fault> {
+    let (taken, passed) = (notes.taken, notes.passed);
+    push_item(out, format!(in alloc; "{taken} hosts")?.as_bytes())?;
+    match notes.first_passed {
+        Some(line) => push_item(
+            out,
+            format!(in alloc; "{passed} passed, first {line}")?.as_bytes(),
+        ),
+        None => Ok(()),
+    }
 }
 
 /// The name of the refusal that a number names in an actions file.

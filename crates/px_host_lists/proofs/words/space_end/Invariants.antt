@@ -1,0 +1,7 @@
+use Rattle.std.proofs.Common.{◌≡◌, ◌+◌, drop}
+use Rattle.std.specs.List.{prefix_len}
+use Rattle.px_host_lists.specs.Words.{is_space}
+use Rattle.px_host_lists.proofs.words.space_end.Given as goal
+
+abbrev pub invariant-loop-at : goal.invariant-loop-at
+invariant-loop-at l = prefix_len is_space l.text ≡ l.at + prefix_len is_space (drop l.at l.text)
