@@ -10,6 +10,9 @@ use Rattle.px_base.specs.Moments.{ClockState}
 use Rattle.px_base.specs.Dials.{DialerState}
 use Rattle.px_socks.specs.Ends.{InnerSource, InnerSink, socks_source, socks_sink}
 use Rattle.px_link_pool.specs.Histories.{Views}
+use Rattle.px_link_pool.specs.declared.histories.History.{History}
+use Rattle.px_pool_ends.specs.Incomings.{Hearing}
+use Rattle.px_pool_ends.specs.Outgoings.{Sending}
 use Rattle.px_exchange.specs.declared.notes.ExchangeNote.{ExchangeNote}
 use Rattle.px_serve.specs.declared.ends.SessionEnd.{SessionEnd}
 use Rattle.px_serve.specs.Histories.{Looks}
@@ -40,7 +43,9 @@ pub record SharesLinks {S T : Type 0} (v : Views S T) (caller : Caller) (looks :
   pub notes : List ExchangeNote
   -- for how many links memory was wanting while their answer was followed
   pub wanting : ℕ
-  pub shares : Shares v caller (record { looks = looks; client_in = i; client_out = o; inner = d; clock = t }) (record { looks = looks_after; client_in = i'; client_out = o'; inner = d'; clock = t' }) notes e wanting
+  -- what was done with the pool
+  pub history : History Hearing Sending S T
+  pub shares : Shares v caller (record { looks = looks; client_in = i; client_out = o; inner = d; clock = t }) (record { looks = looks_after; client_in = i'; client_out = o'; inner = d'; clock = t' }) notes e wanting history
 
 -- a session over a dialer, by whether its requests share links
 abbrev pub ServesClient : {S T : Type 0} → Views S T → Bool → Caller → Looks → SourceState → SourceState → SinkState → SinkState → DialerState → DialerState → ClockState → ClockState → SessionEnd → Type 0

@@ -5,5 +5,6 @@ returns-clause-shares g c = record {
   looks_after = _;
   notes = c.serve_shared-session.result.session.exchanges;
   wanting = c.serve_shared-session.result.wanting;
+  history = c.serve_shared-session.result.history.value;
   shares = rw c.as_slice.ensures at c.serve_shared-session.ensures.shares;
 }
