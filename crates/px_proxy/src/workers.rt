@@ -55,7 +55,7 @@ struct Shared<N: Making, L: Ledger, F: Files, A: Doors, E: Sink> {
     told: Book<L>,
     ghost made: { made_of F.state A.state E.state desk ≡ N.made },
     ghost counted: { out.total ≡ length desk.out },
-    ghost open: { IfNone desk.closing (told.total ≡ 0) },
+    ghost open: { desk.closing ≡ None → told.total ≡ 0 },
 }
 
 /// A worker's shares of both books: the connections that it has out, and how often it was told that no more come.
