@@ -1,23 +1,27 @@
 -- The pattern of a host matches what the host's name stands for.
-use Rattle.std.proofs.Common.{◌≡◌, ℕ, suc, ◌+◌, ◌-◌, Bool, true, false, cond, List, [], ◌∷◌, length, map, take, refl, ap, sym, ◌∙◌, arith, true≢false, All}
+use Rattle.std.proofs.Common.{not, ◌≡◌, ℕ, suc, ◌+◌, ◌-◌, Bool, true, false, cond, List, [], ◌∷◌, length, map, take, refl, ap, sym, ◌∙◌, arith, true≢false, All}
 use Rattle.std.specs.Prelude.{◌==◌, ◌&&◌, ◌||◌, nat_lt, slice_index, Some, None, Ok, Err, option_map}
 use Rattle.std.specs.Char.{to_ascii_lowercase, eq_ignore_ascii_case}
-use Rattle.std.specs.List.{list_all, list_any, onto_first}
+use Rattle.std.specs.List.{after_first, before_first, list_all, list_any, onto_first, position_or_len}
 use Rattle.std.specs.Str.{str_eq_ignore_ascii_case}
 use Rattle.std.proofs.lemmas.Bool.{eqb-true, ltb-false, ne_eqb}
 use Rattle.std.proofs.lemmas.List.Elements.{All-head, All-tail}
 use Rattle.px_host_lists.specs.Hosts.{HostEntry, is_listed, is_named_above, is_named_by, without_end_dot}
 use Rattle.px_host_lists.specs.Names.{is_host, is_host_label, is_label_byte, is_numeric}
 use Rattle.px_host_lists.specs.Readings.{list_entries}
+use Rattle.px_host_lists.proofs.AddressLemmas.{label-bytes, passes, weaker}
 use Rattle.px_host_lists.proofs.HeldLemmas.{entries-hosts}
 use Rattle.px_host_lists.proofs.ListedLemmas.{listed-any}
 use Rattle.px_patterns.specs.Globs.{is_wild, items_from, label_of, some_tail}
 use Rattle.px_patterns.specs.Hosts.{ends_with_dot, host_matches, host_pattern, is_every_host, labels_in, labels_match, labels_of, labels_pattern, with_label, with_labels, without_last_dot}
+use Rattle.px_patterns.specs.Patterns.{begins_path, begins_ports, path_expression, path_pattern, pattern_of_parts, port_text, ports_of, url_matches, url_pattern, with_host_pattern, with_parts}
 use Rattle.px_patterns.specs.declared.faults.PatternFault.TheVariants.{EmptyLabel}
 use Rattle.px_patterns.specs.declared.hosts.HostLabels.{HostLabels}
+use Rattle.px_patterns.specs.declared.hosts.HostPart.TheVariants.{Pattern}
 use Rattle.px_patterns.specs.declared.hosts.HostPattern.TheVariants.{Always, Labels}
 use Rattle.px_patterns.specs.declared.labels.LabelPattern.{LabelPattern}
 use Rattle.px_patterns.specs.declared.labels.LabelPattern.TheVariants.{Glob, Plain}
+use Rattle.px_patterns.specs.declared.urls.Url.{Url}
 use Rattle.px_list_patterns.specs.Dotted.{is_matched, read_matches}
 
 abbrev is_dot : ℕ → Bool
@@ -296,21 +300,69 @@ host-dotted b bytes e =
     ∙ (ap (λ v. cond v (Err EmptyLabel) (with_labels true false (labels_of (labels_in (b ∷ bytes))))) none
     ∙ ap (with_labels true false) (labels-plain (labels_in (b ∷ bytes)) e))))
 
+-- ---- the URL pattern of a host
+
+one-more : (n : ℕ) → 1 + n ≡ suc n
+one-more n = omega arith
+
+before_by : (p : ℕ → Bool) (x : ℕ) (bytes : List ℕ) (s : Bool) → p x ≡ s → (s || list_any p bytes) ≡ false → (list_any p bytes ≡ false → before_first p bytes ≡ bytes) →
+    take (cond (not s) (1 + position_or_len p bytes) 0) (x ∷ bytes) ≡ x ∷ bytes
+before_by p x bytes true is e below = absurd (true≢false e)
+before_by p x bytes false is e below = ap (λ n. take n (x ∷ bytes)) (one-more (position_or_len p bytes)) ∙ ap (λ l. x ∷ l) (below e)
+
+before-none : (p : ℕ → Bool) (bytes : List ℕ) → list_any p bytes ≡ false → before_first p bytes ≡ bytes
+before-none p [] e = refl
+before-none p (x ∷ bytes) e = before_by p x bytes (p x) refl e (before-none p bytes)
+
+abbrev is_name_byte : ℕ → Bool
+is_name_byte b = is_label_byte b || b == 46
+
+foreign_by : (byte b : ℕ) (s : Bool) → (b == byte) ≡ s → is_name_byte byte ≡ false → is_name_byte b ≡ true → s ≡ false
+foreign_by byte b true is foreign e = absurd (true≢false (sym e ∙ (ap is_name_byte (eqb-true b byte is) ∙ foreign)))
+foreign_by byte b false is foreign e = refl
+
+foreign-none : (byte : ℕ) (bytes : List ℕ) → is_name_byte byte ≡ false → list_all is_name_byte bytes ≡ true → list_any (λ b. b == byte) bytes ≡ false
+foreign-none byte [] foreign e = refl
+foreign-none byte (b ∷ bytes) foreign e =
+    ap (λ v. v || list_any (λ x. x == byte) bytes) (foreign_by byte b (b == byte) refl foreign (and-first (is_name_byte b) (list_all is_name_byte bytes) e))
+    ∙ foreign-none byte bytes foreign (and-second (is_name_byte b) (list_all is_name_byte bytes) e)
+
+name-bytes : (name : List ℕ) → list_all is_host_label (labels_in name) ≡ true → list_all is_name_byte name ≡ true
+name-bytes name e = passes (λ b. b == 46) is_label_byte name (weaker is_host_label (λ part. list_all is_label_byte part) label-bytes (labels_in name) e)
+
+url-dotted : (b : ℕ) (bytes : List ℕ) → list_all is_host_label (labels_in (b ∷ bytes)) ≡ true →
+    url_pattern (46 ∷ b ∷ bytes) ≡ Ok (record { host = Pattern (Labels (dotted (b ∷ bytes))); ports = None; path = None })
+unfolding url_pattern ports_of path_expression
+url-dotted b bytes e =
+    let slashes : list_any begins_path (46 ∷ b ∷ bytes) ≡ false = foreign-none 47 (b ∷ bytes) refl (name-bytes (b ∷ bytes) e) in
+    let colons : list_any begins_ports (46 ∷ b ∷ bytes) ≡ false = foreign-none 58 (b ∷ bytes) refl (name-bytes (b ∷ bytes) e) in
+    ap (λ part. pattern_of_parts part (path_pattern (46 ∷ b ∷ bytes))) (before-none begins_path (46 ∷ b ∷ bytes) slashes)
+    ∙ (ap (λ v. pattern_of_parts (46 ∷ b ∷ bytes) (cond v (Some (47 ∷ after_first begins_path (46 ∷ b ∷ bytes))) None)) slashes
+    ∙ (ap (λ part. with_parts (host_pattern part) (ports_of (port_text (46 ∷ b ∷ bytes))) None) (before-none begins_ports (46 ∷ b ∷ bytes) colons)
+    ∙ (ap (λ v. with_parts (host_pattern (46 ∷ b ∷ bytes)) (ports_of (cond v (Some (after_first begins_ports (46 ∷ b ∷ bytes))) None)) None) colons
+    ∙ ap (λ host. with_host_pattern None host None) (host-dotted b bytes e))))
+
+and-true : (a : Bool) → ((a && true) && true) ≡ a
+and-true true = refl
+and-true false = refl
+
 -- a host's pattern matches what its name stands for
-matched-named : (name host : List ℕ) → list_all is_host_label (labels_in name) ≡ true → is_matched name host ≡ is_named_by name (without_end_dot host)
-unfolding host_matches
-matched-named [] host e = absurd (true≢false (sym e))
-matched-named (b ∷ bytes) host e = ap (λ r. read_matches r host) (host-dotted b bytes e) ∙ named-ends (b ∷ bytes) (without_last_dot host)
+matched-named : (name : List ℕ) (url : Url) → list_all is_host_label (labels_in name) ≡ true → is_matched name url ≡ is_named_by name (without_end_dot url.host)
+unfolding host_matches url_matches
+matched-named [] url e = absurd (true≢false (sym e))
+matched-named (b ∷ bytes) url e =
+    ap (λ r. read_matches r url) (url-dotted b bytes e)
+    ∙ (and-true (some_tail (same_labels (labels_in (b ∷ bytes))) (labels_in (without_last_dot url.host))) ∙ named-ends (b ∷ bytes) (without_last_dot url.host))
 
 abbrev IsHostEntry : HostEntry → Type 0
 IsHostEntry entry = is_host entry.host ≡ true
 
-any-matched : (entries : List HostEntry) (host : List ℕ) → All IsHostEntry entries → list_any (λ entry. is_named_by entry.host (without_end_dot host)) entries ≡ list_any (λ entry. is_matched entry.host host) entries
-any-matched [] host held = refl
-any-matched (entry ∷ entries) host held =
-    ap (λ b. b || list_any (λ one. is_named_by one.host (without_end_dot host)) entries) (sym (matched-named entry.host host (host-labels entry.host (All-head IsHostEntry entry entries held))))
-    ∙ ap (λ b. is_matched entry.host host || b) (any-matched entries host (All-tail IsHostEntry entry entries held))
+any-matched : (entries : List HostEntry) (url : Url) → All IsHostEntry entries → list_any (λ entry. is_named_by entry.host (without_end_dot url.host)) entries ≡ list_any (λ entry. is_matched entry.host url) entries
+any-matched [] url held = refl
+any-matched (entry ∷ entries) url held =
+    ap (λ b. b || list_any (λ one. is_named_by one.host (without_end_dot url.host)) entries) (sym (matched-named entry.host url (host-labels entry.host (All-head IsHostEntry entry entries held))))
+    ∙ ap (λ b. is_matched entry.host url || b) (any-matched entries url (All-tail IsHostEntry entry entries held))
 
--- a host is on a file's list where the pattern of one of its hosts matches it
-pub listed-matched : (bytes host : List ℕ) → is_listed (list_entries bytes) host ≡ list_any (λ entry. is_matched entry.host host) (list_entries bytes)
-listed-matched bytes host = listed-any (list_entries bytes) host ∙ any-matched (list_entries bytes) host (entries-hosts bytes)
+-- a URL's host is on a file's list where the pattern of one of its hosts matches the URL
+pub listed-matched : (bytes : List ℕ) (url : Url) → is_listed (list_entries bytes) url.host ≡ list_any (λ entry. is_matched entry.host url) (list_entries bytes)
+listed-matched bytes url = listed-any (list_entries bytes) url.host ∙ any-matched (list_entries bytes) url (entries-hosts bytes)

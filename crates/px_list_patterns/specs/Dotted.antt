@@ -1,14 +1,15 @@
--- The pattern of a host of a list.
+-- The URL pattern of a host of a list.
 use Rattle.std.specs.Prelude.{ℕ, Bool, false, List, ◌∷◌, Result, Ok, Err}
-use Rattle.px_patterns.specs.Hosts.{host_matches, host_pattern}
+use Rattle.px_patterns.specs.Patterns.{url_matches, url_pattern}
 use Rattle.px_patterns.specs.declared.faults.PatternFault.{PatternFault}
-use Rattle.px_patterns.specs.declared.hosts.HostPattern.{HostPattern}
+use Rattle.px_patterns.specs.declared.patterns.UrlPattern.{UrlPattern}
+use Rattle.px_patterns.specs.declared.urls.Url.{Url}
 
--- whether a host pattern that is read matches a host
-abbrev pub read_matches : Result HostPattern PatternFault → List ℕ → Bool
-read_matches (Ok pattern) host = host_matches pattern host
-read_matches (Err fault) host = false
+-- whether a URL pattern, if it is read, matches a URL
+abbrev pub read_matches : Result UrlPattern PatternFault → Url → Bool
+read_matches (Ok pattern) url = url_matches pattern url
+read_matches (Err fault) url = false
 
--- whether the pattern `.name` matches a host
-abbrev pub is_matched : List ℕ → List ℕ → Bool
-is_matched name host = read_matches (host_pattern (46 ∷ name)) host
+-- whether the URL pattern `.name` matches a URL
+abbrev pub is_matched : List ℕ → Url → Bool
+is_matched name url = read_matches (url_pattern (46 ∷ name)) url
