@@ -32,7 +32,7 @@ or-right true b e = refl
 or-right false b e = e
 
 -- each part of a list passes a test
-abbrev parts_pass : (ℕ → Bool) → List (List ℕ) → Bool
+abbrev pub parts_pass : (ℕ → Bool) → List (List ℕ) → Bool
 parts_pass q parts = list_all (λ part. list_all q part) parts
 
 onto : (q : ℕ → Bool) (b : ℕ) (parts : List (List ℕ)) → parts_pass q (onto_first b parts) ≡ true → (q b ≡ true) × (parts_pass q parts ≡ true)
@@ -52,11 +52,11 @@ passes_by p q b bytes false is below e =
     both (q b || p b) (list_all (λ x. q x || p x) bytes) (or-left (q b) (p b) found.0) (below found.1)
 
 -- where all parts between separators pass a test, each byte passes it or is a separator
-passes : (p q : ℕ → Bool) (bytes : List ℕ) → parts_pass q (slice_split p bytes) ≡ true → list_all (λ x. q x || p x) bytes ≡ true
+pub passes : (p q : ℕ → Bool) (bytes : List ℕ) → parts_pass q (slice_split p bytes) ≡ true → list_all (λ x. q x || p x) bytes ≡ true
 passes p q [] e = refl
 passes p q (b ∷ bytes) e = passes_by p q b bytes (p b) refl (passes p q bytes) e
 
-weaker : (test q : List ℕ → Bool) → ((part : List ℕ) → test part ≡ true → q part ≡ true) → (parts : List (List ℕ)) → list_all test parts ≡ true → list_all q parts ≡ true
+pub weaker : (test q : List ℕ → Bool) → ((part : List ℕ) → test part ≡ true → q part ≡ true) → (parts : List (List ℕ)) → list_all test parts ≡ true → list_all q parts ≡ true
 weaker test q stronger [] e = refl
 weaker test q stronger (part ∷ parts) e =
     both (q part) (list_all q parts) (stronger part (and-left (test part) (list_all test parts) e)) (weaker test q stronger parts (and-right (test part) (list_all test parts) e))
@@ -87,7 +87,7 @@ label_by : (label : List ℕ) (b : Bool) → cond b false (list_all is_label_byt
 label_by label true e = absurd (true≢false (sym e))
 label_by label false e = e
 
-label-bytes : (label : List ℕ) → is_host_label label ≡ true → list_all is_label_byte label ≡ true
+pub label-bytes : (label : List ℕ) → is_host_label label ≡ true → list_all is_label_byte label ≡ true
 label-bytes label e = label_by label (length label == 0 || nat_lt LABEL_LENGTH (length label)) e
 
 no_colon_by : (b : ℕ) (s : Bool) → (b == COLON) ≡ s → (is_label_byte b || b == DOT) ≡ true → cond {A = ℕ} s 1 0 ≡ 0
