@@ -1,4 +1,7 @@
+use denote.Param.Send.{sendable}
 use Rattle.std.proofs.Common.{sym}
+use Rattle.px_serve_command.proofs.Crossing.{pool_send}
+use Rattle.std.proofs.Crossing.{crosses}
 use Rattle.px_serve_command.proofs.proxies.serve_sharing.Goals as goal
 
 pub returns-clause-serves : goal.returns-clause-serves
@@ -10,3 +13,6 @@ returns-clause-goes_on g c = record {
   doors = rw (sym c.requires.opening) at c.into_inner-doors.ensures.goes_on;
   errors = c.serve_loaded-status.ensures.goes_on.errors;
 }
+
+pub serve_loaded-status-requires-send-A-Dial : goal.serve_loaded-status-requires-send-A-Dial
+serve_loaded-status-requires-send-A-Dial g c κs within = search (sendable, crosses, pool_send) depth 60 fits 20000
