@@ -2,8 +2,8 @@
 """Compares `serve` with Privoxy under load: processor time and system calls a request, and requests a second.
 
 One origin (nginx, answers of 100 bytes), one client (wrk, keep-alive), and the two proxies one after the other, with 1, 8 and 64
-connections; under an empty configuration, under conf/, which Privoxy reads too (with `keep-alive-timeout 5` as Debian has it), and
-under an empty one with shared links (`link-reuse 1`; Privoxy's `connection-sharing 1`), which is also held against the empty one.
+connections; under an empty configuration and under conf/, which Privoxy reads too (with `keep-alive-timeout 5` as Debian has it), each
+with links of their own and with shared ones (`link-reuse 1`; Privoxy's `connection-sharing 1`), which are also held against the others.
 A count of a proxy is the difference over a run, of all its threads; system calls are counted by strace in a run of their own. What
 is printed are figures of this machine, so compare the columns of one run alone.
 
@@ -22,6 +22,8 @@ from pathlib import Path
 
 ROOT = Path(__file__).resolve().parent.parent.parent
 NEEDED = ("nginx", "wrk", "strace", "privoxy")
+# The configurations with shared links, and the same without.
+SHARED = {"shared": "empty", "conf-shared": "conf"}
 TICKS = os.sysconf("SC_CLK_TCK")
 NGINX = """worker_processes 1; daemon off; pid {folder}/nginx.pid; error_log /dev/null;
 events {{ worker_connections 1024; }}
@@ -82,18 +84,17 @@ def calls(folder, process, port, connections):
 
 
 def configured(folder, name, port, of_privoxy):
-    """A configuration's main file: an empty one, or conf/."""
+    """A configuration's main file: an empty one, or conf/; with shared links or without."""
     place = Path(folder) / f"{name}-{port}"
-    if name == "conf":
+    if name.startswith("conf"):
         shutil.copytree(ROOT / "conf", place)
         text = (place / "config").read_text(encoding="utf-8")
-        # (each request makes a link of its own here, as Privoxy's do)
         text = re.sub(r"(?m)^(listen-address|link-reuse) .*$", "", text)
     else:
         place.mkdir()
         text = ""
-    if name == "shared":
-        text = "connection-sharing 1\n" if of_privoxy else "link-reuse 1\n"
+    if name in SHARED:
+        text += "\nconnection-sharing 1\n" if of_privoxy else "\nlink-reuse 1\n"
     text += f"\nlisten-address 127.0.0.1:{port}\n"
     if of_privoxy:
         # (Privoxy looks for the files of the lines behind a folder's in that folder)
@@ -116,7 +117,7 @@ def main():
         try:
             print("configuration connections proxy: requests a second, processor microseconds and system calls a request")
             alone = {}
-            for name in ("empty", "conf", "shared"):
+            for name in ("empty", "conf", *SHARED):
                 proxies = {}
                 for proxy in ("helmthread", "privoxy"):
                     port = free_port()
@@ -135,11 +136,11 @@ def main():
                     ours, theirs = told["helmthread"], told["privoxy"]
                     ratios = [mine / max(other, 1e-9) for mine, other in zip(ours, theirs)]
                     print(f"{name} {connections} ratio: {ratios[0]:.2f}, {ratios[1]:.2f}, {ratios[2]:.2f}", flush=True)
-                    if name == "empty":
-                        alone[connections] = ours
-                    elif name == "shared":
-                        ratios = [mine / max(other, 1e-9) for mine, other in zip(ours, alone[connections])]
-                        print(f"shared {connections} to empty: {ratios[0]:.2f}, {ratios[1]:.2f}, {ratios[2]:.2f}", flush=True)
+                    alone[name, connections] = ours
+                    if name in SHARED:
+                        base = SHARED[name]
+                        ratios = [mine / max(other, 1e-9) for mine, other in zip(ours, alone[base, connections])]
+                        print(f"{name} {connections} to {base}: {ratios[0]:.2f}, {ratios[1]:.2f}, {ratios[2]:.2f}", flush=True)
         finally:
             for process in reversed(started):
                 process.terminate()
