@@ -1,7 +1,6 @@
 //! What an answer's head settles, and the machine that returns the body behind it as it comes (RFC 9112, section 6.3).
 #![tactic(auto)]
 
-mod asked;
 mod bodies;
 mod courses;
 mod fields;
@@ -13,7 +12,6 @@ mod laws;
 mod outcomes;
 mod passages;
 
-pub use asked::Asked;
 pub use courses::Course;
 pub use forms::{AnswerOutcome, Form, Framed, Returned};
 pub use framings::{BodyPlan, HeaderLines, Terms};

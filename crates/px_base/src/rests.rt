@@ -10,6 +10,7 @@ pub trait Rests: LocalSource {
     /// section 9.2). The look takes no byte. A source that tells its bytes has never ended so, and stays what it is.
     fn has_ended(&mut self) -> bool
         ensures told { IsTrue (Self.LocalSource.state self.old).tells → (result ≡ false) × (self.new ≡ self.old) }
+        ensures faults_same { (Self.LocalSource.state self.new).faults ≡ (Self.LocalSource.state self.old).faults }
         ensures goes_on { SourceGoesOn (Self.LocalSource.state self.old) (Self.LocalSource.state self.new) };
 }
 

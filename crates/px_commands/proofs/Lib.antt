@@ -3,4 +3,6 @@ pub mod WordLemmas
 pub mod ReadLemmas
 pub mod PassLemmas
 pub mod LoadLemmas
+pub mod ClientLemmas
+pub mod Crossing
 pub mod ExerciseLemmas

@@ -1,6 +1,5 @@
 -- What a command did, step by step.
 use Rattle.std.proofs.Common.{rules, ◌≡◌, ℕ, Bool, true, false, List, [], ◌∷◌, ap, IsTrue, Option, Some, Result, Ok, Err, refl, sym, ◌∙◌, inl, inr, subst}
-use Rattle.std.specs.Prelude.{MatchBool}
 use Rattle.px_base.specs.Contents.{Contents, FilesState, FilesGoOn, Unchanged, Puts}
 use Rattle.px_base.specs.Sources.{SourceState, SourceGoesOn}
 use Rattle.px_base.specs.Sinks.{SinkState, SinkGoesOn}
@@ -10,19 +9,17 @@ use Rattle.px_base.specs.declared.faults.FilesFault.{FilesFault}
 use Rattle.px_base.specs.Dials.{DialerState, fresh_dialer, finished_links}
 use Rattle.px_decide.specs.Forwards.{has_socks}
 use Rattle.px_config.specs.declared.configs.Config.{Config}
-use Rattle.px_commands.specs.Loads.{Loads}
-use Rattle.px_commands.specs.Passing.{RunsPass}
-use Rattle.px_serve.specs.declared.ends.SessionEnd.{SessionEnd}
-use Rattle.px_serve.specs.Ends.{ReadEndCause, WriteEndCause}
+use Rattle.px_notes.specs.declared.sessions.SessionEnd.{SessionEnd}
 use Rattle.px_serve.specs.Histories.{IsFixed, Looks}
-use Rattle.px_serve.specs.Sessions.{Caller}
-use Rattle.px_link_pool.specs.Histories.{Views}
-use Rattle.px_commands.specs.Clients.{ServesClient, SharesLinks, TakesNewLinks, caller_of, in_memory, server_views}
-use Rattle.px_commands.specs.Sents.{sent_text}
-use Rattle.px_commands.specs.declared.statuses.Status.{Status}
 use Rattle.px_socks.specs.Dialers.{KeptDialer, outer_state}
 use Rattle.px_socks.specs.Handshakes.{Handshakes}
-use Rattle.px_commands.specs.Passes.{Outside, IsOutsideSame, HasAnswers, PutsAfter, HasServed, IsSessionServed, IsServedShared, IsServedSharedThrough, IsServedThrough, PassesSession, RunsLoaded, ServesApart, ServesInput, ServesShared, begun_socks}
+use Rattle.px_commands.specs.Loads.{Loads}
+use Rattle.px_commands.specs.Passing.{RunsPass}
+use Rattle.px_commands.specs.Clients.{ServesClient, StreamsState, in_memory, server_views}
+use Rattle.px_commands.specs.Sents.{sent_text}
+use Rattle.px_commands.specs.declared.statuses.Status.{Status}
+use Rattle.px_commands.specs.Passes.{Outside, IsOutsideSame, HasAnswers, PutsAfter, HasServed, PassesSession, RunsLoaded, ServesOver, ServesThrough, begun_socks}
+use Rattle.px_commands.proofs.ClientLemmas.{tells_left}
 
 -- files that were only read
 pub record OnlyRead (old new : FilesState) : Type 0 where
@@ -57,12 +54,12 @@ moved_back : (a b : Contents) (name : List ℕ) (answers : List Answer) → Unch
 moved_back a b name answers same h = subst (λ (held : Option (List ℕ)). HasAnswers held answers) (sym (same name)) h
 
 -- a session, and SENT put behind it
-pub passes_by : (config : Config) (origin sent : List ℕ) (tags : List (List ℕ)) (f f1 f2 : FilesState) (i i' : SourceState) (o o' errors : SinkState) (t t' : ClockState) (answers : List Answer) (e : SessionEnd) (made : Option (List ℕ)) (s : Status)
+pub passes_by : (config : Config) (origin sent : List ℕ) (tags : List (List ℕ)) (f f1 f2 : FilesState) (old new : StreamsState) (errors : SinkState) (answers : List Answer) (e : SessionEnd) (made : Option (List ℕ)) (s : Status)
     → OnlyRead f f1 → (IsTrue f.tells → HasAnswers (f.contents origin) answers)
-    → HasServed config tags answers i i' o o' t t' e made
+    → HasServed config tags answers old new e made
     → ((text : List ℕ) → ((x : List ℕ) → made ≡ Some x → x ≡ text) → PutsAfter f1 f2 sent text e s)
-    → PassesSession config origin sent tags (record { files = f; input = i; out = o; errors = errors; clock = t }) (record { files = f2; input = i'; out = o'; errors = errors; clock = t' }) s
-passes_by config origin sent tags f f1 f2 i i' o o' errors t t' answers e made s read has h puts = record {
+    → PassesSession config origin sent tags (record { files = f; input = old.input; out = old.out; errors = errors; clock = old.clock }) (record { files = f2; input = new.input; out = new.out; errors = errors; clock = new.clock }) s
+passes_by config origin sent tags f f1 f2 old new errors answers e made s read has h puts = record {
   answers = answers;
   has_answers = has;
   session_end = e;
@@ -122,113 +119,53 @@ pub is_fixed : {looks : Looks} {config : Config} → IsTrue looks.tells → look
     → looks.coming ≡ record { number = 0; config = config } ∷ [] → IsFixed looks config
 is_fixed t v k = record { tells = t; view = v; coming = k }
 
--- A session's records by whether its requests share links: what the client's session over a dialer gave, beside the record that is
--- made of each kind.
-by_sharing : {S T : Type 0} (v : Views S T) (sharing : Bool) (caller : Caller) (looks : Looks) (i i' : SourceState) (o o' : SinkState) (d d' : DialerState) (t t' : ClockState) (e : SessionEnd) {Shared Apart : Type 0}
-    → (SharesLinks v caller looks i i' o o' d d' t t' e → Shared) → (TakesNewLinks caller looks i i' o o' d d' t t' e → Apart)
-    → ServesClient v sharing caller looks i i' o o' d d' t t' e → MatchBool sharing Shared Apart
-by_sharing v true caller looks i i' o o' d d' t t' e shared apart h = shared h
-by_sharing v false caller looks i i' o o' d d' t t' e shared apart h = apart h
-
 -- what a session gave, with the dialer that is just made and the one client
-pub has_served : {tags : List (List ℕ)} {answers : List Answer} {i i' : SourceState} {o o' : SinkState} {t t' : ClockState} {e : SessionEnd} {made : Option (List ℕ)} {looks : Looks} {config : Config} {sharing : Bool} {d : DialerState} (d' : DialerState) {caller : Caller}
-    → ServesClient in_memory sharing caller looks i i' o o' d d' t t' e
-    → caller ≡ caller_of tags → d ≡ fresh_dialer answers → sharing ≡ config.settings.sharing → IsFixed looks config
-    → ReadEndCause i i' e → WriteEndCause o o' e
-    → ((x : List ℕ) → made ≡ Some x → x ≡ sent_text (finished_links d'.dials))
-    → has_socks config.forwards ≡ false
-    → HasServed config tags answers i i' o o' t t' e made
-has_served {tags = tags} {answers = answers} {i = i} {i' = i'} {o = o} {o' = o'} {t = t} {t' = t'} {e = e} {looks = looks} {config = config} d' served client fresh by fixed read write made_is plain = record {
+pub has_served : {tags tags' : List (List ℕ)} {answers : List Answer} {old new : StreamsState} {e : SessionEnd} {made : Option (List ℕ)} {looks : Looks} {config : Config} {sharing : Bool} {d : DialerState} (d' : DialerState)
+    → ServesClient in_memory sharing tags' looks old new d d' e → tags' ≡ tags → d ≡ fresh_dialer answers → sharing ≡ config.settings.sharing → IsFixed looks config
+    → ((x : List ℕ) → made ≡ Some x → x ≡ sent_text (finished_links d'.dials)) → has_socks config.forwards ≡ false
+    → HasServed config tags answers old new e made
+has_served {tags = tags} {answers = answers} {old = old} {new = new} {e = e} {looks = looks} {config = config} d' served same fresh by fixed made_is plain = record {
   text = sent_text (finished_links d'.dials);
-  served = whole;
+  served = record {
+    looks = looks;
+    fixed = fixed;
+    inner = d';
+    serves = subst (λ b. ServesOver b config.settings.sharing tags looks old new answers d' e) (sym plain) over;
+    text_is = refl;
+  };
   made_is = made_is;
 }
   where
-    text : List ℕ
-    text = sent_text (finished_links d'.dials)
-
-    shared : SharesLinks in_memory (caller_of tags) looks i i' o o' (fresh_dialer answers) d' t t' e → ServesShared config tags answers i i' o o' t t' e text
-    shared h = subst (λ b. MatchBool b (IsServedSharedThrough config tags answers i i' o o' t t' e text) (IsServedShared config tags answers i i' o o' t t' e text)) (sym plain) (record {
-      looks = looks;
-      fixed = fixed;
-      dialer = d';
-      shares = h;
-      text_is = refl;
-      read_cause = read;
-      write_cause = write;
-    })
-
-    apart : TakesNewLinks (caller_of tags) looks i i' o o' (fresh_dialer answers) d' t t' e → ServesApart config tags answers i i' o o' t t' e text
-    apart h = subst (λ b. MatchBool b (IsServedThrough config tags answers i i' o o' t t' e text) (IsSessionServed config tags answers i i' o o' t t' e text)) (sym plain) (record {
-      looks = looks;
-      looks_after = h.looks_after;
-      fixed = fixed;
-      dialer = d';
-      notes = h.notes;
-      serves = h.serves;
-      text_is = refl;
-      read_cause = read;
-      write_cause = write;
-    })
-
-    over : ServesClient in_memory config.settings.sharing (caller_of tags) looks i i' o o' (fresh_dialer answers) d' t t' e
-    over = rw (client, fresh, by) at served
-
-    whole : ServesInput config tags answers i i' o o' t t' e text
-    whole = by_sharing in_memory config.settings.sharing (caller_of tags) looks i i' o o' (fresh_dialer answers) d' t t' e shared apart over
+    over : ServesClient in_memory config.settings.sharing tags looks old new (fresh_dialer answers) d' e
+    over = rw (same, fresh, by) at served
 
 -- the same through SOCKS servers
-pub has_served_through : {tags : List (List ℕ)} {answers : List Answer} {i i' : SourceState} {o o' : SinkState} {t t' : ClockState} {e : SessionEnd} {made : Option (List ℕ)} {looks : Looks} {config : Config} {sharing : Bool} {k : KeptDialer} (k' : KeptDialer) {caller : Caller}
-    → ServesClient server_views sharing caller looks i i' o o' (outer_state k) (outer_state k') t t' e
-    → caller ≡ caller_of tags → k ≡ begun_socks answers → sharing ≡ config.settings.sharing → IsFixed looks config
-    → ReadEndCause i i' e → WriteEndCause o o' e
-    → ((x : List ℕ) → made ≡ Some x → x ≡ sent_text (finished_links k'.inner.dials))
-    → k'.inner.tells ≡ k.inner.tells → (IsTrue k'.inner.tells → Handshakes (outer_state k').dials k'.inner.dials)
-    → has_socks config.forwards ≡ true
-    → HasServed config tags answers i i' o o' t t' e made
-has_served_through {tags = tags} {answers = answers} {i = i} {i' = i'} {o = o} {o' = o'} {t = t} {t' = t'} {e = e} {looks = looks} {config = config} {k = k} k' served client begun by fixed read write made_is tells handshakes socks = record {
+pub has_served_through : {tags tags' : List (List ℕ)} {answers : List Answer} {old new : StreamsState} {e : SessionEnd} {made : Option (List ℕ)} {looks : Looks} {config : Config} {sharing : Bool} {k : KeptDialer} (k' : KeptDialer)
+    → ServesClient server_views sharing tags' looks old new (outer_state k) (outer_state k') e → tags' ≡ tags → k ≡ begun_socks answers → sharing ≡ config.settings.sharing → IsFixed looks config
+    → ((x : List ℕ) → made ≡ Some x → x ≡ sent_text (finished_links k'.inner.dials)) → (IsTrue k'.inner.tells → Handshakes (outer_state k').dials k'.inner.dials) → has_socks config.forwards ≡ true
+    → HasServed config tags answers old new e made
+has_served_through {tags = tags} {answers = answers} {old = old} {new = new} {e = e} {looks = looks} {config = config} k' served same begun by fixed made_is handshakes socks = record {
   text = sent_text (finished_links k'.inner.dials);
-  served = whole;
+  served = record {
+    looks = looks;
+    fixed = fixed;
+    inner = k'.inner;
+    serves = subst (λ b. ServesOver b config.settings.sharing tags looks old new answers k'.inner e) (sym socks) through;
+    text_is = refl;
+  };
   made_is = made_is;
 }
   where
-    text : List ℕ
-    text = sent_text (finished_links k'.inner.dials)
+    over : ServesClient server_views config.settings.sharing tags looks old new (outer_state (begun_socks answers)) (outer_state k') e
+    over = rw (same, begun, by) at served
 
-    hands : Handshakes (outer_state k').dials k'.inner.dials
-    hands = handshakes (tells ∙ ap (λ (m : KeptDialer). m.inner.tells) begun)
-
-    shared : SharesLinks server_views (caller_of tags) looks i i' o o' (outer_state (begun_socks answers)) (outer_state k') t t' e → ServesShared config tags answers i i' o o' t t' e text
-    shared h = subst (λ b. MatchBool b (IsServedSharedThrough config tags answers i i' o o' t t' e text) (IsServedShared config tags answers i i' o o' t t' e text)) (sym socks) (record {
-      looks = looks;
-      fixed = fixed;
-      dialer = k';
-      shares = h;
-      handshakes = hands;
-      text_is = refl;
-      read_cause = read;
-      write_cause = write;
-    })
-
-    apart : TakesNewLinks (caller_of tags) looks i i' o o' (outer_state (begun_socks answers)) (outer_state k') t t' e → ServesApart config tags answers i i' o o' t t' e text
-    apart h = subst (λ b. MatchBool b (IsServedThrough config tags answers i i' o o' t t' e text) (IsSessionServed config tags answers i i' o o' t t' e text)) (sym socks) (record {
-      looks = looks;
-      looks_after = h.looks_after;
-      fixed = fixed;
-      dialer = k';
-      notes = h.notes;
-      serves = h.serves;
-      handshakes = hands;
-      text_is = refl;
-      read_cause = read;
-      write_cause = write;
-    })
-
-    over : ServesClient server_views config.settings.sharing (caller_of tags) looks i i' o o' (outer_state (begun_socks answers)) (outer_state k') t t' e
-    over = rw (client, begun, by) at served
-
-    whole : ServesInput config tags answers i i' o o' t t' e text
-    whole = by_sharing server_views config.settings.sharing (caller_of tags) looks i i' o o' (outer_state (begun_socks answers)) (outer_state k') t t' e shared apart over
+    through : ServesThrough config.settings.sharing tags looks old new answers k'.inner e
+    through = record {
+      kept = k';
+      serves = over;
+      inner_is = refl;
+      handshakes = handshakes (tells_left server_views config.settings.sharing (outer_state (begun_socks answers)) over.dialer (outer_state k') over.serves.goes_on.dialer.tells_same over.left);
+    }
 
 -- the configuration loads
 pub pass_loaded : (config origin sent : List ℕ) (tags : List (List ℕ)) (old new : Outside) (loaded : Config) (s : Status)

@@ -10,9 +10,13 @@ use Rattle.px_commands.specs.Statuses.{code_of}
 use Rattle.px_commands.specs.Exercising.{RunsExercise}
 use Rattle.px_commands.specs.Words.{IsPass, IsCheck, IsExercise, IsShow}
 
+-- the words aren't those of `pass`
+abbrev pub NamesNoPass : List (List ℕ) → Type 0
+NamesNoPass words = (config origin sent : List ℕ) → (tags : List (List ℕ)) → ¬ IsPass words config origin sent tags
+
 -- the words are those of no command
 pub record RefusesWords (words : List (List ℕ)) (old new : Outside) (s : Status) : Type 0 where
-  pub no_pass : (config origin sent : List ℕ) → (tags : List (List ℕ)) → ¬ IsPass words config origin sent tags
+  pub no_pass : NamesNoPass words
   pub no_check : (config : List ℕ) → ¬ IsCheck words config
   pub no_show : (config url : List ℕ) → (tags : List (List ℕ)) → ¬ IsShow words config url tags
   pub no_exercise : (n : ℕ) → ¬ IsExercise words n
@@ -47,8 +51,12 @@ pub record ExercisesBy (words : List (List ℕ)) (old new : Outside) (s : Status
   pub is_exercise : IsExercise words number
   pub runs : RunsExercise number old new s
 
+-- what a command does, by its words, and the status with which it ends
+abbrev pub RunsWord : List (List ℕ) → Outside → Outside → Status → Type 0
+RunsWord words old new s = RefusesWords words old new s ⊎ (PassesBy words old new s ⊎ (ChecksBy words old new s ⊎ (ShowsUrlBy words old new s ⊎ ExercisesBy words old new s)))
+
 -- how a command ends: by one status, with what it did and why
 pub record RunsTool (words : List (List ℕ)) (old new : Outside) (code : ℕ) : Type 0 where
   pub ended : Status
   pub code_is : code ≡ code_of ended
-  pub runs : RefusesWords words old new ended ⊎ (PassesBy words old new ended ⊎ (ChecksBy words old new ended ⊎ (ShowsUrlBy words old new ended ⊎ ExercisesBy words old new ended)))
+  pub runs : RunsWord words old new ended

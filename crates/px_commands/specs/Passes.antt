@@ -1,25 +1,23 @@
 -- What `pass` does: with its words, the files, the input, the output, the error output and the clock.
-use Rattle.std.specs.Prelude.{◌≡◌, ℕ, ◌≤◌, false, ◌⊎◌, List, [], ◌++◌, length, Option, None, Some, Result, IsTrue, MatchBool}
+use Rattle.std.specs.Prelude.{◌≡◌, ℕ, ◌≤◌, Bool, false, ◌⊎◌, List, [], ◌++◌, length, Option, None, Some, Result, IsTrue, MatchBool}
 use Rattle.px_base.specs.Causes.{IsOneMore, Rose}
 use Rattle.px_base.specs.Contents.{FilesState, FilesGoOn, FilesCause, Unchanged, Puts, OthersUnchanged}
 use Rattle.px_base.specs.Sources.{SourceState, SourceGoesOn}
-use Rattle.px_base.specs.Sinks.{SinkState, SinkGoesOn, AddsFront}
+use Rattle.px_base.specs.Sinks.{SinkState, SinkGoesOn, AddsProperFront}
 use Rattle.px_base.specs.Moments.{ClockState, ClockGoesOn}
 use Rattle.px_base.specs.Dials.{DialerState, fresh_dialer, finished_links}
 use Rattle.px_base.specs.declared.dials.Answer.{Answer}
 use Rattle.px_base.specs.declared.faults.FilesFault.{FilesFault}
 use Rattle.px_decide.specs.Forwards.{has_socks}
 use Rattle.px_config.specs.declared.configs.Config.{Config}
-use Rattle.px_exchange.specs.declared.notes.ExchangeNote.{ExchangeNote}
-use Rattle.px_serve.specs.declared.ends.SessionEnd.{SessionEnd}
-use Rattle.px_serve.specs.Ends.{ReadEndCause, WriteEndCause}
+use Rattle.px_notes.specs.declared.sessions.SessionEnd.{SessionEnd}
 use Rattle.px_serve.specs.Histories.{IsFixed, Looks}
-use Rattle.px_serve.specs.Sessions.{Serves}
 use Rattle.px_socks.specs.Dialers.{KeptDialer, outer_state}
 use Rattle.px_socks.specs.Handshakes.{Handshakes}
 use Rattle.px_commands.specs.declared.statuses.Status.{Status}
 use Rattle.px_commands.specs.declared.statuses.Status.TheVariants as status
-use Rattle.px_commands.specs.Clients.{SharesLinks, caller_of, in_memory, server_views}
+use Rattle.px_commands.specs.declared.tools.ToolParts.{ToolParts}
+use Rattle.px_commands.specs.Clients.{ServesClient, StreamsState, in_memory, server_views}
 use Rattle.px_commands.specs.Origins.{IsOrigin}
 use Rattle.px_commands.specs.Sents.{sent_text}
 use Rattle.px_commands.specs.Statuses.{is_session_wanting, status_after}
@@ -31,6 +29,13 @@ pub record Outside : Type 0 where
   pub out : SinkState
   pub errors : SinkState
   pub clock : ClockState
+
+abbrev pub tool_as : {F S O E T : Type 0} → (F → FilesState) → (S → SourceState) → (O → SinkState) → (E → SinkState) → (T → ClockState) → ToolParts F S O E T → Outside
+tool_as files ins outs errs times p = record { files = files p.files; input = ins p.input; out = outs p.out; errors = errs p.err; clock = times p.clock }
+
+-- the streams of a session that is run with them
+abbrev pub streams_of : Outside → StreamsState
+streams_of o = record { input = o.input; out = o.out; clock = o.clock }
 
 -- what lasts of them, whatever is done
 pub record OutsideGoesOn (old new : Outside) : Type 0 where
@@ -56,7 +61,7 @@ pub record IsOutsideSame (old new : Outside) : Type 0 where
 abbrev pub ReportsOn : List ℕ → List ℕ → List ℕ → Status → Status → Type 0
 ReportsOn old new text whole s =
     ((s ≡ whole) × (new ≡ old ++ text))
-    ⊎ (((s ≡ status.WriteFailed) ⊎ (s ≡ status.NoMemory)) × AddsFront old new text)
+    ⊎ (((s ≡ status.WriteFailed) ⊎ (s ≡ status.NoMemory)) × AddsProperFront old new text)
 
 -- the status is the one that goes with the text, and the error sink didn't fail; or it failed, as the status says, or memory was wanting
 abbrev pub ReportCause : SinkState → SinkState → Status → Status → Type 0
@@ -98,89 +103,40 @@ pub record Withholds (old new : FilesState) (s : Status) : Type 0 where
 abbrev pub PutsAfter : FilesState → FilesState → List ℕ → List ℕ → SessionEnd → Status → Type 0
 PutsAfter old new sent text e s = PutsSent old new sent text e s ⊎ Withholds old new s
 
--- a session over the input and the answers, with that configuration, and the text of SENT: no forward line has a SOCKS server, and
--- each dial takes an answer
-pub record IsSessionServed (config : Config) (tags : List (List ℕ)) (answers : List Answer) (i i' : SourceState) (o o' : SinkState) (t t' : ClockState) (e : SessionEnd) (text : List ℕ) : Type 0 where
-  pub looks : Looks
-  pub looks_after : Looks
-  pub fixed : IsFixed looks config
-  pub dialer : DialerState
-  pub notes : List ExchangeNote
-  pub serves : Serves (caller_of tags) looks looks_after i i'
-      (record { client_out = o; dialer = fresh_dialer answers; clock = t })
-      (record { client_out = o'; dialer = dialer; clock = t' }) notes e
-  pub text_is : text ≡ sent_text (finished_links dialer.dials)
-  -- the session's own faults
-  pub read_cause : ReadEndCause i i' e
-  pub write_cause : WriteEndCause o o' e
-
 -- a dialer through SOCKS servers that is just made, over one in memory with these answers
 abbrev pub begun_socks : List Answer → KeptDialer
 begun_socks answers = record { inner = fresh_dialer answers; notes = []; names = 0; reach = 0; link_reads = 0; link_writes = 0; opened = 0; hung_up = 0 }
 
--- the same through SOCKS servers: the session is one over the outer dials; each takes an answer too, but for one whose target no
--- server can be told, and by a dial name it gives what stands behind the bytes that are accepted of the server. The inner dials are
--- those that stand behind the outer ones, and SENT has the inner links
-pub record IsServedThrough (config : Config) (tags : List (List ℕ)) (answers : List Answer) (i i' : SourceState) (o o' : SinkState) (t t' : ClockState) (e : SessionEnd) (text : List ℕ) : Type 0 where
-  pub looks : Looks
-  pub looks_after : Looks
-  pub fixed : IsFixed looks config
-  pub dialer : KeptDialer
-  pub notes : List ExchangeNote
-  pub serves : Serves (caller_of tags) looks looks_after i i'
-      (record { client_out = o; dialer = outer_state (begun_socks answers); clock = t })
-      (record { client_out = o'; dialer = outer_state dialer; clock = t' }) notes e
-  pub handshakes : Handshakes (outer_state dialer).dials dialer.inner.dials
-  pub text_is : text ≡ sent_text (finished_links dialer.inner.dials)
-  -- the session's own faults
-  pub read_cause : ReadEndCause i i' e
-  pub write_cause : WriteEndCause o o' e
+-- a session through SOCKS servers: it is one over the outer dials, as far as they aren't a pool's; each takes an answer, but for one
+-- whose target no server can be told, and by a dial name it gives what stands behind the bytes that are accepted of the server. The
+-- inner dials are those that stand behind the outer ones; a link that a pool keeps is one behind its handshake
+pub record ServesThrough (sharing : Bool) (tags : List (List ℕ)) (looks : Looks) (old new : StreamsState) (answers : List Answer) (inner : DialerState) (e : SessionEnd) : Type 0 where
+  pub kept : KeptDialer
+  pub serves : ServesClient server_views sharing tags looks old new (outer_state (begun_socks answers)) (outer_state kept) e
+  pub inner_is : inner ≡ kept.inner
+  pub handshakes : Handshakes (outer_state kept).dials inner.dials
 
--- a session whose requests share links, over the input and the answers, with that configuration, and the text of SENT: no forward
--- line has a SOCKS server. The pool is made over the dialer that takes the answers and taken apart behind the session, and SENT has
--- the inner links, of which each has what went over it in all of the pool's dials
-pub record IsServedShared (config : Config) (tags : List (List ℕ)) (answers : List Answer) (i i' : SourceState) (o o' : SinkState) (t t' : ClockState) (e : SessionEnd) (text : List ℕ) : Type 0 where
+-- a session whose dials take the answers in memory, where that dialer stands behind it, by whether a forward line has a SOCKS server:
+-- through such servers, or each dial takes an answer itself
+abbrev pub ServesOver : Bool → Bool → List (List ℕ) → Looks → StreamsState → StreamsState → List Answer → DialerState → SessionEnd → Type 0
+ServesOver socks sharing tags looks old new answers inner e =
+    MatchBool socks (ServesThrough sharing tags looks old new answers inner e) (ServesClient in_memory sharing tags looks old new (fresh_dialer answers) inner e)
+
+-- a session over the input and the answers, with that configuration, and the text of SENT, which has the links that took the answers:
+-- where its requests share links, each of these has what went over it in all of the pool's dials, and where it is through SOCKS
+-- servers, they are the links to those
+pub record IsServed (config : Config) (tags : List (List ℕ)) (answers : List Answer) (old new : StreamsState) (e : SessionEnd) (text : List ℕ) : Type 0 where
   pub looks : Looks
   pub fixed : IsFixed looks config
-  pub dialer : DialerState
-  pub shares : SharesLinks in_memory (caller_of tags) looks i i' o o' (fresh_dialer answers) dialer t t' e
-  pub text_is : text ≡ sent_text (finished_links dialer.dials)
-  -- the session's own faults
-  pub read_cause : ReadEndCause i i' e
-  pub write_cause : WriteEndCause o o' e
-
--- the same through SOCKS servers: the pool is one over the outer dials, a link that it keeps is one behind its handshake, and SENT has
--- the links to the servers
-pub record IsServedSharedThrough (config : Config) (tags : List (List ℕ)) (answers : List Answer) (i i' : SourceState) (o o' : SinkState) (t t' : ClockState) (e : SessionEnd) (text : List ℕ) : Type 0 where
-  pub looks : Looks
-  pub fixed : IsFixed looks config
-  pub dialer : KeptDialer
-  pub shares : SharesLinks server_views (caller_of tags) looks i i' o o' (outer_state (begun_socks answers)) (outer_state dialer) t t' e
-  pub handshakes : Handshakes (outer_state dialer).dials dialer.inner.dials
-  pub text_is : text ≡ sent_text (finished_links dialer.inner.dials)
-  -- the session's own faults
-  pub read_cause : ReadEndCause i i' e
-  pub write_cause : WriteEndCause o o' e
-
--- a session over the input and the answers whose requests take new links: through SOCKS servers where a forward line has one
-abbrev pub ServesApart : Config → List (List ℕ) → List Answer → SourceState → SourceState → SinkState → SinkState → ClockState → ClockState → SessionEnd → List ℕ → Type 0
-ServesApart config tags answers i i' o o' t t' e text =
-    MatchBool (has_socks config.forwards) (IsServedThrough config tags answers i i' o o' t t' e text) (IsSessionServed config tags answers i i' o o' t t' e text)
-
--- the same whose requests share links
-abbrev pub ServesShared : Config → List (List ℕ) → List Answer → SourceState → SourceState → SinkState → SinkState → ClockState → ClockState → SessionEnd → List ℕ → Type 0
-ServesShared config tags answers i i' o o' t t' e text =
-    MatchBool (has_socks config.forwards) (IsServedSharedThrough config tags answers i i' o o' t t' e text) (IsServedShared config tags answers i i' o o' t t' e text)
-
--- a session over the input and the answers: its requests share links where the configuration says so
-abbrev pub ServesInput : Config → List (List ℕ) → List Answer → SourceState → SourceState → SinkState → SinkState → ClockState → ClockState → SessionEnd → List ℕ → Type 0
-ServesInput config tags answers i i' o o' t t' e text =
-    MatchBool config.settings.sharing (ServesShared config tags answers i i' o o' t t' e text) (ServesApart config tags answers i i' o o' t t' e text)
+  -- the dialer in memory behind the session
+  pub inner : DialerState
+  pub serves : ServesOver (has_socks config.forwards) config.settings.sharing tags looks old new answers inner e
+  pub text_is : text ≡ sent_text (finished_links inner.dials)
 
 -- the same with the text that was made, if memory was there for it
-pub record HasServed (config : Config) (tags : List (List ℕ)) (answers : List Answer) (i i' : SourceState) (o o' : SinkState) (t t' : ClockState) (e : SessionEnd) (made : Option (List ℕ)) : Type 0 where
+pub record HasServed (config : Config) (tags : List (List ℕ)) (answers : List Answer) (old new : StreamsState) (e : SessionEnd) (made : Option (List ℕ)) : Type 0 where
   pub text : List ℕ
-  pub served : ServesInput config tags answers i i' o o' t t' e text
+  pub served : IsServed config tags answers old new e text
   pub made_is : (x : List ℕ) → made ≡ Some x → x ≡ text
 
 -- ORIGIN couldn't be read
@@ -201,7 +157,7 @@ pub record PassesSession (config : Config) (origin sent : List ℕ) (tags : List
   pub has_answers : IsTrue old.files.tells → HasAnswers (old.files.contents origin) answers
   pub session_end : SessionEnd
   pub text : List ℕ
-  pub served : ServesInput config tags answers old.input new.input old.out new.out old.clock new.clock session_end text
+  pub served : IsServed config tags answers (streams_of old) (streams_of new) session_end text
   pub put : PutsAfter old.files new.files sent text session_end s
   pub unprinted : new.errors ≡ old.errors
 

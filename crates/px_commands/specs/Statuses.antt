@@ -2,8 +2,8 @@
 use Rattle.std.specs.Prelude.{ℕ, Bool, true, false, Result, Ok, Err}
 use Rattle.px_base.specs.declared.faults.FilesFault.{FilesFault}
 use Rattle.px_base.specs.declared.faults.FilesFault.TheVariants as fault
-use Rattle.px_serve.specs.declared.ends.SessionEnd.{SessionEnd}
-use Rattle.px_serve.specs.declared.ends.SessionEnd.TheVariants as end
+use Rattle.px_notes.specs.declared.sessions.SessionEnd.{SessionEnd}
+use Rattle.px_notes.specs.declared.sessions.SessionEnd.TheVariants as end
 use Rattle.px_commands.specs.declared.statuses.Status.{Status}
 use Rattle.px_commands.specs.declared.statuses.Status.TheVariants as status
 

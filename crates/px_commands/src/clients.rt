@@ -1,18 +1,18 @@
 // The one client of `pass`, served over a dialer.
-ghost use Rattle.std.specs.Prelude.{◌≡◌, ◌∷◌, [], IfOk, codes, map, string_bytes};
-ghost use Rattle.px_base.specs.Sources.{SourceGoesOn};
-ghost use Rattle.px_base.specs.Sinks.{SinkGoesOn};
-ghost use Rattle.px_base.specs.Moments.{ClockGoesOn};
-ghost use Rattle.px_serve.specs.Ends.{ReadEndCause, WriteEndCause};
-ghost use Rattle.px_commands.specs.Clients.{ServesClient, SharesLinks, TakesNewLinks};
+ghost use Rattle.std.specs.Prelude.{◌≡◌, ◌∷◌, [], IfOk, codes, false, map, string_bytes, true};
+ghost use Rattle.px_serve.specs.Histories.{looks_of};
+ghost use Rattle.px_commands.specs.Clients.{ServesClient, ServesEnds, streams_as};
 
 use crate::texts::tag_texts;
 use px_base::{Clock, Dialer, List, Mem, Peer, Sink, Source, Text};
 use px_config::Config;
+use px_ends::{Ends, Joined, Outside};
 use px_link_pool::{Look, Sees};
+use px_notes::SessionEnd;
 use px_publish::{Configs, FixedConfig};
-use px_serve::{SessionEnd, serve_connection};
-use px_shared::{SharedSession, serve_shared};
+use px_serve::serve_cold;
+use px_shared::{heard_is_enough, pools_hear_fronts, with_pool, without_pool};
+use px_streams::Feed;
 use px_ways::Way;
 use std::alloc::Global;
 use std::sync::Arc;
@@ -31,10 +31,25 @@ pub struct PassClient {
     sharing: bool,
 }
 
-/// How a session ended, and the dialer behind it, with every link hung up.
-pub struct Ended<D> {
+/// The client's input, its output and the clock of its session.
+#[derive(Drop)]
+pub struct Streams<S, O, T> {
+    pub input: S,
+    pub out: O,
+    pub clock: T,
+}
+
+/// How a session ended, with its streams, and the dialer behind it, with every link hung up.
+pub struct Ended<S, O, D, T> {
     pub end: SessionEnd,
     pub dialer: D,
+    pub streams: Streams<S, O, T>,
+}
+
+/// How a session between ends ended, with the ends behind it.
+struct EndedEnds<A: Outside> {
+    end: SessionEnd,
+    ends: Ends<A>,
 }
 
 /// The one configuration, at each look.
@@ -67,126 +82,130 @@ pub fn made_client(alloc: Global, loaded: Config, tags: &[String]) -> Result<Pas
     })
 }
 
-/// Serves the client over a dialer: where the configuration says so, over a pool of links of that dialer, and else each dial is
-/// a new link.
+/// Serves the client over a dialer that has dialled nothing: where the configuration says so, over a pool of links of that
+/// dialer, and else each dial is a new link.
 pub fn serve_client<R: Threads + Sync, S: Source, O: Sink, D: Dialer, T: Clock>(
     alloc: Global,
     way: &Way<'_, R>,
     client: PassClient,
     dialer: D,
-    input: &mut S,
-    out: &mut O,
-    clock: &mut T,
-) -> Ended<D>
+    streams: Streams<S, O, T>,
+) -> Ended<S, O, D, T>
 where
     Look: Sees<D::In>,
-    ensures serves { ServesClient (record { ins = D.In.state; outs = D.Out.state }) client.sharing (record { tags = client.tags; peer = client.peer.address })
-        (record { tells = ⟦<FixedConfig<Config> as Configs>⟧.tells; view = ⟦<FixedConfig<Config> as Configs>⟧.view client.configs; pair = ⟦<FixedConfig<Config> as Configs>⟧.pair client.configs; coming = ⟦<FixedConfig<Config> as Configs>⟧.coming client.configs })
-        (S.state input.old) (S.state input.new) (O.state out.old) (O.state out.new) (D.state dialer) (D.state result.dialer) (T.state clock.old) (T.state clock.new) result.end }
-    ensures tells_same { (D.state result.dialer).tells ≡ (D.state dialer).tells }
-    ensures read_cause { ReadEndCause (S.state input.old) (S.state input.new) result.end }
-    ensures write_cause { WriteEndCause (O.state out.old) (O.state out.new) result.end }
-    ensures input_goes_on { SourceGoesOn (S.state input.old) (S.state input.new) }
-    ensures out_goes_on { SinkGoesOn (O.state out.old) (O.state out.new) }
-    ensures clock_goes_on { ClockGoesOn (T.state clock.old) (T.state clock.new) }
+    requires peer { client.peer.address ≡ codes "127.0.0.1" }
+    requires undialled { (D.state dialer).dials ≡ [] }
+    ensures serves { ServesClient (record { ins = D.In.state; outs = D.Out.state }) client.sharing client.tags
+        (looks_of ⟦<FixedConfig<Config> as Configs>⟧.tells ⟦<FixedConfig<Config> as Configs>⟧.view ⟦<FixedConfig<Config> as Configs>⟧.pair ⟦<FixedConfig<Config> as Configs>⟧.coming client.configs)
+        (streams_as S.state O.state T.state streams) (streams_as S.state O.state T.state result.streams) (D.state dialer) (D.state result.dialer) result.end }
 {
-    if client.sharing {
-        share_links(alloc, way, client, dialer, input, out, clock)
+    let PassClient {
+        tags,
+        peer,
+        configs,
+        sharing,
+    } = client;
+    let Streams { input, out, clock } = streams;
+    let ends: Ends<Joined<S, O, D, T>> = Ends::new(alloc, input, out, dialer, clock, peer);
+    let EndedEnds { end, ends } = serve_ends(alloc, way, sharing, configs, tags.as_slice(), ends);
+    let (dialer, streams) = opened(ends);
+    Ended {
+        end,
+        dialer,
+        streams,
+    }
+}
+
+/// The dialer and the streams of ends.
+fn opened<S: Source, O: Sink, D: Dialer, T: Clock>(
+    ends: Ends<Joined<S, O, D, T>>,
+) -> (D, Streams<S, O, T>)
+    ensures dialer { D.state result.0 ≡ ends.dialer }
+    ensures streams { streams_as S.state O.state T.state result.1 ≡ record { input = ends.client.source; out = ends.client_out; clock = ends.clock } }
+{
+    let Ends {
+        client,
+        client_out,
+        dialer,
+        clock,
+        peer: _,
+    } = ends;
+    let Feed { source, ahead: _ } = client;
+    let streams = Streams {
+        input: source,
+        out: client_out,
+        clock,
+    };
+    (dialer, streams)
+}
+
+/// Serves a client between ends whose dialer has dialled nothing, by whether its requests may share links.
+fn serve_ends<R: Threads + Sync, A: Outside>(
+    alloc: Global,
+    way: &Way<'_, R>,
+    sharing: bool,
+    configs: FixedConfig<Config>,
+    tags: &[Text],
+    ends: Ends<A>,
+) -> EndedEnds<A>
+where
+    Look: Sees<<A::Dial as Dialer>::In>,
+    requires undialled { ends.dialer.dials ≡ [] }
+    ensures serves { ServesEnds (record { ins = A.Dial.In.state; outs = A.Dial.Out.state }) sharing tags.now
+        (looks_of ⟦<FixedConfig<Config> as Configs>⟧.tells ⟦<FixedConfig<Config> as Configs>⟧.view ⟦<FixedConfig<Config> as Configs>⟧.pair ⟦<FixedConfig<Config> as Configs>⟧.coming configs)
+        ends result.ends result.end }
+{
+    if sharing {
+        share_links(alloc, way, configs, tags, ends)
     } else {
-        take_new_links(alloc, way, client, dialer, input, out, clock)
+        take_new_links(alloc, way, configs, tags, ends)
     }
 }
 
-/// Serves the client over a pool of links of a dialer.
-fn share_links<R: Threads + Sync, S: Source, O: Sink, D: Dialer, T: Clock>(
+/// Serves a client over a pool of links of its ends' dialer.
+fn share_links<R: Threads + Sync, A: Outside>(
     alloc: Global,
     way: &Way<'_, R>,
-    client: PassClient,
-    dialer: D,
-    input: &mut S,
-    out: &mut O,
-    clock: &mut T,
-) -> Ended<D>
+    configs: FixedConfig<Config>,
+    tags: &[Text],
+    ends: Ends<A>,
+) -> EndedEnds<A>
 where
-    Look: Sees<D::In>,
-    ensures shares { SharesLinks (record { ins = D.In.state; outs = D.Out.state }) (record { tags = client.tags; peer = client.peer.address })
-        (record { tells = ⟦<FixedConfig<Config> as Configs>⟧.tells; view = ⟦<FixedConfig<Config> as Configs>⟧.view client.configs; pair = ⟦<FixedConfig<Config> as Configs>⟧.pair client.configs; coming = ⟦<FixedConfig<Config> as Configs>⟧.coming client.configs })
-        (S.state input.old) (S.state input.new) (O.state out.old) (O.state out.new) (D.state dialer) (D.state result.dialer) (T.state clock.old) (T.state clock.new) result.end }
-    ensures tells_same { (D.state result.dialer).tells ≡ (D.state dialer).tells }
-    ensures read_cause { ReadEndCause (S.state input.old) (S.state input.new) result.end }
-    ensures write_cause { WriteEndCause (O.state out.old) (O.state out.new) result.end }
-    ensures input_goes_on { SourceGoesOn (S.state input.old) (S.state input.new) }
-    ensures out_goes_on { SinkGoesOn (O.state out.old) (O.state out.new) }
-    ensures clock_goes_on { ClockGoesOn (T.state clock.old) (T.state clock.new) }
+    Look: Sees<<A::Dial as Dialer>::In>,
+    requires undialled { ends.dialer.dials ≡ [] }
+    ensures serves { ServesEnds (record { ins = A.Dial.In.state; outs = A.Dial.Out.state }) true tags.now
+        (looks_of ⟦<FixedConfig<Config> as Configs>⟧.tells ⟦<FixedConfig<Config> as Configs>⟧.view ⟦<FixedConfig<Config> as Configs>⟧.pair ⟦<FixedConfig<Config> as Configs>⟧.coming configs)
+        ends result.ends result.end }
 {
-    let PassClient {
-        tags,
-        peer,
-        mut configs,
-        sharing: _,
-    } = client;
-    let SharedSession {
-        session,
-        dialer,
-        wanting: _,
-        history: _,
-    } = serve_shared(
-        alloc,
-        way,
-        &mut configs,
-        input,
-        out,
-        dialer,
-        clock,
-        &peer,
-        tags.as_slice(),
-    );
-    Ended {
+    heard_is_enough();
+    pools_hear_fronts::<<A::Dial as Dialer>::In, <A::Dial as Dialer>::Out>();
+    let mut configs = configs;
+    let mut pooled = with_pool(alloc, ends);
+    let session = serve_cold(alloc, way, &mut configs, tags, &mut pooled);
+    let (ends, _wanting) = without_pool(pooled);
+    EndedEnds {
         end: session.end,
-        dialer,
+        ends,
     }
 }
 
-/// Serves the client over a dialer, each dial a new link.
-fn take_new_links<R: Threads + Sync, S: Source, O: Sink, D: Dialer, T: Clock>(
+/// Serves a client between ends, each dial a new link.
+fn take_new_links<R: Threads + Sync, A: Outside>(
     alloc: Global,
     way: &Way<'_, R>,
-    client: PassClient,
-    dialer: D,
-    input: &mut S,
-    out: &mut O,
-    clock: &mut T,
-) -> Ended<D>
-    ensures takes { TakesNewLinks (record { tags = client.tags; peer = client.peer.address })
-        (record { tells = ⟦<FixedConfig<Config> as Configs>⟧.tells; view = ⟦<FixedConfig<Config> as Configs>⟧.view client.configs; pair = ⟦<FixedConfig<Config> as Configs>⟧.pair client.configs; coming = ⟦<FixedConfig<Config> as Configs>⟧.coming client.configs })
-        (S.state input.old) (S.state input.new) (O.state out.old) (O.state out.new) (D.state dialer) (D.state result.dialer) (T.state clock.old) (T.state clock.new) result.end }
-    ensures tells_same { (D.state result.dialer).tells ≡ (D.state dialer).tells }
-    ensures read_cause { ReadEndCause (S.state input.old) (S.state input.new) result.end }
-    ensures write_cause { WriteEndCause (O.state out.old) (O.state out.new) result.end }
-    ensures input_goes_on { SourceGoesOn (S.state input.old) (S.state input.new) }
-    ensures out_goes_on { SinkGoesOn (O.state out.old) (O.state out.new) }
-    ensures clock_goes_on { ClockGoesOn (T.state clock.old) (T.state clock.new) }
+    configs: FixedConfig<Config>,
+    tags: &[Text],
+    ends: Ends<A>,
+) -> EndedEnds<A>
+    ensures serves { ServesEnds (record { ins = A.Dial.In.state; outs = A.Dial.Out.state }) false tags.now
+        (looks_of ⟦<FixedConfig<Config> as Configs>⟧.tells ⟦<FixedConfig<Config> as Configs>⟧.view ⟦<FixedConfig<Config> as Configs>⟧.pair ⟦<FixedConfig<Config> as Configs>⟧.coming configs)
+        ends result.ends result.end }
 {
-    let PassClient {
-        tags,
-        peer,
-        mut configs,
-        sharing: _,
-    } = client;
-    let mut dialer = dialer;
-    let session = serve_connection(
-        alloc,
-        way,
-        &mut configs,
-        input,
-        out,
-        &mut dialer,
-        clock,
-        &peer,
-        tags.as_slice(),
-    );
-    Ended {
+    let mut configs = configs;
+    let mut ends = ends;
+    let session = serve_cold(alloc, way, &mut configs, tags, &mut ends);
+    EndedEnds {
         end: session.end,
-        dialer,
+        ends,
     }
 }

@@ -13,6 +13,7 @@ mod reports;
 mod sents;
 mod statuses;
 mod texts;
+mod tools;
 mod words;
 
 pub use commands::run_tool;
@@ -20,4 +21,5 @@ pub use loads::report_load;
 pub use parses::parse_serve;
 pub use reports::report;
 pub use statuses::{Status, USAGE, constants};
+pub use tools::{RanTool, ToolParts};
 pub use words::{ServeWords, read_serve};

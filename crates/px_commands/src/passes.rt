@@ -1,22 +1,22 @@
 // The command `pass`: one session over the input, with the answers of a file.
-ghost use Rattle.std.specs.Prelude.{◌≡◌, List, ℕ, IfOk, OnErr, false, map, string_bytes, true};
+ghost use Rattle.std.specs.Prelude.{◌≡◌, List, ℕ, IfOk, IfSome, OnErr, Some, map, string_bytes};
 ghost use Rattle.px_base.specs.Contents.{FilesGoOn};
-ghost use Rattle.px_base.specs.Sources.{SourceGoesOn};
-ghost use Rattle.px_base.specs.Sinks.{SinkState, SinkGoesOn};
-ghost use Rattle.px_base.specs.Moments.{ClockGoesOn};
-ghost use Rattle.px_decide.specs.Forwards.{has_socks};
-ghost use Rattle.px_commands.specs.Passes.{Outside, OutsideGoesOn, RunsLoaded, HasServed, PutsAfter};
+ghost use Rattle.px_base.specs.Dials.{finished_links};
+ghost use Rattle.px_commands.specs.Clients.{StreamsGoOn, streams_as};
+ghost use Rattle.px_commands.specs.Passes.{OutsideGoesOn, RunsLoaded, HasServed, PutsAfter, tool_as};
 ghost use Rattle.px_commands.specs.Passing.{RunsPass};
+ghost use Rattle.px_commands.specs.Sents.{sent_text};
 
 use crate::answers::{OriginRead, read_answers};
-use crate::clients::{Ended, made_client, serve_client};
+use crate::clients::{Ended, Streams, made_client, serve_client};
 use crate::loads::report_load;
 use crate::sents::made_sent;
 use crate::statuses::{Status, is_wanting, status_after};
+use crate::tools::{EndedTool, ToolParts};
 use crate::words::PassWords;
-use px_base::{Answer, Clock, Files, List, Mem, MemDialer, Sink, Source, Text};
+use px_base::{Answer, Clock, Dialer, Files, List, Mem, MemDialer, Sink, Source, Text};
 use px_config::{Config, load};
-use px_serve::SessionEnd;
+use px_notes::SessionEnd;
 use px_socks::SocksDialer;
 use px_ways::Way;
 use std::alloc::Global;
@@ -27,55 +27,110 @@ pub fn run_pass<R: Threads + Sync, F: Files, S: Source, O: Sink, E: Sink, T: Clo
     alloc: Global,
     way: &Way<'_, R>,
     pass: PassWords<'_>,
-    files: &mut F,
-    input: &mut S,
-    out: &mut O,
-    err: &mut E,
-    clock: &mut T,
-) -> Status
+    parts: ToolParts<F, S, O, E, T>,
+) -> EndedTool<F, S, O, E, T>
     ensures runs { RunsPass pass.entry.config.now pass.entry.origin.now pass.entry.sent.now (map string_bytes pass.entry.tags.now)
-        (record { files = F.state files.old; input = S.state input.old; out = O.state out.old; errors = E.state err.old; clock = T.state clock.old })
-        (record { files = F.state files.new; input = S.state input.new; out = O.state out.new; errors = E.state err.new; clock = T.state clock.new }) result }
-    ensures goes_on { OutsideGoesOn
-        (record { files = F.state files.old; input = S.state input.old; out = O.state out.old; errors = E.state err.old; clock = T.state clock.old })
-        (record { files = F.state files.new; input = S.state input.new; out = O.state out.new; errors = E.state err.new; clock = T.state clock.new }) }
+        (tool_as F.state S.state O.state E.state T.state parts) (tool_as F.state S.state O.state E.state T.state result.parts) result.status }
+    ensures goes_on { OutsideGoesOn (tool_as F.state S.state O.state E.state T.state parts) (tool_as F.state S.state O.state E.state T.state result.parts) }
 {
-    match load(alloc, files, pass.config) {
-        Ok(loaded) => run_loaded(alloc, way, loaded, pass, files, input, out, clock),
-        Err(fault) => report_load(alloc, err, &fault),
+    let ToolParts {
+        mut files,
+        input,
+        out,
+        mut err,
+        clock,
+    } = parts;
+    match load(alloc, &mut files, pass.config) {
+        Ok(loaded) => {
+            let parts = ToolParts {
+                files,
+                input,
+                out,
+                err,
+                clock,
+            };
+            run_loaded(alloc, way, loaded, pass, parts)
+        }
+        Err(fault) => {
+            let status = report_load(alloc, &mut err, &fault);
+            let parts = ToolParts {
+                files,
+                input,
+                out,
+                err,
+                clock,
+            };
+            EndedTool { status, parts }
+        }
     }
 }
 
 /// Goes on with a configuration.
-fn run_loaded<R: Threads + Sync, F: Files, S: Source, O: Sink, T: Clock>(
+fn run_loaded<R: Threads + Sync, F: Files, S: Source, O: Sink, E: Sink, T: Clock>(
     alloc: Global,
     way: &Way<'_, R>,
     loaded: Config,
     pass: PassWords<'_>,
-    files: &mut F,
-    input: &mut S,
-    out: &mut O,
-    clock: &mut T,
-) -> Status
-    ensures runs { (errors : SinkState) → RunsLoaded loaded pass.entry.origin.now pass.entry.sent.now (map string_bytes pass.entry.tags.now)
-        (record { files = F.state files.old; input = S.state input.old; out = O.state out.old; errors = errors; clock = T.state clock.old })
-        (record { files = F.state files.new; input = S.state input.new; out = O.state out.new; errors = errors; clock = T.state clock.new }) result }
-    ensures files_go_on { FilesGoOn (F.state files.old) (F.state files.new) }
-    ensures input_goes_on { SourceGoesOn (S.state input.old) (S.state input.new) }
-    ensures out_goes_on { SinkGoesOn (O.state out.old) (O.state out.new) }
-    ensures clock_goes_on { ClockGoesOn (T.state clock.old) (T.state clock.new) }
+    parts: ToolParts<F, S, O, E, T>,
+) -> EndedTool<F, S, O, E, T>
+    ensures runs { RunsLoaded loaded pass.entry.origin.now pass.entry.sent.now (map string_bytes pass.entry.tags.now)
+        (tool_as F.state S.state O.state E.state T.state parts) (tool_as F.state S.state O.state E.state T.state result.parts) result.status }
+    ensures goes_on { OutsideGoesOn (tool_as F.state S.state O.state E.state T.state parts) (tool_as F.state S.state O.state E.state T.state result.parts) }
 {
-    match read_answers(alloc, files, pass.origin) {
-        OriginRead::Answers(answers) => match serve_input(
-            alloc, way, loaded, pass.tags, answers, input, out, clock,
-        ) {
-            Ok(served) => put_served(files, pass.sent, served),
-            Err(Mem) => Status::NoMemory,
-        },
-        OriginRead::Refused => Status::NoOrigin,
-        OriginRead::Failed => Status::ReadFailed,
-        OriginRead::NoMemory => Status::NoMemory,
+    let ToolParts {
+        mut files,
+        input,
+        out,
+        err,
+        clock,
+    } = parts;
+    match read_answers(alloc, &mut files, pass.origin) {
+        OriginRead::Answers(answers) => {
+            let streams = Streams { input, out, clock };
+            let ServedInput { served, streams } = serve_input(
+                alloc, way, loaded, pass.tags, answers, streams,
+            );
+            match served {
+                Ok(served) => {
+                    let status = put_served(&mut files, pass.sent, served);
+                    behind_session(status, files, streams, err)
+                }
+                Err(Mem) => behind_session(Status::NoMemory, files, streams, err),
+            }
+        }
+        OriginRead::Refused => {
+            let streams = Streams { input, out, clock };
+            behind_session(Status::NoOrigin, files, streams, err)
+        }
+        OriginRead::Failed => {
+            let streams = Streams { input, out, clock };
+            behind_session(Status::ReadFailed, files, streams, err)
+        }
+        OriginRead::NoMemory => {
+            let streams = Streams { input, out, clock };
+            behind_session(Status::NoMemory, files, streams, err)
+        }
     }
+}
+
+/// What is left with a status of what a command was run with.
+fn behind_session<F, S, O, E, T>(
+    status: Status,
+    files: F,
+    streams: Streams<S, O, T>,
+    err: E,
+) -> EndedTool<F, S, O, E, T>
+    ensures { result ≡ record { status = status; parts = record { files = files; input = streams.input; out = streams.out; err = err; clock = streams.clock } } }
+{
+    let Streams { input, out, clock } = streams;
+    let parts = ToolParts {
+        files,
+        input,
+        out,
+        err,
+        clock,
+    };
+    EndedTool { status, parts }
 }
 
 /// How a session ended, and the text of SENT, if memory was there for it.
@@ -85,84 +140,75 @@ pub struct ServedSession {
     sent: Option<Text>,
 }
 
+/// What came of serving the input, and the streams behind it.
+struct ServedInput<S, O, T> {
+    served: Result<ServedSession, Mem>,
+    streams: Streams<S, O, T>,
+}
+
 /// Serves the input as one client, whose dials have the answers; where a forward line has a SOCKS server, the dials go through
-/// such servers. After `Mem` nothing was read, asked or returned.
+/// such servers, and SENT has the links to them. After `Mem` nothing was read, asked or returned.
 fn serve_input<R: Threads + Sync, S: Source, O: Sink, T: Clock>(
     alloc: Global,
     way: &Way<'_, R>,
     loaded: Config,
     tags: &[String],
     answers: List<Answer>,
-    input: &mut S,
-    out: &mut O,
-    clock: &mut T,
-) -> Result<ServedSession, Mem>
-    ensures served { IfOk result (λ s. HasServed loaded (map string_bytes tags.now) answers (S.state input.old) (S.state input.new) (O.state out.old) (O.state out.new) (T.state clock.old) (T.state clock.new) s.end s.sent) }
-    ensures unused { OnErr result ((S.state input.new ≡ S.state input.old) × (O.state out.new ≡ O.state out.old) × (T.state clock.new ≡ T.state clock.old)) }
-    ensures input_goes_on { SourceGoesOn (S.state input.old) (S.state input.new) }
-    ensures out_goes_on { SinkGoesOn (O.state out.old) (O.state out.new) }
-    ensures clock_goes_on { ClockGoesOn (T.state clock.old) (T.state clock.new) }
+    streams: Streams<S, O, T>,
+) -> ServedInput<S, O, T>
+    ensures served { IfOk result.served (λ s. HasServed loaded (map string_bytes tags.now) answers (streams_as S.state O.state T.state streams) (streams_as S.state O.state T.state result.streams) s.end s.sent) }
+    ensures unused { OnErr result.served (streams_as S.state O.state T.state result.streams ≡ streams_as S.state O.state T.state streams) }
+    ensures goes_on { StreamsGoOn (streams_as S.state O.state T.state streams) (streams_as S.state O.state T.state result.streams) }
 {
-    if loaded.forwards.has_socks() {
-        serve_through(alloc, way, loaded, tags, answers, input, out, clock)
-    } else {
-        serve_plain(alloc, way, loaded, tags, answers, input, out, clock)
+    let socks = loaded.forwards.has_socks();
+    match made_client(alloc, loaded, tags) {
+        Ok(client) => match MemDialer::new(alloc, answers) {
+            Ok(dialer) => {
+                if socks {
+                    let outer = SocksDialer::new(alloc, dialer);
+                    let Ended {
+                        end,
+                        dialer,
+                        streams,
+                    } = serve_client(alloc, way, client, outer, streams);
+                    let inner = dialer.into_inner();
+                    ServedInput {
+                        served: Ok(served_session(alloc, end, &inner)),
+                        streams,
+                    }
+                } else {
+                    let Ended {
+                        end,
+                        dialer,
+                        streams,
+                    } = serve_client(alloc, way, client, dialer, streams);
+                    ServedInput {
+                        served: Ok(served_session(alloc, end, &dialer)),
+                        streams,
+                    }
+                }
+            }
+            Err(Mem) => ServedInput {
+                served: Err(Mem),
+                streams,
+            },
+        },
+        Err(Mem) => ServedInput {
+            served: Err(Mem),
+            streams,
+        },
     }
 }
 
-/// The same where no forward line has a SOCKS server.
-fn serve_plain<R: Threads + Sync, S: Source, O: Sink, T: Clock>(
-    alloc: Global,
-    way: &Way<'_, R>,
-    loaded: Config,
-    tags: &[String],
-    answers: List<Answer>,
-    input: &mut S,
-    out: &mut O,
-    clock: &mut T,
-) -> Result<ServedSession, Mem>
-    requires plain { has_socks loaded.forwards ≡ false }
-    ensures served { IfOk result (λ s. HasServed loaded (map string_bytes tags.now) answers (S.state input.old) (S.state input.new) (O.state out.old) (O.state out.new) (T.state clock.old) (T.state clock.new) s.end s.sent) }
-    ensures unused { OnErr result ((S.state input.new ≡ S.state input.old) × (O.state out.new ≡ O.state out.old) × (T.state clock.new ≡ T.state clock.old)) }
-    ensures input_goes_on { SourceGoesOn (S.state input.old) (S.state input.new) }
-    ensures out_goes_on { SinkGoesOn (O.state out.old) (O.state out.new) }
-    ensures clock_goes_on { ClockGoesOn (T.state clock.old) (T.state clock.new) }
+/// A session that ended so, with the text of SENT for what was sent over the links of a dialer.
+fn served_session(alloc: Global, end: SessionEnd, dialer: &MemDialer) -> ServedSession
+    ensures end { result.end ≡ end }
+    ensures sent { IfSome result.sent (λ text. text ≡ sent_text (finished_links (⟦<MemDialer as Dialer>⟧.state dialer.now).dials)) }
 {
-    let client = made_client(alloc, loaded, tags)?;
-    let dialer = MemDialer::new(alloc, answers)?;
-    let Ended { end, dialer } = serve_client(alloc, way, client, dialer, input, out, clock);
-    Ok(ServedSession {
+    ServedSession {
         end,
         sent: made_sent(alloc, dialer.links()),
-    })
-}
-
-/// The same through SOCKS servers. SENT has the links to them.
-fn serve_through<R: Threads + Sync, S: Source, O: Sink, T: Clock>(
-    alloc: Global,
-    way: &Way<'_, R>,
-    loaded: Config,
-    tags: &[String],
-    answers: List<Answer>,
-    input: &mut S,
-    out: &mut O,
-    clock: &mut T,
-) -> Result<ServedSession, Mem>
-    requires through { has_socks loaded.forwards ≡ true }
-    ensures served { IfOk result (λ s. HasServed loaded (map string_bytes tags.now) answers (S.state input.old) (S.state input.new) (O.state out.old) (O.state out.new) (T.state clock.old) (T.state clock.new) s.end s.sent) }
-    ensures unused { OnErr result ((S.state input.new ≡ S.state input.old) × (O.state out.new ≡ O.state out.old) × (T.state clock.new ≡ T.state clock.old)) }
-    ensures input_goes_on { SourceGoesOn (S.state input.old) (S.state input.new) }
-    ensures out_goes_on { SinkGoesOn (O.state out.old) (O.state out.new) }
-    ensures clock_goes_on { ClockGoesOn (T.state clock.old) (T.state clock.new) }
-{
-    let client = made_client(alloc, loaded, tags)?;
-    let dialer = SocksDialer::new(alloc, MemDialer::new(alloc, answers)?);
-    let Ended { end, dialer } = serve_client(alloc, way, client, dialer, input, out, clock);
-    let inner = dialer.into_inner();
-    Ok(ServedSession {
-        end,
-        sent: made_sent(alloc, inner.links()),
-    })
+    }
 }
 
 /// Puts SENT behind a session, unless memory was wanting in it or for the text.

@@ -3,7 +3,7 @@ ghost use Rattle.std.specs.Prelude.{◌≡◌, codes};
 ghost use Rattle.px_commands.specs.Statuses.{code_of, is_session_wanting, status_after, status_of_put};
 
 use px_base::FilesFault;
-use px_serve::SessionEnd;
+use px_notes::SessionEnd;
 
 /// How the commands are used, a line for each that is built.
 pub const USAGE: &[u8] =

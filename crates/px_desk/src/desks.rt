@@ -1,15 +1,13 @@
 // The desk: it takes connections from the doors, reloads, keeps which connections are out, and takes them back.
-ghost use Rattle.std.specs.Prelude.{IfOk, None, IsTrue, ◌↔◌, ◌≤◌, length, ◌≡◌, ◌+◌, ◌<◌, ◌-◌, ◌^◌, ◌∷◌, [], Some, IfSome, IfNone, IfErr, MatchOption, string_bytes};
+ghost use Rattle.std.specs.Prelude.{IfOk, None, IsTrue, ◌↔◌, ◌≤◌, length, ◌≡◌, ◌+◌, ◌<◌, ◌-◌, ◌^◌, ◌∷◌, [], Some, IfErr, Err, MatchOption, string_bytes};
 ghost use Rattle.px_base.specs.Contents.{FilesState};
 ghost use Rattle.px_publish.specs.Published.{published, pair_of, told_by, receipt_pair, seen_by, reader_pair};
 ghost use Rattle.px_publish.specs.Views.{GoesOn};
-ghost use Rattle.px_doors.specs.Conns.{parted_as};
 ghost use Rattle.px_desk.specs.Sessions.{IsConnServed};
 ghost use Rattle.px_desk.specs.Reloads.{loader_as};
 ghost use Rattle.px_desk.specs.Facts.{DeskStands, DoorsBegun, IsClosed, IsOut, total};
 ghost use Rattle.px_desk.specs.Counts.{with_reload};
 ghost use Rattle.px_desk.specs.Turns.{none};
-ghost use Rattle.px_desk.specs.declared.desks.DeskNext.TheVariants.{Closed};
 ghost use Rattle.px_desk.specs.declared.desks.ServeEnd.TheVariants.{DoorsFailed, NoMemory};
 ghost use Rattle.px_base.specs.Causes.{Rose};
 
@@ -18,7 +16,8 @@ use crate::outs::{Out, place_of, take_off};
 use crate::reloads::{Reload, ReloadCounts};
 use px_base::{Files, Sink};
 use px_config::{Config, FileSet, LoadFault};
-use px_doors::{AcceptFault, Conn, Doors, Parted};
+use px_doors::{AcceptFault, Doors, Parted};
+use px_ends::{Ends, Outside};
 use px_publish::{ConfigReader, Publisher, Receipt};
 use std::alloc::Global;
 use std::marker::Model;
@@ -35,18 +34,21 @@ pub enum ServeEnd {
     NoMemory,
 }
 
-/// A connection that is handed out, and what its reload gave.
-pub struct HandedConn<S, O, D, T> {
+/// A connection that is handed out, seen by the states of its ends and by what its receipt tells, and what its reload gave.
+pub struct HandedConn<A: Outside> {
     pub number: u64,
     pub reload: Reload,
     pub receipt: Receipt<Config>,
-    pub conn: Conn<S, O, D, T>,
+    pub ends: Ends<A>,
 }
 
-/// What a desk gives.
-pub enum DeskNext<S, O, D, T> {
-    Conn(HandedConn<S, O, D, T>),
-    Closed(ServeEnd),
+impl<A: Outside> Model for HandedConn<A> {
+    ghost use Rattle.px_publish.specs.Published.{told_by, receipt_pair};
+    ghost use Rattle.px_desk.specs.Desks.{HandedState};
+
+    ghost Value = { HandedState };
+
+    ghost view = { λ h. record { number = h.number; reload = h.reload; told = told_by h.receipt; pair = receipt_pair h.receipt; ends = h.ends } };
 }
 
 /// What a desk is made of.
@@ -145,28 +147,28 @@ fn counted(counts: ReloadCounts, reload: &Reload) -> ReloadCounts
 }
 
 // Closes for good.
-fn closed<S, O, D, T>(closing: &mut Option<ServeEnd>, end: ServeEnd) -> DeskNext<S, O, D, T>
-    ensures closed { result ≡ Closed end }
+fn closed<C>(closing: &mut Option<ServeEnd>, end: ServeEnd) -> Result<C, ServeEnd>
+    ensures closed { result ≡ Err end }
     ensures closing { closing.new ≡ Some end }
 {
     *closing = Some(end);
-    DeskNext::Closed(end)
+    Err(end)
 }
 
 impl<F: Files, A: Doors, E: Sink> Desk<F, A, E> {
-    ghost use Rattle.px_desk.specs.Desks.{made_of, now_of, handed_as, HandsOut, StaysBut, ClosesBy, TakesBack, BeginsWithSpelling};
+    ghost use Rattle.px_desk.specs.Desks.{made_of, now_of, HandsOut, StaysBut, ClosesBy, TakesBack, BeginsWithSpelling};
 
     /// Takes the next connection, and reloads with it.
-    pub fn next<R: Wait>(&mut self, rt: &R) -> DeskNext<A::In, A::Out, A::Dial, A::Time>
+    pub fn next<R: Wait>(&mut self, rt: &R) -> Result<HandedConn<A::Conn>, ServeEnd>
         ensures made { made_of F.state A.state E.state self.new ≡ made_of F.state A.state E.state self.old }
-        ensures conn { IfSome (handed_as A.In.state A.Out.state A.Dial.state A.Time.state result) (λ h. HandsOut (made_of F.state A.state E.state self.old) (now_of F.state A.state E.state self.old) (now_of F.state A.state E.state self.new) h) }
-        ensures closed { IfNone (handed_as A.In.state A.Out.state A.Dial.state A.Time.state result) (StaysBut (now_of F.state A.state E.state self.old) (now_of F.state A.state E.state self.new)) }
+        ensures conn { IfOk result (λ h. HandsOut (made_of F.state A.state E.state self.old) (now_of F.state A.state E.state self.old) (now_of F.state A.state E.state self.new) h) }
+        ensures closed { IfErr result (λ _. StaysBut (now_of F.state A.state E.state self.old) (now_of F.state A.state E.state self.new)) }
         ensures listens { (A.state self.new.doors).listens_at ≡ (A.state self.old.doors).listens_at }
-        ensures again { MatchOption self.old.closing (Unit {0}) (λ e. result ≡ Closed e) }
+        ensures again { MatchOption self.old.closing (Unit {0}) (λ e. result ≡ Err e) }
         ensures closing { ClosesBy result self.new.closing }
     {
         if let Some(closing) = self.closing {
-            return DeskNext::Closed(closing);
+            return Err(closing);
         }
         let Ok(first) = self.loader.publisher.receipt() else {
             return closed(&mut self.closing, ServeEnd::NoMemory);
@@ -178,18 +180,18 @@ impl<F: Files, A: Doors, E: Sink> Desk<F, A, E> {
             return closed(&mut self.closing, ServeEnd::End);
         }
         match self.doors.accept() {
-            Ok(Some(conn)) => {
+            Ok(Some(ends)) => {
                 let (reload, receipt) = self.loader.reload(rt, first);
                 let number = self.accepted;
                 self.accepted += 1;
                 let handed = receipt.snapshot().number;
                 self.out.push_reserved(Out { number, handed });
                 self.counts = counted(self.counts, &reload);
-                DeskNext::Conn(HandedConn {
+                Ok(HandedConn {
                     number,
                     reload,
                     receipt,
-                    conn,
+                    ends,
                 })
             }
             Ok(None) => closed(&mut self.closing, ServeEnd::End),
@@ -210,11 +212,11 @@ impl<F: Files, A: Doors, E: Sink> Desk<F, A, E> {
     }
 
     /// Takes a connection back.
-    pub fn part(&mut self, parted: Parted<A::In, A::Out, A::Dial, A::Time>)
+    pub fn part(&mut self, parted: Parted<A::Conn>)
         requires out { IsOut (record { number = parted.number; handed = parted.handed }) self.old.out }
-        requires served { IsConnServed (A.state self.old.made_doors).tells (A.state self.old.made_doors).conns self.old.list (parted_as A.In.state A.Out.state A.Dial.state A.Time.state parted) }
+        requires served { IsConnServed (A.state self.old.made_doors).tells (A.state self.old.made_doors).conns self.old.list parted }
         ensures made { made_of F.state A.state E.state self.new ≡ made_of F.state A.state E.state self.old }
-        ensures parts { TakesBack (now_of F.state A.state E.state self.old) (now_of F.state A.state E.state self.new) (parted_as A.In.state A.Out.state A.Dial.state A.Time.state parted) }
+        ensures parts { TakesBack (now_of F.state A.state E.state self.old) (now_of F.state A.state E.state self.new) parted }
         ensures closing { self.new.closing ≡ self.old.closing }
     {
         let back = Out {
@@ -222,7 +224,12 @@ impl<F: Files, A: Doors, E: Sink> Desk<F, A, E> {
             handed: parted.handed,
         };
         take_off(&mut self.out, back);
-        self.doors.part(parted);
+        let mut place = Some(parted);
+        self.doors.part(&mut place);
+        match place {
+            None => {}
+            Some(_left) => unreachable!(),
+        }
     }
 
     /// The counts of what was handed out.

@@ -1,4 +1,3 @@
-pub mod Conns
 pub mod Doors
-pub mod MemConns
+pub mod Parted
 pub mod SocketDoors

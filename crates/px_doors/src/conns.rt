@@ -1,23 +1,22 @@
-// A connection, and what is kept of one that was served.
-use px_base::Peer;
-use px_serve::Session;
+// What is kept of a connection that was served.
+use px_ends::{Ends, Outside};
+use px_notes::Session;
+use std::marker::Model;
 
-/// A connection from a client: both its ends, what serves it, and who called.
+/// A connection that was served, seen by the states of its ends: its place among those accepted, from 0, the number of the
+/// configuration with which it was handed out, and its session.
 #[derive(Drop)]
-pub struct Conn<S, O, D, T> {
-    pub client_in: S,
-    pub client_out: O,
-    pub dialer: D,
-    pub clock: T,
-    pub peer: Peer,
-}
-
-/// A connection that was served: its place among those accepted, from 0, the number of the configuration with which it
-/// was handed out, and its session.
-#[derive(Drop)]
-pub struct Parted<S, O, D, T> {
+pub struct Parted<A: Outside> {
     pub number: u64,
     pub handed: u64,
     pub session: Session,
-    pub conn: Conn<S, O, D, T>,
+    pub ends: Ends<A>,
+}
+
+impl<A: Outside> Model for Parted<A> {
+    ghost use Rattle.px_doors.specs.Parted.{PartedState};
+
+    ghost Value = { PartedState };
+
+    ghost view = { λ p. record { number = p.number; handed = p.handed; session = p.session; ends = p.ends } };
 }

@@ -1,20 +1,24 @@
 // Doors in memory.
-ghost use Rattle.std.specs.Prelude.{◌≡◌, ◌==◌, ◌≤◌, ◌<◌, IfOk, IsTrue, MatchBool, false, drop, length, map, option_copied, slice_get, Some, true, vec_capacity, vec_len};
+ghost use Rattle.std.specs.Prelude.{◌≡◌, ◌==◌, ◌≤◌, ◌<◌, All, IfOk, IsTrue, MatchBool, false, drop, length, option_copied, slice_get, Some, true, vec_capacity, vec_len};
 ghost use Rattle.px_base.specs.Causes.{Rose};
-ghost use Rattle.px_doors.specs.Conns.{HasMark, IsFreshConn, numbered_conns};
+ghost use Rattle.px_ends.specs.Ends.{IsFreshEnds};
+ghost use Rattle.px_ends.specs.Marks.{HasMark, numbered_ends};
 ghost use Rattle.px_doors.specs.Doors.{DoorsGoesOn, Parts, fresh_doors};
-ghost use Rattle.px_doors.specs.MemConns.{AreFreshConns, mem_conn, mem_parted};
 
-use crate::{AcceptFault, Conn, Doors, ListenAddress, Parted};
+use crate::{AcceptFault, Doors, ListenAddress, Parted};
 use px_base::{Failed, FixedClock, List, Mem, MemDialer, TapeIn, TapeOut};
+use px_ends::{Ends, Joined};
 use std::alloc::Global;
 use std::snapshot::Snapshot;
 
-/// A connection in memory.
-pub type MemConn = Conn<TapeIn, TapeOut, MemDialer, FixedClock>;
+/// The types of the ends of a connection in memory.
+pub type MemConn = Joined<TapeIn, TapeOut, MemDialer, FixedClock>;
+
+/// The ends of a connection in memory.
+pub type MemEnds = Ends<MemConn>;
 
 /// A connection in memory that was served.
-pub type MemParted = Parted<TapeIn, TapeOut, MemDialer, FixedClock>;
+pub type MemParted = Parted<MemConn>;
 
 /// The numbers of the calls that fail, how many calls came, and how many failed.
 #[derive(Drop)]
@@ -28,23 +32,23 @@ struct Failures {
 /// `listen` and `accept`, numbered in one row, whose numbers are on the list of failures fail.
 #[derive(Drop)]
 pub struct MemDoors {
-    waiting: Vec<MemConn>,
+    waiting: Vec<MemEnds>,
     accepted: u64,
     parted: Vec<MemParted>,
     failures: Failures,
     listens_at: Option<ListenAddress>,
-    all: Snapshot<List<MemConn>>,
+    all: Snapshot<List<MemEnds>>,
     ghost rest: { waiting.items ≡ drop accepted all.value },
     ghost fewer: { vec_len parted ≤ accepted },
     ghost room: { accepted ≤ vec_capacity parted },
-    ghost fresh: { AreFreshConns waiting.items },
+    ghost fresh: { All IsFreshEnds waiting.items },
 }
 
 impl MemDoors {
     /// Doors before their first call.
-    pub fn new(alloc: Global, conns: List<MemConn>, fails: &[u64]) -> Result<MemDoors, Mem>
-        requires fresh { AreFreshConns conns }
-        ensures { IfOk result (λ doors. ⟦<MemDoors as Doors>⟧.state doors ≡ fresh_doors (numbered_conns 0 (map mem_conn conns)) (length fails.now == 0)) }
+    pub fn new(alloc: Global, conns: List<MemEnds>, fails: &[u64]) -> Result<MemDoors, Mem>
+        requires fresh { All IsFreshEnds conns }
+        ensures { IfOk result (λ doors. ⟦<MemDoors as Doors>⟧.state doors ≡ fresh_doors (numbered_ends 0 conns) (length fails.now == 0)) }
     {
         let failures = Failures {
             fails: fails.to_vec(alloc)?,
@@ -70,7 +74,7 @@ impl MemDoors {
 
     /// The connections that were parted, in order.
     pub fn parted(&self) -> &[MemParted]
-        ensures { map mem_parted result.now ≡ (⟦<MemDoors as Doors>⟧.state self.now).parted }
+        ensures { result.now ≡ (⟦<MemDoors as Doors>⟧.state self.now).parted }
     {
         self.parted.as_slice()
     }
@@ -95,37 +99,31 @@ impl Failures {
 }
 
 /// Takes the first connection, with that mark.
-fn take_first(waiting: &mut Vec<MemConn>, mark: u64) -> MemConn
+fn take_first(waiting: &mut Vec<MemEnds>, mark: u64) -> MemEnds
     requires some { 0 < vec_len waiting.old }
-    requires fresh { AreFreshConns waiting.old.items }
+    requires fresh { All IsFreshEnds waiting.old.items }
     ensures left { waiting.new.items ≡ drop 1 waiting.old.items }
-    ensures first { slice_get (numbered_conns mark (map mem_conn waiting.old.items)) 0 ≡ Some (mem_conn result) }
-    ensures mark { HasMark mark (mem_conn result) }
-    ensures fresh { IsFreshConn (mem_conn result) }
-    ensures fresh_left { AreFreshConns waiting.new.items }
+    ensures first { slice_get (numbered_ends mark waiting.old.items) 0 ≡ Some result }
+    ensures mark { HasMark mark result }
+    ensures fresh { IsFreshEnds result }
+    ensures fresh_left { All IsFreshEnds waiting.new.items }
 {
-    let mut conn = waiting.remove(0);
-    conn.client_in.set_mark(mark);
-    conn.client_out.set_mark(mark);
-    conn.dialer.set_mark(mark);
-    conn
+    let mut ends = waiting.remove(0);
+    ends.client.source.set_mark(mark);
+    ends.client_out.set_mark(mark);
+    ends.dialer.set_mark(mark);
+    ends
 }
 
 impl Doors for MemDoors {
-    type In = TapeIn;
-
-    type Out = TapeOut;
-
-    type Dial = MemDialer;
-
-    type Time = FixedClock;
+    type Conn = MemConn;
 
     ghost state = { λ d. record {
       listens_at = d.listens_at;
       tells = true;
-      conns = numbered_conns 0 (map mem_conn d.all.value);
+      conns = numbered_ends 0 d.all.value;
       accepted = d.accepted;
-      parted = map mem_parted d.parted.items;
+      parted = d.parted.items;
       faults = d.failures.faults;
       steady = length d.failures.fails.items == 0;
     } };
@@ -139,7 +137,7 @@ impl Doors for MemDoors {
     }
 
     #[tactic(auto, using(crate::proofs::DoorLemmas::drop_more, crate::proofs::DoorLemmas::none_left))]
-    fn accept(&mut self) -> Result<Option<MemConn>, AcceptFault> {
+    fn accept(&mut self) -> Result<Option<MemEnds>, AcceptFault> {
         if self.failures.next_fails() {
             return Err(AcceptFault::Failed);
         }
@@ -150,21 +148,19 @@ impl Doors for MemDoors {
         if self.parted.reserve(out + 1).is_err() {
             return Err(AcceptFault::Mem);
         }
-        let conn = take_first(&mut self.waiting, self.accepted);
+        let ends = take_first(&mut self.waiting, self.accepted);
         self.accepted += 1;
-        Ok(Some(conn))
+        Ok(Some(ends))
     }
 
     fn leave(_client_in: &mut TapeIn, _client_out: &mut TapeOut) {}
 
     fn rest(_dialer: &mut MemDialer) {}
 
-    fn part(&mut self, parted: MemParted)
-        requires { IsTrue (⟦<MemDoors as Doors>⟧.state self.old).tells → length (⟦<MemDoors as Doors>⟧.state self.old).parted < (⟦<MemDoors as Doors>⟧.state self.old).accepted }
-        ensures parts { Parts (⟦<MemDoors as Doors>⟧.state self.old) (⟦<MemDoors as Doors>⟧.state self.new) (mem_parted parted) }
-        ensures listens { (⟦<MemDoors as Doors>⟧.state self.new).listens_at ≡ (⟦<MemDoors as Doors>⟧.state self.old).listens_at }
-        ensures goes_on { DoorsGoesOn (⟦<MemDoors as Doors>⟧.state self.old) (⟦<MemDoors as Doors>⟧.state self.new) }
-    {
-        self.parted.push_reserved(parted);
+    fn part(&mut self, parted: &mut Option<MemParted>) {
+        match parted.take() {
+            Some(parted) => self.parted.push_reserved(parted),
+            None => {}
+        }
     }
 }

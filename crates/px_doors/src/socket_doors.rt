@@ -2,12 +2,14 @@
 ghost use Rattle.std.specs.Prelude.{◌≡◌, IfOk, None, option_map};
 ghost use Rattle.px_sockets.specs.Untold.{AreNew};
 ghost use Rattle.px_sockets.specs.Bounds.{IsAddressText};
-ghost use Rattle.px_doors.specs.Conns.{parted_as, conn_as, IsFreshConn, HasMark};
+ghost use Rattle.px_ends.specs.Ends.{IsFreshEnds};
+ghost use Rattle.px_ends.specs.Marks.{HasMark};
 ghost use Rattle.px_doors.specs.Doors.{DoorsGoesOn, Parts, untold_doors};
 ghost use Rattle.px_doors.specs.SocketDoors.{told_address};
 
-use crate::{AcceptFault, Conn, Doors, ListenAddress, Parted};
+use crate::{AcceptFault, Doors, ListenAddress, Parted};
 use px_base::{Clock, Dialer, Failed, Sink, Source, SystemClock, as_text};
+use px_ends::{Ends, Outside};
 use px_sockets::{
     Caller, CallerFault, ListenFault, SocketDialer, SocketListener, SocketSink, SocketSource, Times,
 };
@@ -15,22 +17,29 @@ use px_socks::SocksDialer;
 use std::alloc::Global;
 use std::fmt;
 use std::fmt::{Display, Formatter, Write};
+use std::marker::PhantomData;
 
-/// A connection over TCP.
-pub type SocketConn<'r> = Conn<
-    SocketSource<'r>,
-    SocketSink<'r>,
-    SocksDialer<SocketDialer<'r>>,
-    SystemClock<'r, HostRuntime>,
->;
+/// The types of the ends of a connection over TCP.
+#[derive(Drop)]
+pub struct SocketConn<'r> {
+    rt: PhantomData<&'r HostRuntime>,
+}
+
+impl<'r> Outside for SocketConn<'r> {
+    type In = SocketSource<'r>;
+
+    type Out = SocketSink<'r>;
+
+    type Dial = SocksDialer<SocketDialer<'r>>;
+
+    type Time = SystemClock<'r, HostRuntime>;
+}
+
+/// The ends of a connection over TCP.
+pub type SocketEnds<'r> = Ends<SocketConn<'r>>;
 
 /// A connection over TCP that was served.
-pub type SocketParted<'r> = Parted<
-    SocketSource<'r>,
-    SocketSink<'r>,
-    SocksDialer<SocketDialer<'r>>,
-    SystemClock<'r, HostRuntime>,
->;
+pub type SocketParted<'r> = Parted<SocketConn<'r>>;
 
 /// Takes connections over TCP from clients of this machine, and says on the error output where it listens, or why it can't. What
 /// clients still send to connections that ended is thrown away for a while before they are closed. Each connection's dialer goes
@@ -116,18 +125,18 @@ fn next_caller<'r>(
     }
 }
 
-/// The connection of a caller: its dialer goes through SOCKS servers where a host is a dial name, and has its mark.
-fn conn_of<'r>(
+/// The ends of a caller's connection: its dialer goes through SOCKS servers where a host is a dial name, and has its mark.
+fn ends_of<'r>(
     alloc: Global,
     rt: &'r HostRuntime,
     times: Times,
     caller: Caller<'r>,
     mark: u64,
-) -> SocketConn<'r>
+) -> SocketEnds<'r>
     requires new { AreNew mark (⟦<SocketSource<'r> as Source>⟧.state caller.client_in) (⟦<SocketSink<'r> as Sink>⟧.state caller.client_out) }
-    ensures fresh { IsFreshConn (conn_as ⟦<SocketSource<'r> as Source>⟧.state ⟦<SocketSink<'r> as Sink>⟧.state ⟦<SocksDialer<SocketDialer<'r>> as Dialer>⟧.state ⟦<SystemClock<'r, HostRuntime> as Clock>⟧.state result) }
-    ensures mark { HasMark mark (conn_as ⟦<SocketSource<'r> as Source>⟧.state ⟦<SocketSink<'r> as Sink>⟧.state ⟦<SocksDialer<SocketDialer<'r>> as Dialer>⟧.state ⟦<SystemClock<'r, HostRuntime> as Clock>⟧.state result) }
-    ensures peer { result.peer.address ≡ caller.entry.peer.address }
+    ensures fresh { IsFreshEnds result }
+    ensures mark { HasMark mark result }
+    ensures peer { result.peer ≡ caller.entry.peer.address }
 {
     let Caller {
         client_in,
@@ -135,23 +144,18 @@ fn conn_of<'r>(
         peer,
     } = caller;
     let dialer = SocketDialer::of_client(alloc, rt, times, &client_in, mark);
-    Conn {
+    Ends::new(
+        alloc,
         client_in,
         client_out,
-        dialer: SocksDialer::new(alloc, dialer),
-        clock: SystemClock::new(rt),
+        SocksDialer::new(alloc, dialer),
+        SystemClock::new(rt),
         peer,
-    }
+    )
 }
 
 impl<'r> Doors for SocketDoors<'r> {
-    type In = SocketSource<'r>;
-
-    type Out = SocketSink<'r>;
-
-    type Dial = SocksDialer<SocketDialer<'r>>;
-
-    type Time = SystemClock<'r, HostRuntime>;
+    type Conn = SocketConn<'r>;
 
     ghost state = { λ d. untold_doors (told_address d.listener) d.accepted d.faults };
 
@@ -172,12 +176,12 @@ impl<'r> Doors for SocketDoors<'r> {
     }
 
     /// Waits for a connection. Doors that don't listen fail.
-    fn accept(&mut self) -> Result<Option<SocketConn<'r>>, AcceptFault> {
+    fn accept(&mut self) -> Result<Option<SocketEnds<'r>>, AcceptFault> {
         match next_caller(&mut self.listener, self.accepted) {
             Ok(caller) => {
-                let conn = conn_of(self.alloc, self.rt, self.times, caller, self.accepted);
+                let ends = ends_of(self.alloc, self.rt, self.times, caller, self.accepted);
                 self.accepted += 1;
-                Ok(Some(conn))
+                Ok(Some(ends))
             }
             Err(CallerFault::Failed) => {
                 self.faults = self.faults.saturating_add(1);
@@ -196,11 +200,7 @@ impl<'r> Doors for SocketDoors<'r> {
     /// It keeps none.
     fn rest(_dialer: &mut SocksDialer<SocketDialer<'r>>) {}
 
-    fn part(&mut self, parted: SocketParted<'r>)
-        ensures parts { Parts (⟦<SocketDoors<'r> as Doors>⟧.state self.old) (⟦<SocketDoors<'r> as Doors>⟧.state self.new) (parted_as ⟦<SocketSource<'r> as Source>⟧.state ⟦<SocketSink<'r> as Sink>⟧.state ⟦<SocksDialer<SocketDialer<'r>> as Dialer>⟧.state ⟦<SystemClock<'r, HostRuntime> as Clock>⟧.state parted.entry) }
-        ensures listens { (⟦<SocketDoors<'r> as Doors>⟧.state self.new).listens_at ≡ (⟦<SocketDoors<'r> as Doors>⟧.state self.old).listens_at }
-        ensures goes_on { DoorsGoesOn (⟦<SocketDoors<'r> as Doors>⟧.state self.old) (⟦<SocketDoors<'r> as Doors>⟧.state self.new) }
-    {
-        drop(parted);
+    fn part(&mut self, parted: &mut Option<SocketParted<'r>>) {
+        drop(parted.take());
     }
 }

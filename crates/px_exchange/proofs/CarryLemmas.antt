@@ -5,7 +5,7 @@ use Rattle.std.proofs.lemmas.List.{append-nil, take-append-le}
 use Rattle.std.proofs.Math.Seq.{take-append_seam, take-append-add}
 use Rattle.px_base.specs.Causes.{Rose}
 use Rattle.px_base.specs.Sources.{SourceState}
-use Rattle.px_base.specs.Sinks.{SinkState, AddsFront}
+use Rattle.px_base.specs.Sinks.{SinkState, AddsProperFront}
 use Rattle.px_ways.specs.Directions.{AddsSome, StopSinkCause, SourceCause, DirectionTakes}
 use Rattle.px_ways.specs.Ways.{carried_of, is_sink_failed, is_source_failed, is_stop_wanting}
 use Rattle.px_ways.specs.declared.directions.TheConstants.{DIRECTION_LIMIT}
@@ -13,10 +13,10 @@ use Rattle.px_ways.specs.declared.directions.DirectionStop.{DirectionStop}
 use Rattle.px_ways.specs.declared.directions.DirectionStop.TheVariants as stop
 use Rattle.px_templates.specs.declared.pages.Page.{Page}
 use Rattle.px_templates.specs.declared.pages.Page.TheVariants as page
+use Rattle.px_notes.specs.Endings.{broken}
+use Rattle.px_notes.specs.declared.endings.After.TheVariants as after
 use Rattle.px_judging.specs.declared.judgements.TunnelPlan.{TunnelPlan}
-use Rattle.px_pumps.specs.Returning.{broken}
 use Rattle.px_pumps.specs.declared.dues.Due.{Due}
-use Rattle.px_pumps.specs.declared.notes.After.TheVariants as after
 use Rattle.px_pumps.specs.declared.talks.Talked.TheVariants as talked
 use Rattle.px_exchange.specs.Forwarding.{link_seen, no_memory}
 use Rattle.px_exchange.specs.Tunnels.{CarriesSome, TunnelTalksOver, carried_so}
@@ -29,7 +29,7 @@ none_behind : (front bytes taken : List ℕ) → AddsSome (length front + DIRECT
 none_behind front bytes taken = record { count = 0; within = omega arith; added = sym (append-nil taken) }
 
 -- some of the front
-part_behind : (front bytes taken taken' : List ℕ) → AddsFront taken taken' front → AddsSome (length front + DIRECTION_LIMIT) (front ++ bytes) taken taken'
+part_behind : (front bytes taken taken' : List ℕ) → AddsProperFront taken taken' front → AddsSome (length front + DIRECTION_LIMIT) (front ++ bytes) taken taken'
 part_behind front bytes taken taken' (n, shorter, added) = record {
   count = n;
   within = omega (arith, shorter);
@@ -97,13 +97,13 @@ back_out bytes taken taken' i i' stop.NoMemory none h cause w = absurd (cc)
 -- ---- the rows
 
 -- the link's sink failed in the head
-pub head_failed : (page_due : Page → Due) (t : TunnelPlan) (stream taken : List ℕ) (i : SourceState) (l l' : SinkState) → l.taken ≡ [] → l.faults ≡ 0 → Rose l.faults l'.faults → AddsFront l.taken l'.taken t.head
+pub head_failed : (page_due : Page → Due) (t : TunnelPlan) (stream taken : List ℕ) (i : SourceState) (l l' : SinkState) → l.taken ≡ [] → l.faults ≡ 0 → Rose l.faults l'.faults → AddsProperFront l.taken l'.taken t.head
     → TunnelTalksOver page_due t (record { stream = stream; behind = stream }) taken taken (talked.Page page.SendFailed) (link_seen i l')
 head_failed page_due t stream taken i l l' fresh none rose cut =
     inl (inr (inl (record { sent = rw fresh at cut; failed = failed_now true l.faults l'.faults none rose; unread = refl; says_so = (refl, refl) })))
 
 -- memory was wanting in the head
-pub head_wanting : (page_due : Page → Due) (t : TunnelPlan) (stream taken : List ℕ) (i : SourceState) (l l' : SinkState) → l.taken ≡ [] → AddsFront l.taken l'.taken t.head
+pub head_wanting : (page_due : Page → Due) (t : TunnelPlan) (stream taken : List ℕ) (i : SourceState) (l l' : SinkState) → l.taken ≡ [] → AddsProperFront l.taken l'.taken t.head
     → TunnelTalksOver page_due t (record { stream = stream; behind = stream }) taken taken no_memory (link_seen i l')
 head_wanting page_due t stream taken i l l' fresh cut =
     inr (refl, inr (record { sent = part_behind t.head stream [] l'.taken (rw fresh at cut); returned = none_behind t.greeting i.offered taken }))
@@ -114,7 +114,7 @@ sent_head t l l' fresh e = e ∙ ap (λ (zs : List ℕ). zs ++ t.head) fresh
 
 -- the client's sink failed in the greeting
 pub greeting_failed : (page_due : Page → Due) (t : TunnelPlan) (stream taken taken' : List ℕ) (i : SourceState) (l l' : SinkState) → l.taken ≡ [] → l.faults ≡ 0 → l'.taken ≡ l.taken ++ t.head → l'.faults ≡ l.faults
-    → AddsFront taken taken' t.greeting
+    → AddsProperFront taken taken' t.greeting
     → TunnelTalksOver page_due t (record { stream = stream; behind = stream }) taken taken' (talked.Ended (broken after.WriteFailed)) (link_seen i l')
 greeting_failed page_due t stream taken taken' i l l' fresh none sent calm cut =
     inl (inr (inr (record {
@@ -127,7 +127,7 @@ greeting_failed page_due t stream taken taken' i l l' fresh none sent calm cut =
     })))
 
 -- memory was wanting in the greeting
-pub greeting_wanting : (page_due : Page → Due) (t : TunnelPlan) (stream taken taken' : List ℕ) (i : SourceState) (l l' : SinkState) → l.taken ≡ [] → l'.taken ≡ l.taken ++ t.head → AddsFront taken taken' t.greeting
+pub greeting_wanting : (page_due : Page → Due) (t : TunnelPlan) (stream taken taken' : List ℕ) (i : SourceState) (l l' : SinkState) → l.taken ≡ [] → l'.taken ≡ l.taken ++ t.head → AddsProperFront taken taken' t.greeting
     → TunnelTalksOver page_due t (record { stream = stream; behind = stream }) taken taken' no_memory (link_seen i l')
 greeting_wanting page_due t stream taken taken' i l l' fresh sent cut =
     inr (refl, inr (record { sent = front_behind t.head stream [] l'.taken (sent_head t l l' fresh sent); returned = part_behind t.greeting i.offered taken taken' cut }))

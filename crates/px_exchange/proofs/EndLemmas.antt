@@ -1,14 +1,16 @@
 -- What follows a talk by how it is said to end: the rest is returned, or memory was wanting.
 use Rattle.std.proofs.Common.{◌≡◌, ℕ, List, ◌∙◌, refl, ◌⊎◌, inl, inr}
+use Rattle.px_base.specs.Sinks.{AddsFront}
 use Rattle.px_base.specs.Dials.{DialerState}
 use Rattle.px_base.specs.declared.dials.DialOutcome.{DialOutcome}
 use Rattle.px_decide.specs.declared.routes.Route.{Route}
 use Rattle.px_templates.specs.declared.pages.Page.{Page}
-use Rattle.px_pumps.specs.Returning.{AddsPrefix, SaysDue, broken}
+use Rattle.px_notes.specs.Endings.{broken}
+use Rattle.px_notes.specs.declared.endings.After.{After}
+use Rattle.px_notes.specs.declared.endings.After.TheVariants as after
+use Rattle.px_notes.specs.declared.endings.Conclusion.{Conclusion}
+use Rattle.px_pumps.specs.Returning.{SaysDue}
 use Rattle.px_pumps.specs.declared.dues.Due.{Due}
-use Rattle.px_pumps.specs.declared.notes.After.{After}
-use Rattle.px_pumps.specs.declared.notes.After.TheVariants as after
-use Rattle.px_pumps.specs.declared.notes.Conclusion.{Conclusion}
 use Rattle.px_pumps.specs.declared.talks.Talked.{Talked}
 use Rattle.px_pumps.specs.declared.talks.Talked.TheVariants as talked
 use Rattle.px_exchange.specs.Dialling.{DialsOnce}
@@ -31,7 +33,7 @@ either P Q = record {
 
 -- memory was wanting, with what that concludes
 abbrev pub wanting : List ℕ → Conclusion → Says
-wanting taken' x = record { due = λ mid d. AddsPrefix mid taken' d.bytes × (x ≡ broken after.NoMemory); stopped = λ mid a. ⊥; carried = λ mid a. ⊥ }
+wanting taken' x = record { due = λ mid d. AddsFront mid taken' d.bytes × (x ≡ broken after.NoMemory); stopped = λ mid a. ⊥; carried = λ mid a. ⊥ }
 
 wanting_wanted : (taken' : List ℕ) (x : Conclusion) → Also (wanting taken' x) (says_wanting taken')
 wanting_wanted taken' x = record { due = λ mid d h. h.0; stopped = λ mid a h. absurd h; carried = λ mid a h. absurd h }

@@ -4,13 +4,13 @@ use Rattle.px_base.specs.declared.dials.LinkSeen.{LinkSeen}
 use Rattle.px_base.specs.declared.dials.DialOutcome.{DialOutcome}
 use Rattle.px_base.specs.declared.dials.DialOutcome.TheVariants as outcome
 use Rattle.px_decide.specs.declared.routes.Route.{Route}
-use Rattle.px_sending.specs.declared.messages.Message.{Message}
-use Rattle.px_sending.specs.declared.messages.Sent.{Sent}
-use Rattle.px_sending.specs.declared.messages.Sent.TheVariants as sent
+use Rattle.px_notes.specs.declared.messages.Message.{Message}
+use Rattle.px_notes.specs.declared.messages.Sent.{Sent}
+use Rattle.px_notes.specs.declared.messages.Sent.TheVariants as sent
+use Rattle.px_notes.specs.Endings.{broken}
+use Rattle.px_notes.specs.declared.endings.After.TheVariants as after
+use Rattle.px_notes.specs.declared.endings.Conclusion.{Conclusion}
 use Rattle.px_pumps.specs.Answering.{Ask}
-use Rattle.px_pumps.specs.Returning.{broken}
-use Rattle.px_pumps.specs.declared.notes.After.TheVariants as after
-use Rattle.px_pumps.specs.declared.notes.Conclusion.{Conclusion}
 use Rattle.px_exchange.specs.Forwarding.{Client, FollowsSending, Forwards, Says, WantsOver, says_wanting}
 use Rattle.px_exchange.proofs.EndLemmas.{Also, ByEnd, either, wanting}
 

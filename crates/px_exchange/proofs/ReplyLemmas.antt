@@ -12,8 +12,11 @@ use Rattle.px_decide.specs.declared.decisions.Decision.TheVariants as decision
 use Rattle.px_headers.specs.ClientRows.{client_out}
 use Rattle.px_headers.specs.declared.client.ClientOut.{ClientOut}
 use Rattle.px_templates.specs.declared.pages.Page.{Page}
+use Rattle.px_notes.specs.declared.endings.Conclusion.{Conclusion}
+use Rattle.px_notes.specs.declared.endings.Ending.{Ending}
+use Rattle.px_notes.specs.declared.endings.Ending.TheVariants as ending
 use Rattle.px_judging.specs.Given.{Given}
-use Rattle.px_judging.specs.Judging.{Judged, by_decision, by_headers, by_method, by_rule, by_url, image_or_page, judged, tunnel_of}
+use Rattle.px_judging.specs.Judging.{Judged, by_decision, by_headers, by_method, by_request, by_rule, by_url, image_or_page, judged, tunnel_of}
 use Rattle.px_judging.specs.Requests.{body_read, is_connect, tagged_request, target_read, vars_of}
 use Rattle.px_judging.specs.declared.judgements.Judgement.{Judgement}
 use Rattle.px_judging.specs.declared.judgements.Judgement.TheVariants as judgement
@@ -26,9 +29,6 @@ use Rattle.px_judging.specs.declared.replies.ReplyKind.{ReplyKind}
 use Rattle.px_judging.specs.declared.replies.ReplyKind.TheVariants as kind
 use Rattle.px_judging.specs.declared.requests.Request.{Request}
 use Rattle.px_judging.specs.declared.requests.RequestTags.{RequestTags}
-use Rattle.px_pumps.specs.declared.notes.Conclusion.{Conclusion}
-use Rattle.px_pumps.specs.declared.notes.Ending.{Ending}
-use Rattle.px_pumps.specs.declared.notes.Ending.TheVariants as ending
 use Rattle.px_exchange.specs.Causes.{EndingCause}
 use Rattle.px_exchange.specs.Exchange.{Answers, ForwardsSome, TunnelsSome}
 use Rattle.px_exchange.specs.Forwarding.{Client}
@@ -64,11 +64,11 @@ headers_quiet g r t None = λ old new. tt
 method_quiet : (g : Given) (r : Request) (t : RequestTags) → IsQuiet (by_method g r t)
 method_quiet g r t = by (is_connect r.head)
   where
-    by : (b : Bool) → IsQuiet (cond b (judgement.Tunnel (tunnel_of g r t)) (by_headers g r t (client_out t.set g.config.filters (vars_of g.peer r.url) r.url g.peer r.head)))
+    by : (b : Bool) → IsQuiet (cond b (judgement.Tunnel (tunnel_of g.config r t)) (by_headers g r t (client_out t.set g.config.filters r.vars r.url g.peer r.head)))
     by true = tt
-    by false = headers_quiet g r t (client_out t.set g.config.filters (vars_of g.peer r.url) r.url g.peer r.head)
+    by false = headers_quiet g r t (client_out t.set g.config.filters r.vars r.url g.peer r.head)
 
-image_quiet : (g : Given) (r : Request) (t : RequestTags) (image : Option (List ℕ)) (k : ReplyKind) → ((old new : DialerState) → EndingCause old new (reply_ending k)) → IsQuiet (image_or_page g r t image k)
+image_quiet : (g : Given) (r : Request) (t : RequestTags) (image : Option (List ℕ)) (k : ReplyKind) → ((old new : DialerState) → EndingCause old new (reply_ending k)) → IsQuiet (image_or_page g.last r t image k)
 image_quiet g r t (Some bytes) k q = q
 image_quiet g r t None k q = λ old new. tt
 
@@ -81,10 +81,13 @@ decision_quiet g r t decision.Empty = λ old new. tt
 decision_quiet g r t (decision.Redirect target) = λ old new. tt
 decision_quiet g r t decision.ConnectDenied = λ old new. tt
 
+request_quiet : (g : Given) (r : Request) → IsQuiet (by_request g r)
+request_quiet g r =
+    let t = tagged_request g.config g.tags r in
+    decision_quiet g r t (decision_of r.url (is_connect r.head) t.set r.vars)
+
 rule_quiet : (g : Given) (head : RequestHead) (url : Url) (rule : Result BodyRule BodyFault) → IsQuiet (by_rule g head url rule)
-rule_quiet g head url (Ok rule) =
-    let t = tagged_request g head url in
-    decision_quiet g (record { head = head; url = url; rule = rule }) t (decision_of url (is_connect head) t.set (vars_of g.peer url))
+rule_quiet g head url (Ok rule) = request_quiet g (record { head = head; url = url; rule = rule; vars = vars_of g.peer url })
 rule_quiet g head url (Err fault) = λ old new. tt
 
 url_quiet : (g : Given) (head : RequestHead) (url : Result Url UrlFault) → IsQuiet (by_url g head url)

@@ -4,19 +4,20 @@ use Rattle.std.proofs.Common.{◌≡◌, ℕ, ◌-◌, ◌≤◌, Bool, true, fa
 use Rattle.std.proofs.Math.Seq.{take-append_seam}
 use Rattle.px_base.specs.Causes.{Rose}
 use Rattle.px_base.specs.Sources.{SourceState}
-use Rattle.px_base.specs.Sinks.{SinkState}
+use Rattle.px_base.specs.Sinks.{SinkState, AddsFront}
 use Rattle.px_streams.specs.Streams.{IsStream}
+use Rattle.px_notes.specs.declared.messages.Message.{Message}
+use Rattle.px_notes.specs.declared.messages.Sent.{Sent}
+use Rattle.px_notes.specs.declared.messages.Sent.TheVariants as sent
+use Rattle.px_notes.specs.Endings.{broken}
+use Rattle.px_notes.specs.declared.endings.After.TheVariants as after
 use Rattle.px_sending.specs.Sends.{Sends, is_link_failed}
-use Rattle.px_sending.specs.declared.messages.Message.{Message}
-use Rattle.px_sending.specs.declared.messages.Sent.{Sent}
-use Rattle.px_sending.specs.declared.messages.Sent.TheVariants as sent
 use Rattle.px_pumps.specs.Answering.{Ask, Answered}
 use Rattle.px_pumps.specs.Hearing.{HearsStream, AnswerGives}
-use Rattle.px_pumps.specs.Returning.{AddsPrefix, HasDue, SaysDue, broken}
+use Rattle.px_pumps.specs.Returning.{HasDue, SaysDue}
 use Rattle.px_pumps.specs.declared.dues.Due.{Due}
 use Rattle.px_pumps.specs.declared.talks.Talked.{Talked}
 use Rattle.px_pumps.specs.declared.talks.Talked.TheVariants as talked
-use Rattle.px_pumps.specs.declared.notes.After.TheVariants as after
 use Rattle.px_templates.specs.declared.pages.Page.TheVariants as page
 use Rattle.px_exchange.specs.Forwarding.{Client, TalksOverLink, answer_of, link_seen, stopped}
 
@@ -60,7 +61,7 @@ talk_heard ask m c i i' o' taken mid taken' t failed s calm fresh none same caus
       w.wanting,
       elim w.returned [
         | inl quiet ↦ inr (record { how = sent.Whole; silent = tt; sends = rw quiet s })
-        | inr some ↦ inl (record { how = sent.Whole; mid = mid; sends = s; by_link = calm; follows = whole (λ d. AddsPrefix mid taken' d.bytes) some })
+        | inr some ↦ inl (record { how = sent.Whole; mid = mid; sends = s; by_link = calm; follows = whole (λ d. AddsFront mid taken' d.bytes) some })
       ],
     )
 

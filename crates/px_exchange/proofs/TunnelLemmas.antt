@@ -5,11 +5,11 @@ use Rattle.px_base.specs.declared.dials.DialOutcome.{DialOutcome}
 use Rattle.px_base.specs.declared.dials.DialOutcome.TheVariants as outcome
 use Rattle.px_templates.specs.declared.pages.Page.{Page}
 use Rattle.px_templates.specs.declared.pages.Page.TheVariants as page
+use Rattle.px_notes.specs.Endings.{broken}
+use Rattle.px_notes.specs.declared.endings.After.TheVariants as after
+use Rattle.px_notes.specs.declared.endings.Conclusion.{Conclusion}
 use Rattle.px_judging.specs.declared.judgements.TunnelPlan.{TunnelPlan}
-use Rattle.px_pumps.specs.Returning.{broken}
 use Rattle.px_pumps.specs.declared.dues.Due.{Due}
-use Rattle.px_pumps.specs.declared.notes.After.TheVariants as after
-use Rattle.px_pumps.specs.declared.notes.Conclusion.{Conclusion}
 use Rattle.px_exchange.specs.Forwarding.{Client, Says, says_wanting}
 use Rattle.px_exchange.specs.Tunnels.{CarriesTunnel, CutsGreeting, CutsHead, Tunnels, TunnelsOver, WantsTunnel, after_tunnel}
 use Rattle.px_exchange.proofs.EndLemmas.{Also, ByEnd, either, wanting}

@@ -6,12 +6,12 @@ use Rattle.px_base.specs.Sinks.{SinkState}
 use Rattle.px_base.specs.Sources.{SourceState}
 use Rattle.px_templates.specs.declared.pages.Page.{Page}
 use Rattle.px_templates.specs.declared.pages.Page.TheVariants as page
+use Rattle.px_notes.specs.declared.endings.Ending.{Ending}
+use Rattle.px_notes.specs.declared.endings.Ending.TheVariants as ending
+use Rattle.px_notes.specs.declared.endings.After.{After}
+use Rattle.px_notes.specs.declared.endings.After.TheVariants as after
+use Rattle.px_notes.specs.declared.endings.Conclusion.{Conclusion}
 use Rattle.px_pumps.specs.Returning.{IsAnswerEnding}
-use Rattle.px_pumps.specs.declared.notes.Ending.{Ending}
-use Rattle.px_pumps.specs.declared.notes.Ending.TheVariants as ending
-use Rattle.px_pumps.specs.declared.notes.After.{After}
-use Rattle.px_pumps.specs.declared.notes.After.TheVariants as after
-use Rattle.px_pumps.specs.declared.notes.Conclusion.{Conclusion}
 use Rattle.px_pumps.specs.declared.talks.Talked.{Talked}
 use Rattle.px_pumps.specs.declared.talks.Talked.TheVariants as talked
 

@@ -1,8 +1,12 @@
 -- One exchange, joined from its parts: judging, dialling, sending and answering.
 use Rattle.std.specs.Prelude.{◌≡◌, ℕ, ◌⊎◌, false, List, Option, None, Some}
+use Rattle.px_base.specs.Sinks.{AddsFront}
 use Rattle.px_base.specs.Dials.{DialerState}
 use Rattle.px_decide.specs.declared.routes.Route.{Route}
-use Rattle.px_sending.specs.declared.messages.Message.{Message}
+use Rattle.px_notes.specs.declared.messages.Message.{Message}
+use Rattle.px_notes.specs.Endings.{broken}
+use Rattle.px_notes.specs.declared.endings.After.TheVariants as after
+use Rattle.px_notes.specs.declared.endings.Conclusion.{Conclusion}
 use Rattle.px_config.specs.declared.configs.Config.{Config}
 use Rattle.px_templates.specs.declared.pages.Page.{Page}
 use Rattle.px_judging.specs.Given.{Given}
@@ -14,10 +18,8 @@ use Rattle.px_judging.specs.declared.judgements.Plan.{Plan}
 use Rattle.px_judging.specs.declared.judgements.TunnelPlan.{TunnelPlan}
 use Rattle.px_pumps.specs.Answering.{Ask}
 use Rattle.px_pumps.specs.Asking.{ask_of}
-use Rattle.px_pumps.specs.Returning.{Returns, AddsPrefix, broken}
+use Rattle.px_pumps.specs.Returning.{Returns}
 use Rattle.px_pumps.specs.declared.dues.Due.{Due}
-use Rattle.px_pumps.specs.declared.notes.After.TheVariants as after
-use Rattle.px_pumps.specs.declared.notes.Conclusion.{Conclusion}
 use Rattle.px_pumps.specs.declared.talks.Talked.{Talked}
 use Rattle.px_exchange.specs.Replies.{local_due, page_due}
 use Rattle.px_exchange.specs.Forwarding.{Client, Forwards, IsUntouched, WantsOver, TalksOver, concluded, no_memory}
@@ -60,7 +62,7 @@ WantsForward config plan c old new taken taken' =
 
 -- memory was wanting in a reply without a dial
 abbrev pub WantsReply : Config → LocalReply → Client → DialerState → DialerState → List ℕ → List ℕ → Type 0
-WantsReply config reply c old new taken taken' = (new ≡ old) × (c.behind ≡ c.stream) × AddsPrefix taken taken' (local_due config reply).bytes
+WantsReply config reply c old new taken taken' = (new ≡ old) × (c.behind ≡ c.stream) × AddsFront taken taken' (local_due config reply).bytes
 
 -- what was dialled and returned where memory was wanting: in judging, in a reply without a dial, for a request that is sent on or in
 -- a tunnel

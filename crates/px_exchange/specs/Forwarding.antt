@@ -1,25 +1,26 @@
 -- Forwarding: what is sent, and what is due, for a request that is sent on, by what came of its one dial.
 use Rattle.std.specs.Prelude.{◌≡◌, ℕ, not, ◌==◌, ◌⊎◌, List, [], Option, Some, None, if◌then◌else◌}
 use Rattle.px_base.specs.Sources.{SourceState, given}
-use Rattle.px_base.specs.Sinks.{SinkState}
+use Rattle.px_base.specs.Sinks.{SinkState, AddsFront}
 use Rattle.px_base.specs.Dials.{DialerState}
 use Rattle.px_base.specs.declared.dials.LinkSeen.{LinkSeen}
 use Rattle.px_base.specs.declared.dials.DialOutcome.{DialOutcome}
 use Rattle.px_base.specs.declared.dials.DialOutcome.TheVariants as outcome
 use Rattle.px_decide.specs.declared.routes.Route.{Route}
+use Rattle.px_notes.specs.declared.messages.Message.{Message}
+use Rattle.px_notes.specs.declared.messages.Sent.{Sent}
+use Rattle.px_notes.specs.declared.messages.Sent.TheVariants as sent
+use Rattle.px_notes.specs.Endings.{broken}
+use Rattle.px_notes.specs.declared.endings.After.{After}
+use Rattle.px_notes.specs.declared.endings.After.TheVariants as after
+use Rattle.px_notes.specs.declared.endings.Conclusion.{Conclusion}
+use Rattle.px_notes.specs.declared.endings.Ending.TheVariants as ending
 use Rattle.px_sending.specs.Sends.{Sends, is_link_failed}
-use Rattle.px_sending.specs.declared.messages.Message.{Message}
-use Rattle.px_sending.specs.declared.messages.Sent.{Sent}
-use Rattle.px_sending.specs.declared.messages.Sent.TheVariants as sent
 use Rattle.px_templates.specs.declared.pages.Page.{Page}
 use Rattle.px_templates.specs.declared.pages.Page.TheVariants as page
 use Rattle.px_pumps.specs.Answering.{Ask, Answered}
-use Rattle.px_pumps.specs.Returning.{Returns, AddsPrefix, SaysDue, HasDue, broken}
+use Rattle.px_pumps.specs.Returning.{Returns, SaysDue, HasDue}
 use Rattle.px_pumps.specs.declared.dues.Due.{Due}
-use Rattle.px_pumps.specs.declared.notes.After.{After}
-use Rattle.px_pumps.specs.declared.notes.After.TheVariants as after
-use Rattle.px_pumps.specs.declared.notes.Conclusion.{Conclusion}
-use Rattle.px_pumps.specs.declared.notes.Ending.TheVariants as ending
 use Rattle.px_pumps.specs.declared.talks.Talked.{Talked}
 use Rattle.px_pumps.specs.declared.talks.Talked.TheVariants as talked
 
@@ -120,9 +121,9 @@ talked_so page_due taken' t = record {
   carried = λ mid a. (taken' ≡ mid) × (t ≡ talked.Ended (tunnelled a));
 }
 
--- memory was wanting: a prefix of what is due was returned
+-- memory was wanting: a front of what is due was returned
 abbrev pub says_wanting : List ℕ → Says
-says_wanting taken' = record { due = λ mid due. AddsPrefix mid taken' due.bytes; stopped = λ mid a. ⊥; carried = λ mid a. ⊥ }
+says_wanting taken' = record { due = λ mid due. AddsFront mid taken' due.bytes; stopped = λ mid a. ⊥; carried = λ mid a. ⊥ }
 
 -- ---- want of memory
 

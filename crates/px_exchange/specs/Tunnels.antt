@@ -1,7 +1,7 @@
 -- Tunnels: what goes over a link and to the client, by what came of the one dial.
 use Rattle.std.specs.Prelude.{◌≡◌, ℕ, ◌+◌, ◌⊎◌, Bool, true, false, ◌||◌, if◌then◌else◌, List, [], ◌++◌, length, take}
 use Rattle.px_base.specs.Dials.{DialerState}
-use Rattle.px_base.specs.Sinks.{AddsFront}
+use Rattle.px_base.specs.Sinks.{AddsProperFront}
 use Rattle.px_base.specs.declared.dials.LinkSeen.{LinkSeen}
 use Rattle.px_base.specs.declared.dials.DialOutcome.{DialOutcome}
 use Rattle.px_base.specs.declared.dials.DialOutcome.TheVariants as outcome
@@ -10,12 +10,12 @@ use Rattle.px_ways.specs.declared.directions.TheConstants.{DIRECTION_LIMIT}
 use Rattle.px_ways.specs.declared.ways.Carried.{Carried}
 use Rattle.px_templates.specs.declared.pages.Page.{Page}
 use Rattle.px_templates.specs.declared.pages.Page.TheVariants as page
+use Rattle.px_notes.specs.Endings.{broken}
+use Rattle.px_notes.specs.declared.endings.After.{After}
+use Rattle.px_notes.specs.declared.endings.After.TheVariants as after
+use Rattle.px_notes.specs.declared.endings.Conclusion.{Conclusion}
 use Rattle.px_judging.specs.declared.judgements.TunnelPlan.{TunnelPlan}
-use Rattle.px_pumps.specs.Returning.{broken}
 use Rattle.px_pumps.specs.declared.dues.Due.{Due}
-use Rattle.px_pumps.specs.declared.notes.After.{After}
-use Rattle.px_pumps.specs.declared.notes.After.TheVariants as after
-use Rattle.px_pumps.specs.declared.notes.Conclusion.{Conclusion}
 use Rattle.px_pumps.specs.declared.talks.Talked.{Talked}
 use Rattle.px_exchange.specs.Dialling.{DialsOnce}
 use Rattle.px_exchange.specs.Forwarding.{Client, IsUntouched, RefusesDial, Says, no_memory, no_name_page, not_reached_page, talked_so, tunnelled, says_wanting}
@@ -46,7 +46,7 @@ pub record CarriesTunnel (t : TunnelPlan) (c : Client) (says : Says) (taken : Li
 
 -- the link's sink failed in the head that asks a parent for the tunnel
 pub record CutsHead (page_due : Page → Due) (t : TunnelPlan) (c : Client) (says : Says) (taken : List ℕ) (seen : LinkSeen) : Type 0 where
-  pub sent : AddsFront [] seen.sent t.head
+  pub sent : AddsProperFront [] seen.sent t.head
   pub failed : seen.write_failed ≡ true
   pub unread : c.behind ≡ c.stream
   pub says_so : says.due taken (page_due page.SendFailed)
@@ -57,7 +57,7 @@ pub record CutsGreeting (t : TunnelPlan) (c : Client) (says : Says) (taken : Lis
   pub unfailed : seen.write_failed ≡ false
   pub unread : c.behind ≡ c.stream
   pub mid : List ℕ
-  pub greeted : AddsFront taken mid t.greeting
+  pub greeted : AddsProperFront taken mid t.greeting
   pub says_so : says.stopped mid after.WriteFailed
 
 -- what went over the link of a tunnel

@@ -13,10 +13,10 @@ ghost use Rattle.px_exchange.specs.Forwarding.{no_name_page, not_reached_page};
 
 use crate::forwarding::talk_over;
 use px_base::{DialFault, Dialer, Sink, Source};
-use px_config::{Config, Warm};
+use px_config::Running;
 use px_decide::Route;
-use px_pumps::{After, Asked, Talked, broken};
-use px_sending::Message;
+use px_notes::{After, Asked, Message, broken};
+use px_pumps::Talked;
 use px_streams::Ahead;
 use px_templates::Page;
 use std::alloc::Global;
@@ -43,11 +43,10 @@ pub fn not_reached_page(route: &Route) -> Page
     }
 }
 
-/// Dials by a route, sends a request, returns the answer to the client and hangs up. The store lent is that of the configuration.
+/// Dials by a route, sends a request, returns the answer to the client and hangs up.
 pub fn dial_and_send<S: Source, D: Dialer, O: Sink>(
     alloc: Global,
-    config: &Config,
-    warm: &mut Warm<'_>,
+    running: &mut Running<'_>,
     route: &Route,
     message: &Message,
     asked: Asked,
@@ -56,11 +55,9 @@ pub fn dial_and_send<S: Source, D: Dialer, O: Sink>(
     client_out: &mut O,
     dialer: &mut D,
 ) -> Talked
-    requires sections { warm.old.sections ≡ config.now.sections }
-    requires filters { warm.old.filters ≡ config.now.filters }
     ensures talks { IsTrue (S.state client_in.old).tells → IsTrue (O.state client_out.old).tells → IsTrue (D.state dialer.old).tells
         → (page_due : page.Page → due.Due)
-        → TalksOn (ask_of config.now asked page_due) route.now message.now
+        → TalksOn (ask_of running.old asked page_due) route.now message.now
         (record { stream = ahead.old ++ (S.state client_in.old).left; behind = ahead.new ++ (S.state client_in.new).left })
         (D.state dialer.old) (D.state dialer.new) (O.state client_out.old).taken (O.state client_out.new).taken result }
     ensures read_cause { TalkReadCause (S.state client_in.old) (S.state client_in.new) result }
@@ -70,15 +67,13 @@ pub fn dial_and_send<S: Source, D: Dialer, O: Sink>(
     ensures in_goes_on { SourceGoesOn (S.state client_in.old) (S.state client_in.new) }
     ensures out_goes_on { SinkGoesOn (O.state client_out.old) (O.state client_out.new) }
     ensures goes_on { DialerGoesOn (D.state dialer.old) (D.state dialer.new) }
-    ensures same_sections { warm.new.sections ≡ warm.old.sections }
-    ensures same_filters { warm.new.filters ≡ warm.old.filters }
+    ensures same { running.new ≡ running.old }
 {
     match dialer.dial(route.host.as_bytes(), route.port) {
         Ok((mut link_in, mut link_out)) => {
             let talked = talk_over(
                 alloc,
-                config,
-                warm,
+                running,
                 message,
                 asked,
                 client_in,

@@ -11,9 +11,10 @@ ghost use Rattle.px_exchange.specs.Causes.{TalkLinkCause, TalkReadCause};
 ghost use Rattle.px_exchange.specs.Forwarding.{TalksOverLink, link_seen, stopped};
 
 use px_base::{Sink, Source};
-use px_config::{Config, Warm};
-use px_pumps::{After, Asked, Talked, broken, return_answer};
-use px_sending::{Message, Sent, send};
+use px_config::Running;
+use px_notes::{After, Asked, Message, Sent, broken};
+use px_pumps::{Talked, return_answer};
+use px_sending::send;
 use px_streams::Ahead;
 use px_templates::Page;
 use std::alloc::Global;
@@ -33,12 +34,10 @@ fn stopped(sent: Sent) -> Option<Talked>
     }
 }
 
-/// Sends a request over a link, its body as it comes from the client, and returns the answer to the client. The store lent is that
-/// of the configuration.
+/// Sends a request over a link, its body as it comes from the client, and returns the answer to the client.
 pub fn talk_over<S: Source, I: Source, P: Sink, O: Sink>(
     alloc: Global,
-    config: &Config,
-    warm: &mut Warm<'_>,
+    running: &mut Running<'_>,
     message: &Message,
     asked: Asked,
     client_in: &mut S,
@@ -47,12 +46,10 @@ pub fn talk_over<S: Source, I: Source, P: Sink, O: Sink>(
     link_out: &mut P,
     client_out: &mut O,
 ) -> Talked
-    requires sections { warm.old.sections ≡ config.now.sections }
-    requires filters { warm.old.filters ≡ config.now.filters }
     ensures talks { IsTrue (S.state client_in.old).tells → IsTrue (I.state link_in.old).tells → IsTrue (P.state link_out.old).tells → IsTrue (O.state client_out.old).tells
         → IsFresh (record { link_in = I.state link_in.old; link_out = P.state link_out.old })
         → (page_due : page.Page → due.Due)
-        → TalksOverLink (ask_of config.now asked page_due) message.now
+        → TalksOverLink (ask_of running.old asked page_due) message.now
         (record { stream = ahead.old ++ (S.state client_in.old).left; behind = ahead.new ++ (S.state client_in.new).left })
         (O.state client_out.old).taken (O.state client_out.new).taken result (link_seen (I.state link_in.new) (P.state link_out.new)) }
     ensures read_cause { TalkReadCause (S.state client_in.old) (S.state client_in.new) result }
@@ -64,12 +61,11 @@ pub fn talk_over<S: Source, I: Source, P: Sink, O: Sink>(
     ensures in_goes_on { SourceGoesOn (I.state link_in.old) (I.state link_in.new) }
     ensures out_goes_on { SinkGoesOn (P.state link_out.old) (P.state link_out.new) }
     ensures goes_on { SinkGoesOn (O.state client_out.old) (O.state client_out.new) }
-    ensures same_sections { warm.new.sections ≡ warm.old.sections }
-    ensures same_filters { warm.new.filters ≡ warm.old.filters }
+    ensures same { running.new ≡ running.old }
 {
     let sent = send(alloc, message, client_in, ahead, link_out, client_out);
     match stopped(sent) {
         Some(talked) => talked,
-        None => return_answer(alloc, config, warm, asked, link_in, client_out),
+        None => return_answer(alloc, running, asked, link_in, client_out),
     }
 }

@@ -9,8 +9,8 @@ use px_base::{Mem, Sink, SinkFault, Text, write_all};
 use px_config::Config;
 use px_decide::Route;
 use px_judging::{LocalReply, ReplyKind, reply_bytes, url_symbols};
+use px_notes::{After, Conclusion, Ending, after_whole, broken};
 use px_patterns::Url;
-use px_pumps::{After, Conclusion, Ending, after_whole, broken};
 use px_templates::Page;
 use std::alloc::Global;
 

@@ -12,7 +12,8 @@ ghost use Rattle.px_exchange.specs.Tunnels.{TunnelTalksOver, TunnelsOn, after_tu
 use crate::dialling::{no_name_page, not_reached_page};
 use px_base::{DialFault, Dialer, Sink, SinkFault, Source, write_all};
 use px_judging::TunnelPlan;
-use px_pumps::{After, Conclusion, Ending, Talked, broken};
+use px_notes::{After, Conclusion, Ending, broken};
+use px_pumps::Talked;
 use px_streams::Ahead;
 use px_templates::Page;
 use px_ways::{Carried, Way, carry};

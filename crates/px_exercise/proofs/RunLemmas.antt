@@ -4,24 +4,24 @@ use Rattle.std.proofs.lemmas.List.Elements.{All-cons, All-head, All-nil, All-pus
 use Rattle.std.proofs.lemmas.List.{flat_map_more}
 use Rattle.std.proofs.lemmas.List.Sums.{sum_by_push}
 use Rattle.std.specs.List.{flat_map, sum_by}
-use Rattle.std.specs.Prelude.{All, true}
+use Rattle.std.specs.Prelude.{All, codes, true}
 use Rattle.px_base.specs.Causes.{Rose}
 use Rattle.px_base.specs.Dials.{DialerState, fresh_dialer}
-use Rattle.px_base.specs.Moments.{ClockState}
 use Rattle.px_base.specs.Repeating.{behind_first, behind_firsts, first_or, firsts_or}
-use Rattle.px_base.specs.Sinks.{SinkState}
-use Rattle.px_base.specs.Sources.{SourceGoesOn, SourceState, fresh_source}
+use Rattle.px_base.specs.Sources.{SourceGoesOn, fresh_source}
+use Rattle.px_streams.specs.Feeds.{FeedState}
+use Rattle.px_ends.specs.Ends.{EndsState}
 use Rattle.px_config.specs.declared.configs.Config.{Config}
 use Rattle.px_publish.specs.Views.{Entry}
-use Rattle.px_exchange.specs.declared.notes.ExchangeNote.{ExchangeNote}
-use Rattle.px_serve.specs.Ends.{ReadEndCause, WriteEndCause}
+use Rattle.px_notes.specs.declared.sessions.ExchangeNote.{ExchangeNote}
+use Rattle.px_notes.specs.declared.sessions.SessionEnd.{SessionEnd}
+use Rattle.px_notes.specs.declared.sessions.SessionEnd.TheVariants as end
+use Rattle.px_serve.specs.Ends.{EndCause, faults_of}
 use Rattle.px_serve.specs.Histories.{Begun, Looks, Take, entry_used, moment_of}
-use Rattle.px_serve.specs.Sessions.{Caller, Objects, Serves}
-use Rattle.px_serve.specs.declared.ends.SessionEnd.{SessionEnd}
-use Rattle.px_serve.specs.declared.ends.SessionEnd.TheVariants as end
+use Rattle.px_serve.specs.Sessions.{Serves}
 use Rattle.px_generated.specs.Jobs.{draws_before, first_sessions, job_sessions, session_at}
 use Rattle.px_generated.specs.declared.sessions.JobSession.{JobSession}
-use Rattle.px_exercise.specs.Runs.{AreRuns, AreRunsOf, GivesOnly, HasRun, IsRun, UsesOnly, client, total_of}
+use Rattle.px_exercise.specs.Runs.{AreRuns, AreRunsOf, GivesOnly, HasRun, IsRun, UsesOnly, total_of}
 use Rattle.px_exercise.specs.declared.runs.SessionRun.{SessionRun}
 use Rattle.px_exercise.specs.declared.runs.Total.{Total}
 
@@ -65,39 +65,38 @@ left_gives config none coming coming' begun only t =
     t.left ∙ ap (λ (xs : List (Entry Config)). behind_firsts xs (length begun)) only ∙ one_left (record { number = 0; config = config }) (length begun)
 
 -- a steady source that is just made doesn't fail
-no_read_failed : (i i' : SourceState) (e : SessionEnd) → IsTrue i.steady → i.faults ≡ 0 → SourceGoesOn i i' → ReadEndCause i i' e → e ≢ end.ReadFailed
-no_read_failed i i' e steady none on cause is =
-    let rose : Rose i.faults i'.faults = subst (ReadEndCause i i') is cause in
+no_read_failed : (old new : EndsState) (e : SessionEnd) → IsTrue old.client.source.steady → old.client.source.faults ≡ 0 → SourceGoesOn old.client.source new.client.source → EndCause (faults_of old) (faults_of new) e → e ≢ end.ReadFailed
+no_read_failed old new e steady none on cause is =
+    let rose : Rose old.client.source.faults new.client.source.faults = subst (EndCause (faults_of old) (faults_of new)) is cause in
     omega (arith, (on.steady_kept steady).1, none, rose)
 
 -- nor does a sink whose count stays 0
-no_write_failed : (o o' : SinkState) (e : SessionEnd) → o.faults ≡ 0 → o'.faults ≡ 0 → WriteEndCause o o' e → e ≢ end.WriteFailed
-no_write_failed o o' e before behind cause is =
-    let rose : Rose o.faults o'.faults = subst (WriteEndCause o o') is cause in
+no_write_failed : (old new : EndsState) (e : SessionEnd) → old.client_out.faults ≡ 0 → new.client_out.faults ≡ 0 → EndCause (faults_of old) (faults_of new) e → e ≢ end.WriteFailed
+no_write_failed old new e before behind cause is =
+    let rose : Rose old.client_out.faults new.client_out.faults = (subst (EndCause (faults_of old) (faults_of new)) is cause).1 in
     omega (arith, before, behind, rose)
 
 -- a session that was served over memory
-pub is_run : {config : Config} {session : JobSession} {caller : Caller} {looks looks' : Looks} {i i' : SourceState} {o o' : SinkState} {d d' : DialerState} {t t' : ClockState} {notes : List ExchangeNote} {e : SessionEnd}
-    → Serves caller looks looks' i i' (record { client_out = o; dialer = d; clock = t }) (record { client_out = o'; dialer = d'; clock = t' }) notes e
-    → caller ≡ client → IsTrue looks.tells → GivesOnly config looks.coming → i ≡ fresh_source session.input true → IsTrue o.tells → o.taken ≡ [] → d ≡ fresh_dialer session.answers
-    → IsTrue t.tells → t.coming ≡ 0 ∷ [] → e ≢ end.NoMemory → o.faults ≡ 0 → o'.faults ≡ 0 → SourceGoesOn i i' → ReadEndCause i i' e → WriteEndCause o o' e
-    → IsRun config session (record { notes = notes; taken = o'.taken })
-is_run {config = config} {looks = looks} {looks' = looks'} {i = i} {i' = i'} {o = o} {o' = o'} {d' = d'} {t = t} {t' = t'} {e = e} serves caller_is looks_tell only source_is out_tells none dialer_is clock_tells zeros memory before behind on cause write_cause = record {
+pub is_run : {config : Config} {session : JobSession} {looks looks' : Looks} {old new : EndsState} {notes : List ExchangeNote} {e : SessionEnd}
+    → Serves [] looks looks' old new notes e → IsTrue looks.tells → GivesOnly config looks.coming → old.peer ≡ codes "127.0.0.1" → old.client ≡ record { source = fresh_source session.input true; ahead = [] }
+    → IsTrue old.client_out.tells → old.client_out.taken ≡ [] → old.dialer ≡ fresh_dialer session.answers → IsTrue old.clock.tells → old.clock.coming ≡ 0 ∷ [] → e ≢ end.NoMemory
+    → old.client_out.faults ≡ 0 → new.client_out.faults ≡ 0 → IsRun config session (record { notes = notes; taken = new.client_out.taken })
+is_run {config = config} {looks = looks} {looks' = looks'} {old = old} {new = new} {e = e} serves looks_tell only called client_is out_tells none dialer_is clock_tells zeros memory before behind = record {
   begun = serves.begun;
   notes_are = serves.notes_are;
-  uses = all_use_only config looks.coming looks'.coming t.coming t'.coming serves.begun only zeros (serves.noted.entries looks_tell (record { number = 0; config = config })) (serves.noted.moments clock_tells);
-  left = i'.left;
-  dialer = d';
+  uses = all_use_only config looks.coming looks'.coming old.clock.coming new.clock.coming serves.begun only zeros (serves.noted.entries looks_tell (record { number = 0; config = config })) (serves.noted.moments clock_tells);
+  left = new.client.source.left;
+  dialer = new.dialer;
   ended = e;
-  served = rw (caller_is, none, dialer_is, source_is) at (serves.session (record { client_in = ap (λ (s : SourceState). s.tells) source_is; client_out = out_tells; dialer = ap (λ (x : DialerState). x.tells) dialer_is }));
+  served = rw (called, none, dialer_is, client_is) at (serves.session (record { client = ap (λ (f : FeedState). f.source.tells) client_is; client_out = out_tells; dialer = ap (λ (x : DialerState). x.tells) dialer_is }));
   memory = memory;
-  no_read_failed = no_read_failed i i' e (ap (λ (s : SourceState). s.steady) source_is) (ap (λ (s : SourceState). s.faults) source_is) on cause;
-  no_write_failed = no_write_failed o o' e before behind write_cause;
+  no_read_failed = no_read_failed old new e (ap (λ (f : FeedState). f.source.steady) client_is) (ap (λ (f : FeedState). f.source.faults) client_is) serves.goes_on.client serves.cause;
+  no_write_failed = no_write_failed old new e before behind serves.cause;
 }
 
 -- behind a session each look still gives that configuration
-pub fixed_behind : {config : Config} {caller : Caller} {looks looks' : Looks} {i i' : SourceState} {old new : Objects} {notes : List ExchangeNote} {e : SessionEnd}
-    → Serves caller looks looks' i i' old new notes e → IsTrue looks.tells → GivesOnly config looks.coming → GivesOnly config looks'.coming
+pub fixed_behind : {config : Config} {tags : List (List ℕ)} {looks looks' : Looks} {old new : EndsState} {notes : List ExchangeNote} {e : SessionEnd}
+    → Serves tags looks looks' old new notes e → IsTrue looks.tells → GivesOnly config looks.coming → GivesOnly config looks'.coming
 fixed_behind {config = config} {looks = looks} {looks' = looks'} serves tell only = left_gives config (record { number = 0; config = config }) looks.coming looks'.coming serves.begun only (serves.noted.entries tell (record { number = 0; config = config }))
 
 -- what came of one session more

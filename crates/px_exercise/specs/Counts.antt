@@ -1,8 +1,8 @@
 -- What the five lines count, and how they are spelled.
 use Rattle.std.specs.Prelude.{ℕ, Bool, true, false, List, ◌++◌, length, codes, decimal, count_by}
-use Rattle.px_exchange.specs.declared.notes.ExchangeNote.{ExchangeNote}
-use Rattle.px_pumps.specs.declared.notes.Ending.{Ending}
-use Rattle.px_pumps.specs.declared.notes.Ending.TheVariants as ending
+use Rattle.px_notes.specs.declared.sessions.ExchangeNote.{ExchangeNote}
+use Rattle.px_notes.specs.declared.endings.Ending.{Ending}
+use Rattle.px_notes.specs.declared.endings.Ending.TheVariants as ending
 use Rattle.px_templates.specs.declared.pages.Page.TheVariants as page
 use Rattle.px_exercise.specs.declared.runs.Total.{Total}
 

@@ -4,10 +4,10 @@ use Rattle.std.specs.List.{AllZip, flat_map, sum_by}
 use Rattle.px_base.specs.Dials.{DialerState, fresh_dialer}
 use Rattle.px_config.specs.declared.configs.Config.{Config}
 use Rattle.px_publish.specs.Views.{Entry}
+use Rattle.px_notes.specs.declared.sessions.SessionEnd.{SessionEnd}
+use Rattle.px_notes.specs.declared.sessions.SessionEnd.TheVariants as end
 use Rattle.px_serve.specs.Histories.{Begun, note_of}
 use Rattle.px_serve.specs.Sessions.{Caller, IsSession}
-use Rattle.px_serve.specs.declared.ends.SessionEnd.{SessionEnd}
-use Rattle.px_serve.specs.declared.ends.SessionEnd.TheVariants as end
 use Rattle.px_generated.specs.Jobs.{draws_before, first_sessions, job_sessions}
 use Rattle.px_generated.specs.declared.sessions.JobSession.{JobSession}
 use Rattle.px_exercise.specs.declared.runs.SessionRun.{SessionRun}

@@ -5,7 +5,8 @@ ghost use Rattle.px_exercise.specs.Counts.{ending_count, is_blocked, is_filtered
 use crate::runs::Total;
 use itoa::Buffer;
 use px_base::{Mem, Text};
-use px_exchange::{Ending, ExchangeNote, Page};
+use px_notes::{Ending, ExchangeNote};
+use px_templates::Page;
 use std::alloc::Global;
 
 /// Whether the page of a block was returned.

@@ -6,10 +6,11 @@ ghost use Rattle.px_exercise.specs.Runs.{AreRunsOf, GivesOnly, HasRun, IsRun, to
 use crate::returns::Returns;
 use px_base::{Clock, FixedClock, List, Mem, MemDialer, Peer, TapeIn, Text};
 use px_config::Config;
-use px_exchange::ExchangeNote;
+use px_ends::{Ends, Joined};
 use px_generated::{Draws, JobSession, SESSIONS, job_session, sessions_in_order};
+use px_notes::{ExchangeNote, SessionEnd};
 use px_publish::{Configs, FixedConfig};
-use px_serve::{SessionEnd, serve_connection};
+use px_serve::serve_cold;
 use px_ways::Way;
 use std::alloc::Global;
 use std::sync::Arc;
@@ -20,6 +21,9 @@ const CLIENT: &[u8] = b"127.0.0.1";
 
 /// The moment of each exchange, in seconds since 1970.
 const MOMENT: u64 = 0;
+
+/// The types of the ends of a session.
+type JobConn = Joined<TapeIn, Returns, MemDialer, FixedClock>;
 
 /// What came of a session: the notes of its exchanges in order, and what its client's sink took.
 #[derive(Drop)]
@@ -100,24 +104,22 @@ fn run_session<R: Threads + Sync>(
     let peer = Peer {
         address: Text::from_bytes(alloc, CLIENT)?,
     };
-    let mut client_in = TapeIn::new(alloc, input.as_bytes(), &[], &[])?;
-    let mut client_out = Returns::new(alloc);
-    let mut dialer = MemDialer::new(alloc, answers)?;
-    let mut clock = fixed_clock(alloc, MOMENT)?;
-    let served = serve_connection(
-        alloc,
-        way,
-        configs,
-        &mut client_in,
-        &mut client_out,
-        &mut dialer,
-        &mut clock,
-        &peer,
-        &[],
-    );
+    let client_in = TapeIn::new(alloc, input.as_bytes(), &[], &[])?;
+    let client_out = Returns::new(alloc);
+    let dialer = MemDialer::new(alloc, answers)?;
+    let clock = fixed_clock(alloc, MOMENT)?;
+    let mut ends: Ends<JobConn> = Ends::new(alloc, client_in, client_out, dialer, clock, peer);
+    let served = serve_cold(alloc, way, configs, &[], &mut ends);
     if served.end == SessionEnd::NoMemory {
         return Err(Mem);
     }
+    let Ends {
+        client: _,
+        client_out,
+        dialer: _,
+        clock: _,
+        peer: _,
+    } = ends;
     Ok(SessionRun {
         notes: served.exchanges,
         taken: client_out.into_taken(),

@@ -21,8 +21,3 @@ read_field text = option_and_then (λ at. field_from (take at text) (drop (at + 
 -- the field's line: its name, a colon, a space and its value
 abbrev pub field_line : Field → List ℕ
 field_line f = f.name ++ codes ": " ++ f.value
-
--- the bytes begin with the others
-pub record IsFrontOf (front bytes : List ℕ) : Type 0 where
-  pub more : List ℕ
-  pub is : bytes ≡ front ++ more

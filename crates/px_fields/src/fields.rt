@@ -1,6 +1,7 @@
 // Fields of heads, and their printed lines.
 ghost use Rattle.std.specs.Prelude.{◌≡◌, ◌++◌, IfOk, OnErr, OnOk};
-ghost use Rattle.px_fields.specs.FieldLines.{field_line, IsFrontOf};
+ghost use mathlib.Core.List.{IsPrefix};
+ghost use Rattle.px_fields.specs.FieldLines.{field_line};
 
 use px_base::{Mem, Text};
 use std::alloc::Global;
@@ -30,7 +31,7 @@ impl Field {
 /// Adds the field's line without its end. After `Mem`, a front of it may have been added.
 pub fn push_field(out: &mut Text, field: &Field) -> Result<(), Mem>
     ensures ok { OnOk result (out.new ≡ out.old ++ field_line field.now) }
-    ensures err { OnErr result (IsFrontOf out.old out.new) }
+    ensures err { OnErr result (IsPrefix out.old out.new) }
 {
     out.push_all(field.name.as_bytes())?;
     out.push_all(FIELD_SEPARATOR)?;

@@ -1,6 +1,7 @@
 // The printed form of a head.
 ghost use Rattle.std.specs.Prelude.{◌≡◌, ◌-◌, ◌^◌, ◌++◌, length, min, OnOk, OnErr};
-ghost use Rattle.px_fields.specs.FieldLines.{field_line, IsFrontOf};
+ghost use mathlib.Core.List.{IsPrefix};
+ghost use Rattle.px_fields.specs.FieldLines.{field_line};
 ghost use Rattle.px_head.specs.Prints.{field_lines, printed_head, reason_part, status_text, version_text};
 
 use itoa::Buffer;
@@ -46,7 +47,7 @@ fn printed_len(first_line: &[u8], fields: &[Field]) -> usize
 #[tactic(auto, unfolding(crate::specs::Prints::printed_head))]
 fn push_head(out: &mut Text, first_line: &[u8], fields: &[Field]) -> Result<(), Mem>
     ensures ok { OnOk result (out.new ≡ out.old ++ printed_head first_line.now fields.now) }
-    ensures err { OnErr result (IsFrontOf out.old out.new) }
+    ensures err { OnErr result (IsPrefix out.old out.new) }
 {
     out.push_all(first_line)?;
     out.push_all(LINE_END)?;
@@ -58,7 +59,7 @@ fn push_head(out: &mut Text, first_line: &[u8], fields: &[Field]) -> Result<(), 
 #[tactic(auto, unfolding(crate::specs::Prints::field_lines))]
 fn push_fields(out: &mut Text, fields: &[Field]) -> Result<(), Mem>
     ensures ok { OnOk result (out.new ≡ out.old ++ field_lines fields.now) }
-    ensures err { OnErr result (IsFrontOf out.old out.new) }
+    ensures err { OnErr result (IsPrefix out.old out.new) }
 {
     for field in fields {
         push_field(out, field)?;

@@ -1,10 +1,9 @@
 // What is done for a request.
 use crate::replies::LocalReply;
-use px_answers::Asked;
 use px_base::Text;
 use px_decide::Route;
+use px_notes::{Asked, Message};
 use px_patterns::Url;
-use px_sending::Message;
 
 /// A request that is sent on: its destination, where to, what is sent, and what was asked.
 #[derive(Drop)]

@@ -1,7 +1,8 @@
 // Judging: what is done for a request, before any dial. Each step refuses, or goes on to the next.
 ghost use Rattle.std.specs.Prelude.{◌≡◌, IfOk};
-ghost use Rattle.px_judging.specs.Judging.{judged, body_refused, by_url, by_rule, by_tags, by_decision, by_method, by_headers, front_of, closing_page, invalid, reply_to, blocked_reply, image_or_page};
-ghost use Rattle.px_judging.specs.Requests.{tagged_request, vars_of, body_read, target_read};
+ghost use Rattle.px_judging.specs.Judging.{judged, body_refused, by_url, by_rule, by_request, by_tags, by_decision, by_method, by_headers, front_of, closing_page, invalid, reply_to, blocked_reply, image_or_page};
+ghost use Rattle.px_judging.specs.Given.{given_for};
+ghost use Rattle.px_judging.specs.Requests.{body_read, target_read};
 ghost use Rattle.px_judging.specs.Replies.{job_symbols};
 ghost use Rattle.px_headers.specs.ClientRows.{client_out};
 ghost use Rattle.px_headers.specs.Faults.{header_fault_name};
@@ -15,8 +16,8 @@ use crate::requests::{Request, RequestTags};
 use crate::tagging::{tag_request, vars_of};
 use crate::targets::{is_connect, is_head, keeps, read_body, read_target};
 use px_actions::Kind;
-use px_base::{Mem, Text};
-use px_config::Warm;
+use px_base::{Mem, Peer, Text};
+use px_config::Running;
 use px_decide::{Decision, decide};
 use px_framing::{BodyFault, BodyRule};
 use px_head::{HeadFault, RequestHead};
@@ -47,10 +48,10 @@ fn invalid(alloc: Global, error: &[u8], bodiless: bool) -> Result<Judgement, Mem
 }
 
 /// A reply to a request. The connection is kept where the request lets it and has no body.
-fn reply_to(handed: &Handed<'_>, request: &Request, kind: ReplyKind) -> Judgement
-    ensures { result ≡ reply_to handed.now request.now kind }
+fn reply_to(last: bool, request: &Request, kind: ReplyKind) -> Judgement
+    ensures { result ≡ reply_to last request.now kind }
 {
-    let kept = keeps(handed.last, &request.head) && request.rule == BodyRule::Absent;
+    let kept = keeps(last, &request.head) && request.rule == BodyRule::Absent;
     Judgement::Local(LocalReply {
         kind,
         close: !kept,
@@ -59,49 +60,44 @@ fn reply_to(handed: &Handed<'_>, request: &Request, kind: ReplyKind) -> Judgemen
 }
 
 /// The page of a blocked request.
-fn blocked(
-    alloc: Global,
-    handed: &Handed<'_>,
-    request: &Request,
-    reason: &[u8],
-) -> Result<Judgement, Mem>
-    ensures { IfOk result (λ j. j ≡ blocked_reply handed.now request.now reason.now) }
+fn blocked(alloc: Global, last: bool, request: &Request, reason: &[u8]) -> Result<Judgement, Mem>
+    ensures { IfOk result (λ j. j ≡ blocked_reply last request.now reason.now) }
 {
     let symbols = url_symbols(alloc, &request.url, reason, &[], &[])?;
     let page = Page::Blocked;
-    Ok(reply_to(handed, request, ReplyKind::Page { page, symbols }))
+    Ok(reply_to(last, request, ReplyKind::Page { page, symbols }))
 }
 
 /// An image, or the page of a blocked request where the image is missing.
 fn image_or_page(
     alloc: Global,
-    handed: &Handed<'_>,
+    last: bool,
     request: &Request,
     tags: &RequestTags,
     image: &Option<Text>,
     kind: ReplyKind,
 ) -> Result<Judgement, Mem>
-    ensures { IfOk result (λ j. j ≡ image_or_page handed.now request.now tags.now image.now kind) }
+    ensures { IfOk result (λ j. j ≡ image_or_page last request.now tags.now image.now kind) }
 {
     match image {
-        Some(_) => Ok(reply_to(handed, request, kind)),
+        Some(_) => Ok(reply_to(last, request, kind)),
         None => {
             let reason = tags.set.value(Kind::Block).unwrap_or(&[]);
-            blocked(alloc, handed, request, reason)
+            blocked(alloc, last, request, reason)
         }
     }
 }
 
 /// What of a request's head is needed when its fields are gone.
-fn front_of(alloc: Global, handed: &Handed<'_>, request: &Request) -> Result<RequestFront, Mem>
-    ensures { IfOk result (λ front. front ≡ front_of handed.now request.now) }
+fn front_of(alloc: Global, last: bool, request: &Request) -> Result<RequestFront, Mem>
+    ensures { IfOk result (λ front. front ≡ front_of last request.now) }
 {
     let head = &request.head;
     Ok(RequestFront {
         method: Text::from_bytes(alloc, head.method.as_bytes())?,
         minor: head.minor,
         rule: request.rule,
-        keep: keeps(handed.last, head),
+        keep: keeps(last, head),
         expects: expects_continue(head.minor, head.fields.as_slice(), request.rule),
         bodiless: is_head(head),
     })
@@ -120,22 +116,21 @@ fn bad_rewrite(alloc: Global, vars: &Vars, port: u16, bodiless: bool) -> Result<
 fn judge_headers(
     alloc: Global,
     handed: &Handed<'_>,
-    warm: &mut Warm<'_>,
+    peer: &Peer,
+    running: &mut Running<'_>,
     request: Request,
     tags: RequestTags,
-    vars: Vars,
 ) -> Result<Judgement, Mem>
-    requires filters { warm.old.filters ≡ handed.now.config.filters }
-    requires vars { vars ≡ vars_of handed.now.peer request.url }
-    ensures value { IfOk result (λ j. j ≡ by_headers handed.now request tags (client_out tags.set handed.now.config.filters vars request.url handed.now.peer request.head)) }
-    ensures same_sections { warm.new.sections ≡ warm.old.sections }
-    ensures same_filters { warm.new.filters ≡ warm.old.filters }
+    ensures value { IfOk result (λ j. j ≡ by_headers (given_for running.old handed.now peer.now.address) request tags (client_out tags.set running.old.filters request.vars request.url peer.now.address request.head)) }
+    ensures same { running.new ≡ running.old }
 {
-    let front = front_of(alloc, handed, &request)?;
+    let config = running.config();
+    let front = front_of(alloc, handed.last, &request)?;
     let Request {
         mut head,
         url,
         rule: _,
+        vars,
     } = request;
     let port = url.port;
     match client_headers(
@@ -143,12 +138,20 @@ fn judge_headers(
         &mut head,
         url,
         &tags.set,
-        &handed.config.filters,
-        &mut warm.filters,
+        &config.filters,
+        &mut running.filters,
         &vars,
-        handed.peer,
+        peer,
     ) {
-        Ok(out) => Ok(Judgement::Forward(plan_by(alloc, handed, front, tags, vars, out)?)),
+        Ok(out) => Ok(Judgement::Forward(plan_by(
+            alloc,
+            config,
+            handed.moment,
+            front,
+            tags,
+            vars,
+            out,
+        )?)),
         Err(HeaderFault::BadRewrite) => bad_rewrite(alloc, &vars, port, front.bodiless),
         Err(HeaderFault::Mem) => Err(Mem),
     }
@@ -158,21 +161,18 @@ fn judge_headers(
 fn judge_method(
     alloc: Global,
     handed: &Handed<'_>,
-    warm: &mut Warm<'_>,
+    peer: &Peer,
+    running: &mut Running<'_>,
     request: Request,
     tags: RequestTags,
-    vars: Vars,
 ) -> Result<Judgement, Mem>
-    requires filters { warm.old.filters ≡ handed.now.config.filters }
-    requires vars { vars ≡ vars_of handed.now.peer request.url }
-    ensures value { IfOk result (λ j. j ≡ by_method handed.now request tags) }
-    ensures same_sections { warm.new.sections ≡ warm.old.sections }
-    ensures same_filters { warm.new.filters ≡ warm.old.filters }
+    ensures value { IfOk result (λ j. j ≡ by_method (given_for running.old handed.now peer.now.address) request tags) }
+    ensures same { running.new ≡ running.old }
 {
     if is_connect(&request.head) {
-        Ok(Judgement::Tunnel(tunnel_of(alloc, handed, request, tags)?))
+        Ok(Judgement::Tunnel(tunnel_of(alloc, running.config(), request, tags)?))
     } else {
-        judge_headers(alloc, handed, warm, request, tags, vars)
+        judge_headers(alloc, handed, peer, running, request, tags)
     }
 }
 
@@ -180,25 +180,23 @@ fn judge_method(
 fn judge_decision(
     alloc: Global,
     handed: &Handed<'_>,
-    warm: &mut Warm<'_>,
+    peer: &Peer,
+    running: &mut Running<'_>,
     request: Request,
     tags: RequestTags,
-    vars: Vars,
     decision: Decision,
 ) -> Result<Judgement, Mem>
-    requires filters { warm.old.filters ≡ handed.now.config.filters }
-    requires vars { vars ≡ vars_of handed.now.peer request.url }
-    ensures value { IfOk result (λ j. j ≡ by_decision handed.now request tags decision) }
-    ensures same_sections { warm.new.sections ≡ warm.old.sections }
-    ensures same_filters { warm.new.filters ≡ warm.old.filters }
+    ensures value { IfOk result (λ j. j ≡ by_decision (given_for running.old handed.now peer.now.address) request tags decision) }
+    ensures same { running.new ≡ running.old }
 {
-    let config = handed.config;
+    let config = running.config();
+    let last = handed.last;
     match decision {
-        Decision::Pass => judge_method(alloc, handed, warm, request, tags, vars),
-        Decision::Blocked(reason) => blocked(alloc, handed, &request, reason.as_bytes()),
+        Decision::Pass => judge_method(alloc, handed, peer, running, request, tags),
+        Decision::Blocked(reason) => blocked(alloc, last, &request, reason.as_bytes()),
         Decision::ImageBlank => image_or_page(
             alloc,
-            handed,
+            last,
             &request,
             &tags,
             &config.image_blank,
@@ -206,14 +204,14 @@ fn judge_decision(
         ),
         Decision::ImagePattern => image_or_page(
             alloc,
-            handed,
+            last,
             &request,
             &tags,
             &config.image_pattern,
             ReplyKind::PatternImage,
         ),
-        Decision::Empty => Ok(reply_to(handed, &request, ReplyKind::EmptyDocument)),
-        Decision::Redirect(target) => Ok(reply_to(handed, &request, ReplyKind::Redirect(target))),
+        Decision::Empty => Ok(reply_to(last, &request, ReplyKind::EmptyDocument)),
+        Decision::Redirect(target) => Ok(reply_to(last, &request, ReplyKind::Redirect(target))),
         Decision::ConnectDenied => {
             let symbols = url_symbols(alloc, &request.url, &[], &[], &[])?;
             Ok(closing_page(Page::ConnectDenied, symbols, false))
@@ -225,38 +223,32 @@ fn judge_decision(
 fn judge_tags(
     alloc: Global,
     handed: &Handed<'_>,
-    warm: &mut Warm<'_>,
+    peer: &Peer,
+    running: &mut Running<'_>,
     request: Request,
     tags: RequestTags,
-    vars: Vars,
 ) -> Result<Judgement, Mem>
-    requires filters { warm.old.filters ≡ handed.now.config.filters }
-    requires vars { vars ≡ vars_of handed.now.peer request.url }
-    ensures value { IfOk result (λ j. j ≡ by_tags handed.now request tags) }
-    ensures same_sections { warm.new.sections ≡ warm.old.sections }
-    ensures same_filters { warm.new.filters ≡ warm.old.filters }
+    ensures value { IfOk result (λ j. j ≡ by_tags (given_for running.old handed.now peer.now.address) request tags) }
+    ensures same { running.new ≡ running.old }
 {
     let connect = is_connect(&request.head);
-    let decision = decide(alloc, &request.url, connect, &tags.set, &vars)?;
-    judge_decision(alloc, handed, warm, request, tags, vars, decision)
+    let decision = decide(alloc, &request.url, connect, &tags.set, &request.vars)?;
+    judge_decision(alloc, handed, peer, running, request, tags, decision)
 }
 
 /// A request whose target and body rule are read.
 fn judge_request(
     alloc: Global,
     handed: &Handed<'_>,
-    warm: &mut Warm<'_>,
+    peer: &Peer,
+    running: &mut Running<'_>,
     request: Request,
 ) -> Result<Judgement, Mem>
-    requires sections { warm.old.sections ≡ handed.now.config.sections }
-    requires filters { warm.old.filters ≡ handed.now.config.filters }
-    ensures value { IfOk result (λ j. j ≡ by_tags handed.now request (tagged_request handed.now request.head request.url)) }
-    ensures same_sections { warm.new.sections ≡ warm.old.sections }
-    ensures same_filters { warm.new.filters ≡ warm.old.filters }
+    ensures value { IfOk result (λ j. j ≡ by_request (given_for running.old handed.now peer.now.address) request) }
+    ensures same { running.new ≡ running.old }
 {
-    let vars = vars_of(alloc, handed.peer, &request.url)?;
-    let tags = tag_request(alloc, handed, warm, &request.head, &request.url, &vars)?;
-    judge_tags(alloc, handed, warm, request, tags, vars)
+    let tags = tag_request(alloc, running, handed.tags, &request)?;
+    judge_tags(alloc, handed, peer, running, request, tags)
 }
 
 /// The page of a request whose body can't be read.
@@ -276,18 +268,25 @@ fn refuse_body(
 fn judge_body(
     alloc: Global,
     handed: &Handed<'_>,
-    warm: &mut Warm<'_>,
+    peer: &Peer,
+    running: &mut Running<'_>,
     head: RequestHead,
     url: Url,
 ) -> Result<Judgement, Mem>
-    requires sections { warm.old.sections ≡ handed.now.config.sections }
-    requires filters { warm.old.filters ≡ handed.now.config.filters }
-    ensures value { IfOk result (λ j. j ≡ by_rule handed.now head url (body_read head)) }
-    ensures same_sections { warm.new.sections ≡ warm.old.sections }
-    ensures same_filters { warm.new.filters ≡ warm.old.filters }
+    ensures value { IfOk result (λ j. j ≡ by_rule (given_for running.old handed.now peer.now.address) head url (body_read head)) }
+    ensures same { running.new ≡ running.old }
 {
     match read_body(&head) {
-        Ok(rule) => judge_request(alloc, handed, warm, Request { head, url, rule }),
+        Ok(rule) => {
+            let vars = vars_of(alloc, peer, &url)?;
+            let request = Request {
+                head,
+                url,
+                rule,
+                vars,
+            };
+            judge_request(alloc, handed, peer, running, request)
+        }
         Err(fault) => refuse_body(alloc, &head, &url, fault),
     }
 }
@@ -296,35 +295,31 @@ fn judge_body(
 fn judge_head(
     alloc: Global,
     handed: &Handed<'_>,
-    warm: &mut Warm<'_>,
+    peer: &Peer,
+    running: &mut Running<'_>,
     head: RequestHead,
 ) -> Result<Judgement, Mem>
-    requires sections { warm.old.sections ≡ handed.now.config.sections }
-    requires filters { warm.old.filters ≡ handed.now.config.filters }
-    ensures value { IfOk result (λ j. j ≡ by_url handed.now head (target_read head)) }
-    ensures same_sections { warm.new.sections ≡ warm.old.sections }
-    ensures same_filters { warm.new.filters ≡ warm.old.filters }
+    ensures value { IfOk result (λ j. j ≡ by_url (given_for running.old handed.now peer.now.address) head (target_read head)) }
+    ensures same { running.new ≡ running.old }
 {
     match read_target(alloc, &head)? {
-        Ok(url) => judge_body(alloc, handed, warm, head, url),
+        Ok(url) => judge_body(alloc, handed, peer, running, head, url),
         Err(fault) => invalid(alloc, fault.name().as_bytes(), is_head(&head)),
     }
 }
 
 /// What is done for a request that reads so. In this order: an overlong head, one that isn't read, its target and the rule of its
 /// body are refused; then the actions of its URL and its tags decide; then it is sent on as the header actions have it, unless
-/// they rewrote its line badly. `warm` is the store of the configuration.
+/// they rewrote its line badly.
 pub fn judge(
     alloc: Global,
     handed: &Handed<'_>,
-    warm: &mut Warm<'_>,
+    peer: &Peer,
+    running: &mut Running<'_>,
     reading: HeadReading,
 ) -> Result<Judgement, Mem>
-    requires sections { warm.old.sections ≡ handed.now.config.sections }
-    requires filters { warm.old.filters ≡ handed.now.config.filters }
-    ensures value { IfOk result (λ j. j ≡ judged handed.now reading) }
-    ensures same_sections { warm.new.sections ≡ warm.old.sections }
-    ensures same_filters { warm.new.filters ≡ warm.old.filters }
+    ensures value { IfOk result (λ j. j ≡ judged (given_for running.old handed.now peer.now.address) reading) }
+    ensures same { running.new ≡ running.old }
 {
     match reading {
         HeadReading::Overlong => {
@@ -337,6 +332,6 @@ pub fn judge(
             HeadFault::TooManyFields.name().as_bytes(),
             false,
         ),
-        HeadReading::Head(head) => judge_head(alloc, handed, warm, head),
+        HeadReading::Head(head) => judge_head(alloc, handed, peer, running, head),
     }
 }

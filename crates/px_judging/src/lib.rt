@@ -15,6 +15,5 @@ mod targets;
 pub use handed::Handed;
 pub use judgements::{Judgement, Plan, TunnelPlan};
 pub use judging::judge;
-pub use px_answers::Asked;
 pub use readings::{HeadReading, HeadSeen, read_request};
 pub use replies::{LocalReply, ReplyKind, reply_bytes, url_symbols};

@@ -4,18 +4,18 @@ ghost use Rattle.px_judging.specs.Judging.{plan_by, tunnel_of};
 ghost use Rattle.px_judging.specs.Sending.{next_target, sent_head};
 
 use crate::connects::{greeting, tunnel_head};
-use crate::handed::Handed;
 use crate::judgements::{Plan, TunnelPlan};
 use crate::requests::{Request, RequestTags};
 use px_actions::Kind;
-use px_answers::Asked;
 use px_base::{Mem, Text};
+use px_config::Config;
 use px_decide::route;
 use px_fields::Field;
 use px_framing::BodyRule;
 use px_headers::ClientOut;
+use px_notes::{Asked, Message};
 use px_patterns::Url;
-use px_sending::{Message, NextHead, next_head};
+use px_sending::{NextHead, next_head};
 use px_subst::Vars;
 use std::alloc::Global;
 
@@ -72,16 +72,17 @@ pub struct RequestFront {
 #[tactic(auto, unfolding(crate::specs::Judging::plan_by))]
 pub fn plan_by(
     alloc: Global,
-    handed: &Handed<'_>,
+    config: &Config,
+    moment: u64,
     front: RequestFront,
     tags: RequestTags,
     vars: Vars,
     out: ClientOut,
 ) -> Result<Plan, Mem>
-    ensures { IfOk result (λ plan. plan ≡ plan_by handed.now front tags vars out) }
+    ensures { IfOk result (λ plan. plan ≡ plan_by config.now moment front tags vars out) }
 {
     let ClientOut { url, fields } = out;
-    let route = route(alloc, &url, &tags.set, &handed.config.forwards)?;
+    let route = route(alloc, &url, &tags.set, &config.forwards)?;
     let sent = sent_head(
         alloc,
         front.method.as_bytes(),
@@ -103,7 +104,7 @@ pub fn plan_by(
         set: tags.set,
         tags: tags.tags,
         vars,
-        moment: handed.moment,
+        moment,
     };
     Ok(Plan {
         url,
@@ -118,13 +119,13 @@ pub fn plan_by(
 #[tactic(auto, unfolding(crate::specs::Judging::tunnel_of))]
 pub fn tunnel_of(
     alloc: Global,
-    handed: &Handed<'_>,
+    config: &Config,
     request: Request,
     tags: RequestTags,
 ) -> Result<TunnelPlan, Mem>
-    ensures { IfOk result (λ plan. plan ≡ tunnel_of handed.now request tags) }
+    ensures { IfOk result (λ plan. plan ≡ tunnel_of config.now request tags) }
 {
-    let route = route(alloc, &request.url, &tags.set, &handed.config.forwards)?;
+    let route = route(alloc, &request.url, &tags.set, &config.forwards)?;
     let head = tunnel_head(alloc, route.parent, &request.url)?;
     let greeting = greeting(alloc, route.parent)?;
     Ok(TunnelPlan {

@@ -6,11 +6,10 @@ ghost use Rattle.px_merge.specs.declared.sides.Side.TheVariants as side;
 ghost use Rattle.px_taggers.specs.Tagging.{TagsLike};
 ghost use Rattle.px_judging.specs.Requests.{tagged_request, head_lines, vars_of};
 
-use crate::handed::Handed;
-use crate::requests::RequestTags;
+use crate::requests::{Request, RequestTags};
 use px_actions::ActionSet;
 use px_base::{List, Mem, Peer, Steps, Text};
-use px_config::Warm;
+use px_config::Running;
 use px_head::RequestHead;
 use px_merge::{Side, WarmSections};
 use px_patterns::Url;
@@ -91,36 +90,29 @@ fn actions_of(
 #[tactic(auto, unfolding(crate::specs::Requests::tagged_request))]
 pub fn tag_request(
     alloc: Global,
-    handed: &Handed<'_>,
-    warm: &mut Warm<'_>,
-    head: &RequestHead,
-    url: &Url,
-    vars: &Vars,
+    running: &mut Running<'_>,
+    client_tags: &[Text],
+    request: &Request,
 ) -> Result<RequestTags, Mem>
-    requires sections { warm.old.sections ≡ handed.now.config.sections }
-    requires filters { warm.old.filters ≡ handed.now.config.filters }
-    requires vars { vars.now ≡ vars_of handed.now.peer url.now }
-    ensures value { IfOk result (λ t. t ≡ tagged_request handed.now head.now url.now) }
-    ensures same_sections { warm.new.sections ≡ warm.old.sections }
-    ensures same_filters { warm.new.filters ≡ warm.old.filters }
+    ensures value { IfOk result (λ t. t ≡ tagged_request running.old client_tags.now request.now) }
+    ensures same { running.new ≡ running.old }
 {
     let mut tags = List::new(alloc);
-    if !handed.config.settings.toggle {
+    if !running.config().settings.toggle {
         let set = ActionSet::empty(alloc);
         return Ok(RequestTags { set, tags });
     }
-    let Warm { sections, filters } = warm;
-    let mut set = actions_of(alloc, sections, url, handed.tags)?;
-    let lines = lines_for(alloc, head, &set)?;
+    let mut set = actions_of(alloc, &mut running.sections, &request.url, client_tags)?;
+    let lines = lines_for(alloc, &request.head, &set)?;
     tag_headers_with(
         alloc,
-        sections,
-        filters,
+        &mut running.sections,
+        &mut running.filters,
         &mut set,
         &mut tags,
         lines.as_slice(),
         Side::Request,
-        vars,
+        &request.vars,
     )?;
     Ok(RequestTags { set, tags })
 }

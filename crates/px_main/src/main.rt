@@ -5,8 +5,9 @@ mod help;
 
 use help::asked_text;
 use px_base::{DiskFiles, ReaderSource, SystemClock, WriterSink};
-use px_commands::{Status, USAGE, report, run_tool};
+use px_commands::{Status, ToolParts, USAGE, report, run_tool};
 use px_doors::{SocketDoors, Times};
+use px_kept_files::KeptFiles;
 use px_serve_command::{DeskParts, run_proxy};
 use px_ways::Way;
 use std::process::ExitCode;
@@ -48,19 +49,21 @@ fn main(rt: HostRuntime) -> ExitCode {
         let mut out = WriterSink::new(rt.stdout(), 0);
         return ExitCode::from(report(&mut out, text, Status::Done).code());
     }
-    let mut files = DiskFiles::new(alloc, &rt);
     if is_serve(&words) {
+        let files = KeptFiles::new(alloc, &rt);
         let doors = SocketDoors::new(alloc, &rt, Times::usual());
         let parts = DeskParts { files, doors, err };
         let proxied = run_proxy(alloc, &rt, &words, parts);
         return ExitCode::from(proxied.status);
     }
-    let mut input = ReaderSource::new(rt.stdin(), 0);
-    let mut out = WriterSink::new(rt.stdout(), 0);
-    let mut clock = SystemClock::new(&rt);
+    let parts = ToolParts {
+        files: DiskFiles::new(alloc, &rt),
+        input: ReaderSource::new(rt.stdin(), 0),
+        out: WriterSink::new(rt.stdout(), 0),
+        err,
+        clock: SystemClock::new(&rt),
+    };
     let way: Way<'_, HostRuntime> = Way::InTurn;
-    let status = run_tool(
-        alloc, &way, &words, &mut files, &mut input, &mut out, &mut err, &mut clock,
-    );
-    ExitCode::from(status)
+    let ran = run_tool(alloc, &way, &words, parts);
+    ExitCode::from(ran.status)
 }

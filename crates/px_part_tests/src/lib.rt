@@ -12,6 +12,8 @@ mod ended_links;
 #[cfg(test)]
 mod generated;
 #[cfg(test)]
+mod kept_files;
+#[cfg(test)]
 mod memory;
 #[cfg(test)]
 mod pool;

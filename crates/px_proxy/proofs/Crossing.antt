@@ -20,9 +20,9 @@ use Rattle.px_proxy.specs.contracts.workers.Shares as shares
 use Rattle.px_proxy.specs.contracts.workers.Worker as worker
 use Rattle.px_proxy.specs.declared.workers.Making as making
 
-module _ (N L F A E I O D T LI LO : RattleType) (n : making.Ghosts N.Denot) (f : files.Ghosts F.Denot) (a : doors.Ghosts A.Denot I.Denot O.Denot D.Denot T.Denot LI.Denot LO.Denot) (i : source.Ghosts I.Denot) (o : sink.Ghosts O.Denot) (d : dialer.Ghosts D.Denot LI.Denot LO.Denot) (li : source.Ghosts LI.Denot) (lo : sink.Ghosts LO.Denot) (t : clock.Ghosts T.Denot) (e : sink.Ghosts E.Denot) (l : ledger.Ghosts N.Denot) (m : ledger.Ghosts L.Denot) where
-  pub shared_send : IsSend N → IsSync N → IsSend L → IsSync L → IsSend F → IsSend A → IsSend E → IsSend I → IsSend O → IsSend D → IsSend T → IsSend LI → IsSend LO → IsSend (shared.the_row N L F A E I O D T LI LO n f a i o d li lo t e l m)
-  shared_send sn yn sm ym sf sa se si so sd st sli slo = declared_send (shared.the_type N L F A E I O D T LI LO n f a i o d li lo t e l m) (search (sendable, desk_send) depth 40, (search (sendable, book.the_send) depth 40, (search (sendable, book.the_send) depth 40, tt)))
+module _ (N L F A E C I O D T LI LO : RattleType) (n : making.Ghosts N.Denot) (f : files.Ghosts F.Denot) (a : doors.Ghosts A.Denot C.Denot I.Denot O.Denot D.Denot T.Denot LI.Denot LO.Denot) (i : source.Ghosts I.Denot) (o : sink.Ghosts O.Denot) (d : dialer.Ghosts D.Denot LI.Denot LO.Denot) (li : source.Ghosts LI.Denot) (lo : sink.Ghosts LO.Denot) (t : clock.Ghosts T.Denot) (e : sink.Ghosts E.Denot) (l : ledger.Ghosts N.Denot) (m : ledger.Ghosts L.Denot) where
+  pub shared_send : IsSend N → IsSync N → IsSend L → IsSync L → IsSend F → IsSend A → IsSend E → IsSend I → IsSend O → IsSend D → IsSend T → IsSend LI → IsSend LO → IsSend (shared.the_row N L F A E C I O D T LI LO n f a i o d li lo t e l m)
+  shared_send sn yn sm ym sf sa se si so sd st sli slo = declared_send (shared.the_type N L F A E C I O D T LI LO n f a i o d li lo t e l m) (search (sendable, desk_send) depth 40, (search (sendable, book.the_send) depth 40, (search (sendable, book.the_send) depth 40, tt)))
 
 module _ (N L : RattleType) (l : ledger.Ghosts N.Denot) (m : ledger.Ghosts L.Denot) where
   pub shares_send : IsSend N → IsSync N → IsSend L → IsSync L → IsSend (shares.the_row N L l m)

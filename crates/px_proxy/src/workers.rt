@@ -1,22 +1,22 @@
 // Workers that share a desk.
 ghost use denote.Param.Send.{IsSend};
-ghost use Rattle.std.specs.Prelude.{◌≡◌, ◌≢◌, ◌+◌, ◌<◌, ◌≤◌, [], None, length, vec_len, IfSome, IfNone, OnOk, IfOk, IsTrue, All};
-ghost use Rattle.px_publish.specs.Published.{told_by, receipt_pair, seen_by, reader_pair};
+ghost use Rattle.std.specs.Prelude.{◌≡◌, ◌≢◌, ◌+◌, ◌<◌, ◌≤◌, [], None, length, vec_len, IfSome, IfNone, OnOk, IfErr, IfOk, IsTrue, All};
+ghost use Rattle.px_publish.specs.Published.{seen_by, reader_pair};
 ghost use Rattle.px_doors.specs.Doors.{DoorsState};
-ghost use Rattle.px_doors.specs.Conns.{conn_as, parted_as};
 ghost use Rattle.px_desk.specs.Facts.{IsClosed, Made, IsOut, DeskStands};
 ghost use Rattle.px_publish.specs.Views.{GoesOn};
-ghost use Rattle.px_desk.specs.Sessions.{IsNth, IsConnServed, ServedBy};
+ghost use Rattle.px_desk.specs.Sessions.{IsNth, IsConnServed};
 ghost use Rattle.px_serve.specs.Keeping.{IsStored};
-ghost use Rattle.px_desk.specs.Desks.{handed_as, made_of, StandsAfter};
+ghost use Rattle.px_desk.specs.Desks.{made_of, StandsAfter};
 ghost use Rattle.px_proxy.specs.Ways.{IsAtOnce};
 
-use px_base::{Clock, Dialer, Files, Mem, Sink, Source};
+use px_base::{Files, Mem, Sink};
 use px_config::Config;
-use px_desk::{Desk, DeskNext, HandedConn, ServedDesk};
-use px_doors::{Conn, Doors, Parted};
+use px_desk::{Desk, HandedConn, ServeEnd, ServedDesk};
+use px_doors::{Doors, Parted};
+use px_ends::{Ends, Outside};
 use px_publish::{ConfigReader, Configs, CountFull};
-use px_serve::{Store, serve_stored};
+use px_serve::{Store, serve_connection};
 use px_ways::Way;
 use std::alloc::Global;
 use std::marker::Brand;
@@ -77,120 +77,70 @@ struct Worker<N: Making, L: Ledger> {
 }
 
 /// A connection to serve: its number, that of the entry with which it was handed out, and its ends.
-struct Task<S, O, D, T> {
+struct Task<A: Outside> {
     number: u64,
     handed: u64,
-    conn: Conn<S, O, D, T>,
+    ends: Ends<A>,
 }
 
-/// Serves a connection without client tags, and gives it back with its session.
-fn served_by<R, K, S, O, D, T>(
-    alloc: Global,
-    way: &Way<'_, R>,
-    store: &mut Store<'_>,
-    configs: &mut K,
-    task: Task<S, O, D, T>,
-) -> Parted<S, O, D, T>
-where
-    R: Threads + Sync,
-    K: Configs<Held = Config>,
-    S: Source,
-    O: Sink,
-    D: Dialer,
-    T: Clock,
-    requires stored { IsStored (K.view configs.old) store.old }
-    ensures number { result.number ≡ task.number }
-    ensures handed { result.handed ≡ task.handed }
-    ensures served { ServedBy
-        (record { tells = K.tells; view = K.view configs.old; pair = K.pair configs.old; coming = K.coming configs.old })
-        (record { tells = K.tells; view = K.view configs.new; pair = K.pair configs.new; coming = K.coming configs.new })
-        (conn_as S.state O.state D.state T.state task.conn) (parted_as S.state O.state D.state T.state result) }
-    ensures stored { IsStored (K.view configs.new) store.new }
-{
-    let Task {
-        number,
-        handed,
-        conn,
-    } = task;
-    let Conn {
-        mut client_in,
-        mut client_out,
-        mut dialer,
-        mut clock,
-        peer,
-    } = conn;
-    let session = serve_stored(
-        alloc,
-        way,
-        store,
-        configs,
-        &mut client_in,
-        &mut client_out,
-        &mut dialer,
-        &mut clock,
-        &peer,
-        &[],
-    );
-    Parted {
-        number,
-        handed,
-        session,
-        conn: Conn {
-            client_in,
-            client_out,
-            dialer,
-            clock,
-            peer,
-        },
-    }
-}
-
-/// Serves a connection by a reader that has learnt the entry with which it was handed out.
-fn served<N: Making, R: Threads + Sync, S: Source, O: Sink, D: Dialer, T: Clock>(
+/// Serves a connection without client tags, by a reader that has learnt the entry with which it was handed out, and gives it back
+/// with its session.
+fn served<N: Making, R: Threads + Sync, A: Outside>(
     alloc: Global,
     way: &Way<'_, R>,
     store: &mut Store<'_>,
     reader: &mut ConfigReader<Config>,
-    task: Task<S, O, D, T>,
-) -> Parted<S, O, D, T>
+    task: Task<A>,
+) -> Parted<A>
     requires at_once { IsAtOnce way.now }
     requires pair { reader_pair reader.old ≡ N.made.pair }
     requires stored { IsStored (seen_by reader.old) store.old }
     requires learnt { task.handed < length (seen_by reader.old) }
-    requires nth { IsNth N.made.doors.tells N.made.doors.conns task.number (conn_as S.state O.state D.state T.state task.conn) }
+    requires nth { IsNth N.made.doors.tells N.made.doors.conns task.number task.ends }
     ensures pair { reader_pair reader.new ≡ N.made.pair }
-    ensures served { IsConnServed N.made.doors.tells N.made.doors.conns (seen_by reader.new) (parted_as S.state O.state D.state T.state result) }
+    ensures served { IsConnServed N.made.doors.tells N.made.doors.conns (seen_by reader.new) result }
     ensures stored { IsStored (seen_by reader.new) store.new }
 {
-    served_by(alloc, way, store, reader, task)
+    let Task {
+        number,
+        handed,
+        mut ends,
+    } = task;
+    let session = serve_connection(alloc, way, store, reader, &[], &mut ends);
+    Parted {
+        number,
+        handed,
+        session,
+        ends,
+    }
 }
 
 /// What is to be served of a connection that was handed out, once its receipt is learnt.
-fn task_of<N: Making, S: Source, O: Sink, D: Dialer, T: Clock>(
+fn task_of<N: Making, A: Outside>(
     reader: &mut ConfigReader<Config>,
-    handed: HandedConn<S, O, D, T>,
-) -> Task<S, O, D, T>
+    handed: HandedConn<A>,
+) -> Task<A>
     requires pair { reader_pair reader.old ≡ N.made.pair }
-    requires receipt_pair { receipt_pair handed.receipt ≡ N.made.pair }
+    requires receipt_pair { handed.pair ≡ N.made.pair }
     ensures pair { reader_pair reader.new ≡ N.made.pair }
-    ensures handed { length (told_by handed.receipt) ≡ result.handed + 1 }
+    ensures handed { length handed.told ≡ result.handed + 1 }
     ensures learnt { result.handed < length (seen_by reader.new) }
     ensures on { GoesOn (seen_by reader.old) (seen_by reader.new) }
     ensures number { result.number ≡ handed.number }
-    ensures conn { conn_as S.state O.state D.state T.state result.conn ≡ conn_as S.state O.state D.state T.state handed.conn }
+    ensures ends { result.ends ≡ handed.ends }
 {
     let HandedConn {
         number,
         reload: _,
         receipt,
-        conn,
+        ends,
     } = handed;
     let handed = receipt.snapshot().number;
     reader.learn(receipt);
     Task {
         number,
         handed,
-        conn,
+        ends,
     }
 }
 
@@ -200,22 +150,22 @@ impl<N: Making, L: Ledger, F: Files, A: Doors, E: Sink> Shared<N, L, F, A, E> {
         &mut self,
         rt: &R,
         mine: &mut Shares<N, L>,
-    ) -> DeskNext<A::In, A::Out, A::Dial, A::Time>
-        ensures conn { IfSome (handed_as A.In.state A.Out.state A.Dial.state A.Time.state result) (λ h. mine.new.out.amount ≡ mine.old.out.amount + 1) }
-        ensures nth { IfSome (handed_as A.In.state A.Out.state A.Dial.state A.Time.state result) (λ h. IsNth N.made.doors.tells N.made.doors.conns h.number h.conn) }
-        ensures pair { IfSome (handed_as A.In.state A.Out.state A.Dial.state A.Time.state result) (λ h. h.pair ≡ N.made.pair) }
-        ensures closed { IfNone (handed_as A.In.state A.Out.state A.Dial.state A.Time.state result) (mine.new.out.amount ≡ mine.old.out.amount) }
-        ensures told { IfNone (handed_as A.In.state A.Out.state A.Dial.state A.Time.state result) (0 < mine.new.told.amount) }
+    ) -> Result<HandedConn<A::Conn>, ServeEnd>
+        ensures conn { IfOk result (λ h. mine.new.out.amount ≡ mine.old.out.amount + 1) }
+        ensures nth { IfOk result (λ h. IsNth N.made.doors.tells N.made.doors.conns h.number h.ends) }
+        ensures pair { IfOk result (λ h. h.pair ≡ N.made.pair) }
+        ensures closed { IfErr result (λ _. mine.new.out.amount ≡ mine.old.out.amount) }
+        ensures told { IfErr result (λ _. 0 < mine.new.told.amount) }
     {
         let Shared { desk, out, told } = self;
         match desk.next(rt) {
-            DeskNext::Conn(handed) => {
+            Ok(handed) => {
                 out.add(&mut mine.out, 1);
-                DeskNext::Conn(handed)
+                Ok(handed)
             }
-            DeskNext::Closed(closing) => {
+            Err(closing) => {
                 told.add(&mut mine.told, 1);
-                DeskNext::Closed(closing)
+                Err(closing)
             }
         }
     }
@@ -230,9 +180,9 @@ impl<N: Making, L: Ledger, F: Files, A: Doors, E: Sink> Shared<N, L, F, A, E> {
     }
 
     /// Takes a connection back.
-    fn part(&mut self, mine: &mut Shares<N, L>, parted: Parted<A::In, A::Out, A::Dial, A::Time>)
+    fn part(&mut self, mine: &mut Shares<N, L>, parted: Parted<A::Conn>)
         requires out { IsOut (record { number = parted.number; handed = parted.handed }) self.old.desk.out }
-        requires served { IsConnServed N.made.doors.tells N.made.doors.conns self.old.desk.list (parted_as A.In.state A.Out.state A.Dial.state A.Time.state parted) }
+        requires served { IsConnServed N.made.doors.tells N.made.doors.conns self.old.desk.list parted }
         requires one { 0 < mine.old.out.amount }
         ensures amount { mine.new.out.amount + 1 ≡ mine.old.out.amount }
     {
@@ -268,24 +218,22 @@ fn take<N: Making, L: Ledger, F: Files, A: Doors, E: Sink, R: Wait>(
     shared: &Mutex<Shared<N, L, F, A, E>>,
     mine: &mut Shares<N, L>,
     reader: &mut ConfigReader<Config>,
-) -> Option<Task<A::In, A::Out, A::Dial, A::Time>>
+) -> Option<Task<A::Conn>>
     requires pair { reader_pair reader.old ≡ N.made.pair }
     ensures pair { reader_pair reader.new ≡ N.made.pair }
     ensures on { GoesOn (seen_by reader.old) (seen_by reader.new) }
     ensures counted { IfSome result (λ _. mine.new.out.amount ≡ mine.old.out.amount + 1) }
     ensures closed { IfNone result (mine.new.out.amount ≡ mine.old.out.amount) }
     ensures told { IfNone result (0 < mine.new.told.amount) }
-    ensures nth { IfSome result (λ task. IsNth N.made.doors.tells N.made.doors.conns task.number (conn_as A.In.state A.Out.state A.Dial.state A.Time.state task.conn)) }
+    ensures nth { IfSome result (λ task. IsNth N.made.doors.tells N.made.doors.conns task.number task.ends) }
     ensures learnt { IfSome result (λ task. task.handed < length (seen_by reader.new)) }
 {
     let mut desk = shared.lock(rt);
     let next = desk.next(rt, mine);
     MutexGuard::unlock(desk);
     match next {
-        DeskNext::Conn(handed) => Some(task_of::<N, A::In, A::Out, A::Dial, A::Time>(
-            reader, handed,
-        )),
-        DeskNext::Closed(_closing) => None,
+        Ok(handed) => Some(task_of::<N, A::Conn>(reader, handed)),
+        Err(_closing) => None,
     }
 }
 
@@ -295,10 +243,10 @@ fn give_back<N: Making, L: Ledger, F: Files, A: Doors, E: Sink, R: Wait>(
     shared: &Mutex<Shared<N, L, F, A, E>>,
     mine: &mut Shares<N, L>,
     reader: &ConfigReader<Config>,
-    parted: Parted<A::In, A::Out, A::Dial, A::Time>,
+    parted: Parted<A::Conn>,
 )
     requires pair { reader_pair reader.now ≡ N.made.pair }
-    requires served { IsConnServed N.made.doors.tells N.made.doors.conns (seen_by reader.now) (parted_as A.In.state A.Out.state A.Dial.state A.Time.state parted) }
+    requires served { IsConnServed N.made.doors.tells N.made.doors.conns (seen_by reader.now) parted }
     requires one { 0 < mine.old.out.amount }
     ensures amount { mine.new.out.amount + 1 ≡ mine.old.out.amount }
 {
@@ -316,11 +264,11 @@ fn give_back<N: Making, L: Ledger, F: Files, A: Doors, E: Sink, R: Wait>(
 
 /// Lets go of what a connection that was served holds of the system: its client's socket, and the links that its dialer keeps. It
 /// is done before the desk is asked for, which a worker may hold while it waits for the next client.
-fn let_go<A: Doors>(parted: &mut Parted<A::In, A::Out, A::Dial, A::Time>)
-    ensures same { parted_as A.In.state A.Out.state A.Dial.state A.Time.state parted.new ≡ parted_as A.In.state A.Out.state A.Dial.state A.Time.state parted.old }
+fn let_go<A: Doors>(parted: &mut Parted<A::Conn>)
+    ensures same { parted.new ≡ parted.old }
 {
-    A::leave(&mut parted.conn.client_in, &mut parted.conn.client_out);
-    A::rest(&mut parted.conn.dialer);
+    A::leave(&mut parted.ends.client.source, &mut parted.ends.client_out);
+    A::rest(&mut parted.ends.dialer);
 }
 
 /// Serves connections with one store, as long as they are handed out with its entry. Gives the first that isn't, if one comes.
@@ -331,29 +279,23 @@ fn serve_while_stored<N: Making, L: Ledger, F: Files, A: Doors, E: Sink, R: Thre
     mine: &mut Shares<N, L>,
     reader: &mut ConfigReader<Config>,
     store: &mut Store<'_>,
-    task: Task<A::In, A::Out, A::Dial, A::Time>,
-) -> Option<Task<A::In, A::Out, A::Dial, A::Time>>
+    task: Task<A::Conn>,
+) -> Option<Task<A::Conn>>
     requires one { mine.old.out.amount ≡ 1 }
     requires pair { reader_pair reader.old ≡ N.made.pair }
     requires stored { IsStored (seen_by reader.old) store.old }
-    requires nth { IsNth N.made.doors.tells N.made.doors.conns task.number (conn_as A.In.state A.Out.state A.Dial.state A.Time.state task.conn) }
+    requires nth { IsNth N.made.doors.tells N.made.doors.conns task.number task.ends }
     requires learnt { task.handed < length (seen_by reader.old) }
     ensures pair { reader_pair reader.new ≡ N.made.pair }
     ensures counted { IfSome result (λ _. mine.new.out.amount ≡ 1) }
     ensures closed { IfNone result (mine.new.out.amount ≡ 0) }
     ensures told { IfNone result (0 < mine.new.told.amount) }
-    ensures nth { IfSome result (λ task. IsNth N.made.doors.tells N.made.doors.conns task.number (conn_as A.In.state A.Out.state A.Dial.state A.Time.state task.conn)) }
+    ensures nth { IfSome result (λ task. IsNth N.made.doors.tells N.made.doors.conns task.number task.ends) }
     ensures learnt { IfSome result (λ task. task.handed < length (seen_by reader.new)) }
 {
     let mut task = task;
     'same: for _ in rt.forever() {
-        let mut parted = served::<N, R, A::In, A::Out, A::Dial, A::Time>(
-            alloc,
-            &Way::AtOnce(rt),
-            store,
-            reader,
-            task,
-        );
+        let mut parted = served::<N, R, A::Conn>(alloc, &Way::AtOnce(rt), store, reader, task);
         let_go::<A>(&mut parted);
         give_back(rt, shared, mine, reader, parted);
         match take(rt, shared, mine, reader) {
@@ -377,17 +319,17 @@ fn serve_entry<N: Making, L: Ledger, F: Files, A: Doors, E: Sink, R: Threads + W
     shared: &Mutex<Shared<N, L, F, A, E>>,
     mine: &mut Shares<N, L>,
     reader: &mut ConfigReader<Config>,
-    task: Task<A::In, A::Out, A::Dial, A::Time>,
-) -> Option<Task<A::In, A::Out, A::Dial, A::Time>>
+    task: Task<A::Conn>,
+) -> Option<Task<A::Conn>>
     requires one { mine.old.out.amount ≡ 1 }
     requires pair { reader_pair reader.old ≡ N.made.pair }
-    requires nth { IsNth N.made.doors.tells N.made.doors.conns task.number (conn_as A.In.state A.Out.state A.Dial.state A.Time.state task.conn) }
+    requires nth { IsNth N.made.doors.tells N.made.doors.conns task.number task.ends }
     requires learnt { task.handed < length (seen_by reader.old) }
     ensures pair { reader_pair reader.new ≡ N.made.pair }
     ensures counted { IfSome result (λ _. mine.new.out.amount ≡ 1) }
     ensures closed { IfNone result (mine.new.out.amount ≡ 0) }
     ensures told { IfNone result (0 < mine.new.told.amount) }
-    ensures nth { IfSome result (λ task. IsNth N.made.doors.tells N.made.doors.conns task.number (conn_as A.In.state A.Out.state A.Dial.state A.Time.state task.conn)) }
+    ensures nth { IfSome result (λ task. IsNth N.made.doors.tells N.made.doors.conns task.number task.ends) }
     ensures learnt { IfSome result (λ task. task.handed < length (seen_by reader.new)) }
 {
     let number = reader.current().number;
@@ -514,7 +456,7 @@ fn work_all<
         workers,
         threads,
         &|_, worker: &mut Worker<N, L>|
-            requires { IsSend F.row × IsSend A.row × IsSend E.row × IsSend A.In.row × IsSend A.Out.row × IsSend A.Dial.row × IsSend A.Time.row × IsSend A.Dial.In.row × IsSend A.Dial.Out.row }
+            requires { IsSend F.row × IsSend A.row × IsSend E.row × IsSend A.Conn.In.row × IsSend A.Conn.Out.row × IsSend A.Conn.Dial.row × IsSend A.Conn.Time.row × IsSend A.Conn.Dial.In.row × IsSend A.Conn.Dial.Out.row }
             ensures { 0 < worker.exit.now.mine.told.amount }
         { work(rt, *alloc, shared, worker) },
     );
@@ -572,7 +514,6 @@ fn serve_named<
     requires name_told { told.name ≡ L.name }
     requires parts_told { told.parts ≡ L.parts }
     requires count_told { told.parts ≡ vec_len readers }
-    requires open { desk.closing ≡ None }
     requires made { made_of F.state A.state E.state desk ≡ N.made }
     requires pair { All (λ r. reader_pair r ≡ desk.pair) readers.items }
     requires none_out { desk.out ≡ [] }
@@ -596,7 +537,7 @@ fn serve_named<
     }
 }
 
-/// Serves the connections of a desk that has none out and isn't closed, by one worker for each reader, which serves until the desk
+/// Serves the connections of a desk that has none out, by one worker for each reader, which serves until the desk
 /// says that no more come. Afterwards each was parted once. Where the desk didn't close, memory was wanting for the workers, and the
 /// doors are as they were. It may wait.
 pub fn serve_all<F: Files, A: Doors, E: Sink, R: Threads + Wait + Sync>(
@@ -607,7 +548,6 @@ pub fn serve_all<F: Files, A: Doors, E: Sink, R: Threads + Wait + Sync>(
 ) -> ServedDesk<F, A, E>
     requires pair { All (λ r. reader_pair r ≡ desk.pair) readers.items }
     requires none_out { desk.out ≡ [] }
-    requires open { desk.closing ≡ None }
     requires some { 0 < vec_len readers }
     ensures stands { StandsAfter (made_of F.state A.state E.state desk) (F.state result.parts.files) (A.state result.parts.doors) (E.state result.parts.err) result.counts }
     ensures closes { IsClosed (A.state desk.made_doors) desk.most (A.state result.parts.doors) result.closing }

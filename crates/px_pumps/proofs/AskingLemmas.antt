@@ -12,8 +12,8 @@ use Rattle.px_config.specs.declared.configs.Config.{Config}
 use Rattle.px_headers.specs.Kinds.{is_text}
 use Rattle.px_headers.specs.ServerRows.{server_out}
 use Rattle.px_headers.specs.declared.server.ServerOut.{ServerOut}
+use Rattle.px_notes.specs.declared.asked.Asked.{Asked}
 use Rattle.px_answers.specs.Framings as answers
-use Rattle.px_answers.specs.declared.asked.Asked.{Asked}
 use Rattle.px_answers.specs.declared.forms.Framed.{Framed}
 use Rattle.px_answers.specs.declared.framings.BodyPlan.{BodyPlan}
 use Rattle.px_answers.specs.declared.framings.HeaderLines.{HeaderLines}

@@ -1,14 +1,13 @@
 -- What a step of a talk that ends it says of the whole talk.
-use Rattle.std.proofs.Common.{rules, ◌≡◌, List, [], ◌∙◌, sym, subst, refl}
+use Rattle.std.proofs.Common.{rules, ◌≡◌, [], ◌∙◌, sym, subst, refl}
 use Rattle.std.proofs.lemmas.List.{append-nil}
 use Rattle.px_base.specs.Causes.{Rose}
 use Rattle.px_base.specs.Sources.{SourceState, SourceGoesOn}
 use Rattle.px_base.specs.Sinks.{SinkState, SinkGoesOn}
 use Rattle.px_base.specs.declared.faults.SinkFault.{SinkFault}
 use Rattle.px_base.specs.declared.faults.SinkFault.TheVariants as fault
-use Rattle.px_config.specs.declared.warm.Warm.{Warm}
-use Rattle.px_pumps.specs.declared.notes.After.{After}
-use Rattle.px_pumps.specs.declared.notes.After.TheVariants as after
+use Rattle.px_notes.specs.declared.endings.After.{After}
+use Rattle.px_notes.specs.declared.endings.After.TheVariants as after
 use Rattle.px_pumps.specs.declared.talks.Talked.{Talked}
 use Rattle.px_pumps.specs.declared.talks.Talked.TheVariants as talked
 use Rattle.px_pumps.specs.Answering.{Ask}
@@ -35,31 +34,24 @@ refused_cause o p fault.Failed h = h
 refused_cause o p fault.Mem h = h
 
 -- a step that ends a talk, behind those before it
-pub heard_out : (first : Pumping) (i0 i i' : SourceState) (o0 o o' : SinkState) (w0 w w' : Warm) (p : Pumping) (t : Talked) → Flowing first i0 i o0 o w0 w p
-    → ((ask : Ask) → PumpAfter ask [] [] first → Hears ask i0 i' o0 o' t) → TalkCause o o' t → IsHeard t → o'.finished ≡ o.finished → SourceGoesOn i i' → SinkGoesOn o o'
-    → w'.sections ≡ w.sections → w'.filters ≡ w.filters → HeardOut first i0 i' o0 o' w0 w' t
-heard_out first i0 i i' o0 o o' w0 w w' p t f hears cause heard open_ goes_in goes_out sections filters = record {
+pub heard_out : (first : Pumping) (i0 i i' : SourceState) (o0 o o' : SinkState) (p : Pumping) (t : Talked) → Flowing first i0 i o0 o p
+    → ((ask : Ask) → PumpAfter ask [] [] first → Hears ask i0 i' o0 o' t) → TalkCause o o' t → IsHeard t → o'.finished ≡ o.finished → SourceGoesOn i i' → SinkGoesOn o o' → HeardOut first i0 i' o0 o' t
+heard_out first i0 i i' o0 o o' p t f hears cause heard open_ goes_in goes_out = record {
   hears = hears;
   cause = talk_cause o0 o o' t f.out_faults_same cause;
   heard = heard;
   open_ = open_ ∙ f.open_;
   in_goes_on = in_goes_on f.in_goes_on goes_in;
   out_goes_on = out_goes_on f.out_goes_on goes_out;
-  sections_same = sections ∙ f.sections_same;
-  filters_same = filters ∙ f.filters_same;
 }
 
 -- before the first step
-pub flowing_first : (p : Pumping) (i : SourceState) (o : SinkState) (w : Warm) → w.sections ≡ p.config.sections → w.filters ≡ p.config.filters → Flowing p i i o o w w p
-flowing_first p i o w sections filters = record {
+pub flowing_first : (p : Pumping) (i : SourceState) (o : SinkState) → Flowing p i i o o p
+flowing_first p i o = record {
   flows = λ ask h t u. record { fed = []; put = []; read = refl; written = sym (append-nil o.taken); after = h };
   in_faults_same = refl;
   out_faults_same = refl;
   open_ = refl;
   in_goes_on = search rules;
   out_goes_on = search rules;
-  sections_same = refl;
-  filters_same = refl;
-  sections_lent = sections;
-  filters_lent = filters;
 }

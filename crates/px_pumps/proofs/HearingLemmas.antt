@@ -4,22 +4,23 @@ use Rattle.std.proofs.lemmas.Grind.{common_steps}
 use Rattle.std.proofs.lemmas.List.{append-nil, take-take}
 use Rattle.std.proofs.Math.Seq.{take-append-add}
 use Rattle.px_base.specs.Sources.{SourceState, SourceGoesOn}
-use Rattle.px_base.specs.Sinks.{SinkState, SinkGoesOn, AddsFront}
+use Rattle.px_base.specs.Sinks.{SinkState, SinkGoesOn, AddsFront, AddsProperFront}
 use Rattle.px_base.specs.declared.faults.SinkFault.{SinkFault}
 use Rattle.px_base.specs.declared.faults.SinkFault.TheVariants as fault
+use Rattle.px_notes.specs.declared.endings.After.TheVariants as after
+use Rattle.px_notes.specs.Endings.{broken}
 use Rattle.px_pumps.specs.declared.flows.Flow.{Flow}
 use Rattle.px_pumps.specs.declared.flows.Flow.TheVariants as flow
 use Rattle.px_pumps.specs.declared.talks.Talked.{Talked}
 use Rattle.px_pumps.specs.declared.talks.Talked.TheVariants as talked
-use Rattle.px_pumps.specs.declared.notes.After.TheVariants as after
 use Rattle.px_pumps.specs.Answering.{Ask, Answered, due_of}
 use Rattle.px_pumps.specs.Pumps.{Pumping, PumpAfter, EndsAnswer, DueSoFar, SoFar, keeps_at, EndsTalk}
-use Rattle.px_pumps.specs.Returning.{AddsPrefix, HasDue, broken}
+use Rattle.px_pumps.specs.Returning.{HasDue}
 use Rattle.px_pumps.specs.Hearing.{AnswerGives, HearsStream, FedOn, CutOff, NoMore, Stopped, Flows, talk_refused}
 
--- a proper prefix is a prefix
-front_prefix : (old new bytes : List ℕ) → AddsFront old new bytes → AddsPrefix old new bytes
-front_prefix old new bytes a = record { count = a.0; within = omega (arith, a.1); added = a.2 }
+-- a proper front is a front
+proper_is_front : (old new bytes : List ℕ) → AddsProperFront old new bytes → AddsFront old new bytes
+proper_is_front old new bytes a = (a.0, omega (arith, a.1), a.2)
 
 -- a front of a front
 front_take : (bytes xs : List ℕ) (k : ℕ) → k < length xs → take (length xs) bytes ≡ xs → (k < length bytes) × (take k xs ≡ take k bytes)
@@ -29,7 +30,7 @@ front_take bytes xs k h t =
     (omega (arith, h, whole, long), ap (λ (zs : List ℕ). take k zs) (sym t) ∙ take-take k (length xs) bytes (omega (arith, h)))
 
 -- a write was refused
-pub cut_front : (ask : Ask) (bytes : List ℕ) (failed : Bool) (put more start taken taken' : List ℕ) → ((put ++ more ≡ []) ⊎ DueSoFar ask bytes failed (put ++ more)) → AddsFront taken taken' more → taken ≡ start ++ put → HasDue (Answered ask bytes failed) (λ d. AddsFront start taken' d.bytes)
+pub cut_front : (ask : Ask) (bytes : List ℕ) (failed : Bool) (put more start taken taken' : List ℕ) → ((put ++ more ≡ []) ⊎ DueSoFar ask bytes failed (put ++ more)) → AddsProperFront taken taken' more → taken ≡ start ++ put → HasDue (Answered ask bytes failed) (λ d. AddsProperFront start taken' d.bytes)
 cut_front ask bytes failed put more start taken taken' (inl e) a w = absurd (omega (arith, ap (λ (zs : List ℕ). length zs) e, length-append put more, a.1))
 cut_front ask bytes failed put more start taken taken' (inr r) a w =
     let n = length put + a.0 in
@@ -38,11 +39,11 @@ cut_front ask bytes failed put more start taken taken' (inr r) a w =
     record { due = r.due; is_due = r.answered; is_so = (n, f.0, a.2 ∙ ap (λ (zs : List ℕ). zs ++ take a.0 more) w ∙ append_assoc start put (take a.0 more) ∙ ap (λ (zs : List ℕ). start ++ zs) same) }
 
 -- a write was refused, for that cause
-pub refused_gives : (ask : Ask) (bytes : List ℕ) (failed : Bool) (start taken' : List ℕ) (e : SinkFault) → HasDue (Answered ask bytes failed) (λ d. AddsFront start taken' d.bytes) → AnswerGives ask bytes failed start taken' (talk_refused e)
+pub refused_gives : (ask : Ask) (bytes : List ℕ) (failed : Bool) (start taken' : List ℕ) (e : SinkFault) → HasDue (Answered ask bytes failed) (λ d. AddsProperFront start taken' d.bytes) → AnswerGives ask bytes failed start taken' (talk_refused e)
 refused_gives ask bytes failed start taken' fault.Failed h = inl (record { due = h.due; is_due = h.is_due; is_so = inr (h.is_so, refl) })
 refused_gives ask bytes failed start taken' fault.Mem h = inr (record {
   wanting = refl;
-  returned = inr (record { due = h.due; is_due = h.is_due; is_so = front_prefix start taken' h.due.bytes h.is_so });
+  returned = inr (record { due = h.due; is_due = h.is_due; is_so = proper_is_front start taken' h.due.bytes h.is_so });
 })
 
 -- memory was wanting behind what was put out
@@ -52,7 +53,7 @@ so_far_wants ask bytes failed put start taken (inl e) w = inr (record { wanting 
 so_far_wants ask bytes failed put start taken (inr r) w =
     let whole : length (take (length put) r.due.bytes) ≡ length put = ap (λ (zs : List ℕ). length zs) r.front in
     let long : length (take (length put) r.due.bytes) ≤ length r.due.bytes = grind (arith, common_steps) in
-    let some : AddsPrefix start taken r.due.bytes = record { count = length put; within = omega (arith, whole, long); added = w ∙ ap (λ (zs : List ℕ). start ++ zs) (sym r.front) } in
+    let some : AddsFront start taken r.due.bytes = (length put, omega (arith, whole, long), w ∙ ap (λ (zs : List ℕ). start ++ zs) (sym r.front)) in
     inr (record { wanting = refl; returned = inr (record { due = r.due; is_due = r.answered; is_so = some }) })
 
 at_rest : (ask : Ask) (fed put rest : List ℕ) (failed : Bool) → SoFar ask fed put → (put ≡ []) ⊎ DueSoFar ask (fed ++ rest) failed put
@@ -99,7 +100,7 @@ read_more : (ask : Ask) (l l1 l2 t t1 piece : List ℕ) (s : Pumping) (h : Flows
 read_more ask l l1 l2 t t1 piece s h e = sym (h.read ∙ ap (λ (zs : List ℕ). h.fed ++ zs) e ∙ sym (append_assoc h.fed piece l2))
 
 -- a write was refused
-cut_off : (ask : Ask) (fed put start taken taken' rest : List ℕ) → CutOff ask fed put taken taken' → taken ≡ start ++ put → HasDue (Answered ask (fed ++ rest) false) (λ d. AddsFront start taken' d.bytes)
+cut_off : (ask : Ask) (fed put start taken taken' rest : List ℕ) → CutOff ask fed put taken taken' → taken ≡ start ++ put → HasDue (Answered ask (fed ++ rest) false) (λ d. AddsProperFront start taken' d.bytes)
 cut_off ask fed put start taken taken' rest c w = cut_front ask (fed ++ rest) false put c.more start taken taken' (at_rest ask fed (put ++ c.more) rest false c.so_far) c.front w
 
 -- nothing came out

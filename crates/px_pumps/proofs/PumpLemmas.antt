@@ -12,6 +12,9 @@ use Rattle.px_templates.specs.declared.pages.Page.TheVariants as page
 use Rattle.px_subst.specs.declared.words.Vars.{Vars}
 use Rattle.px_filter_files.specs.FilterFiles.{FiltersOfFiles}
 use Rattle.px_config.specs.declared.configs.Config.{Config}
+use Rattle.px_notes.specs.declared.endings.Ending.{Ending}
+use Rattle.px_notes.specs.declared.endings.Ending.TheVariants as ending
+use Rattle.px_notes.specs.declared.asked.Asked.{Asked}
 use Rattle.px_answers.specs.Finished.{Work, finished, returned_so_far}
 use Rattle.px_answers.specs.Forms.{body_of, is_more}
 use Rattle.px_answers.specs.Passages as passages
@@ -23,11 +26,8 @@ use Rattle.px_answers.specs.declared.forms.AnswerOutcome.{AnswerOutcome}
 use Rattle.px_answers.specs.declared.forms.Returned.{Returned}
 use Rattle.px_answers.specs.declared.forms.Returned.TheVariants as returned
 use Rattle.px_pumps.specs.declared.dues.Due.{Due}
-use Rattle.px_pumps.specs.declared.notes.Ending.{Ending}
-use Rattle.px_pumps.specs.declared.notes.Ending.TheVariants as ending
 use Rattle.px_pumps.specs.declared.flows.Flow.{Flow}
 use Rattle.px_pumps.specs.declared.flows.Flow.TheVariants as flow
-use Rattle.px_answers.specs.declared.asked.Asked.{Asked}
 use Rattle.px_pumps.specs.declared.pumps.UnfinishedHead.{UnfinishedHead}
 use Rattle.px_pumps.specs.declared.pumps.PumpStage.{PumpStage}
 use Rattle.px_pumps.specs.declared.pumps.PumpStage.TheVariants as stage

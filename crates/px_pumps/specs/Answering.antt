@@ -11,16 +11,15 @@ use Rattle.px_framing.specs.declared.rules.BodyRule.{BodyRule}
 use Rattle.px_framing.specs.declared.rules.BodyFault.{BodyFault}
 use Rattle.px_templates.specs.declared.pages.Page.{Page}
 use Rattle.px_templates.specs.declared.pages.Page.TheVariants as page
+use Rattle.px_notes.specs.declared.endings.Ending.{Ending}
+use Rattle.px_notes.specs.declared.endings.Ending.TheVariants as ending
+use Rattle.px_notes.specs.Endings.{after_whole}
 use Rattle.px_answers.specs.Finished as answers
 use Rattle.px_answers.specs.Finished.{Work, finished}
 use Rattle.px_answers.specs.Forms.{body_of}
 use Rattle.px_answers.specs.declared.forms.Framed.{Framed}
 use Rattle.px_answers.specs.declared.forms.Returned.{Returned}
 use Rattle.px_answers.specs.declared.forms.Returned.TheVariants as returned
-use Rattle.px_pumps.specs.declared.notes.Ending.{Ending}
-use Rattle.px_pumps.specs.declared.notes.Ending.TheVariants as ending
-use Rattle.px_pumps.specs.declared.notes.After.{After}
-use Rattle.px_pumps.specs.declared.notes.After.TheVariants as after
 use Rattle.px_pumps.specs.declared.dues.Due.{Due}
 
 -- what an answer becomes depends on this alone, beside the answer: the request's method, what a head with its body's rule
@@ -30,10 +29,6 @@ pub record Ask : Type 0 where
   pub framed : ResponseHead → BodyRule → Framed
   pub work : Work
   pub page_due : Page → Due
-
--- what comes after a reply that is returned whole
-abbrev pub after_whole : Bool → After
-after_whole keep = if keep then after.Keep else after.Close
 
 -- the ending of an answer that is returned so
 abbrev pub returned_ending : Returned → Ending

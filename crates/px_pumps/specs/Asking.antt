@@ -16,11 +16,11 @@ use Rattle.px_taggers.specs.Tagging.{tag_headers}
 use Rattle.px_headers.specs.Kinds.{is_text}
 use Rattle.px_headers.specs.ServerRows.{server_out}
 use Rattle.px_headers.specs.declared.server.ServerOut.{ServerOut}
+use Rattle.px_notes.specs.declared.asked.Asked.{Asked}
 use Rattle.px_answers.specs.Framings as answers
 use Rattle.px_answers.specs.declared.forms.Framed.{Framed}
 use Rattle.px_answers.specs.declared.framings.Terms.{Terms}
 use Rattle.px_answers.specs.declared.framings.HeaderLines.{HeaderLines}
-use Rattle.px_answers.specs.declared.asked.Asked.{Asked}
 use Rattle.px_pumps.specs.declared.dues.Due.{Due}
 use Rattle.px_pumps.specs.Answering.{Ask}
 

@@ -2,18 +2,18 @@
 use Rattle.std.specs.Prelude.{◌≡◌, ℕ, Bool, ◌⊎◌, IsTrue, List, [], ◌++◌, MatchBool, Result, MatchResult}
 use Rattle.px_base.specs.Causes.{Rose}
 use Rattle.px_base.specs.Sources.{SourceState, SourceGoesOn}
-use Rattle.px_base.specs.Sinks.{SinkState, SinkGoesOn, AddsFront}
+use Rattle.px_base.specs.Sinks.{SinkState, SinkGoesOn, AddsProperFront}
 use Rattle.px_base.specs.declared.faults.SinkFault.{SinkFault}
 use Rattle.px_base.specs.declared.faults.SinkFault.TheVariants as fault
 use Rattle.px_streams.specs.Streams.{IsStream}
-use Rattle.px_config.specs.declared.warm.Warm.{Warm}
+use Rattle.px_notes.specs.declared.endings.After.TheVariants as after
+use Rattle.px_notes.specs.Endings.{broken}
 use Rattle.px_pumps.specs.declared.flows.Flow.{Flow}
-use Rattle.px_pumps.specs.declared.notes.After.TheVariants as after
 use Rattle.px_pumps.specs.declared.talks.Talked.{Talked}
 use Rattle.px_pumps.specs.declared.talks.Talked.TheVariants as talked
 use Rattle.px_pumps.specs.Answering.{Ask, Answered}
 use Rattle.px_pumps.specs.Pumps.{Pumping, PumpAfter, Pumped, SoFar, keeps_at}
-use Rattle.px_pumps.specs.Returning.{TalkCause, TalkGives, IsHeard, broken}
+use Rattle.px_pumps.specs.Returning.{TalkCause, TalkGives, IsHeard}
 
 -- what came of a talk by which that answer is returned
 abbrev pub AnswerGives : Ask → List ℕ → Bool → List ℕ → List ℕ → Talked → Type 0
@@ -38,10 +38,10 @@ pub record FedOn (ask : Ask) (fed put taken taken' : List ℕ) (f : Flow) (p : P
   pub after : PumpAfter ask fed (put ++ more) p
   pub pumped : Pumped ask fed (put ++ more) f (keeps_at p.stage)
 
--- a write was refused: a proper prefix of what came out was written
+-- a write was refused: a proper front of what came out was written
 pub record CutOff (ask : Ask) (fed put taken taken' : List ℕ) : Type 0 where
   pub more : List ℕ
-  pub front : AddsFront taken taken' more
+  pub front : AddsProperFront taken taken' more
   pub so_far : SoFar ask fed (put ++ more)
 
 -- nothing came out, for want of memory
@@ -75,36 +75,30 @@ pub record Flows (ask : Ask) (left left' taken taken' : List ℕ) (p : Pumping) 
   pub written : taken' ≡ taken ++ put
   pub after : PumpAfter ask fed put p
 
--- what the loop of the answering part keeps, that began at a pump that was fed nothing; w is the store lent
-pub record Flowing (first : Pumping) (i i' : SourceState) (o o' : SinkState) (w w' : Warm) (p : Pumping) : Type 0 where
+-- what the loop of the answering part keeps, that began at a pump that was fed nothing
+pub record Flowing (first : Pumping) (i i' : SourceState) (o o' : SinkState) (p : Pumping) : Type 0 where
   pub flows : (ask : Ask) → PumpAfter ask [] [] first → IsTrue i.tells → IsTrue o.tells → Flows ask i.left i'.left o.taken o'.taken p
   pub in_faults_same : i'.faults ≡ i.faults
   pub out_faults_same : o'.faults ≡ o.faults
   pub open_ : o'.finished ≡ o.finished
   pub in_goes_on : SourceGoesOn i i'
   pub out_goes_on : SinkGoesOn o o'
-  pub sections_same : w'.sections ≡ w.sections
-  pub filters_same : w'.filters ≡ w.filters
-  pub sections_lent : w'.sections ≡ p.config.sections
-  pub filters_lent : w'.filters ≡ p.config.filters
 
--- what came of the whole talk, that began at a pump that was fed nothing; w is the store lent
-pub record HeardOut (first : Pumping) (i i' : SourceState) (o o' : SinkState) (w w' : Warm) (t : Talked) : Type 0 where
+-- what came of the whole talk, that began at a pump that was fed nothing
+pub record HeardOut (first : Pumping) (i i' : SourceState) (o o' : SinkState) (t : Talked) : Type 0 where
   pub hears : (ask : Ask) → PumpAfter ask [] [] first → Hears ask i i' o o' t
   pub cause : TalkCause o o' t
   pub heard : IsHeard t
   pub open_ : o'.finished ≡ o.finished
   pub in_goes_on : SourceGoesOn i i'
   pub out_goes_on : SinkGoesOn o o'
-  pub sections_same : w'.sections ≡ w.sections
-  pub filters_same : w'.filters ≡ w.filters
 
 -- a step of a talk that leads on from wherever it stands
-abbrev pub TalkGoesOn : SourceState → SourceState → SinkState → SinkState → Warm → Warm → Pumping → Pumping → Type 0
-TalkGoesOn i i' o o' w w' p p' =
-    (first : Pumping) (i0 : SourceState) (o0 : SinkState) (w0 : Warm) → Flowing first i0 i o0 o w0 w p → Flowing first i0 i' o0 o' w0 w' p'
+abbrev pub TalkGoesOn : SourceState → SourceState → SinkState → SinkState → Pumping → Pumping → Type 0
+TalkGoesOn i i' o o' p p' =
+    (first : Pumping) (i0 : SourceState) (o0 : SinkState) → Flowing first i0 i o0 o p → Flowing first i0 i' o0 o' p'
 
 -- a step of a talk that ends it, wherever it stands
-abbrev pub EndsHere : SourceState → SourceState → SinkState → SinkState → Warm → Warm → Pumping → Talked → Type 0
-EndsHere i i' o o' w w' p t =
-    (first : Pumping) (i0 : SourceState) (o0 : SinkState) (w0 : Warm) → Flowing first i0 i o0 o w0 w p → HeardOut first i0 i' o0 o' w0 w' t
+abbrev pub EndsHere : SourceState → SourceState → SinkState → SinkState → Pumping → Talked → Type 0
+EndsHere i i' o o' p t =
+    (first : Pumping) (i0 : SourceState) (o0 : SinkState) → Flowing first i0 i o0 o p → HeardOut first i0 i' o0 o' t

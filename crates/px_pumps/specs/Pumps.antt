@@ -9,6 +9,9 @@ use Rattle.px_framing.specs.declared.places.State.TheVariants as state
 use Rattle.px_templates.specs.declared.pages.Page.{Page}
 use Rattle.px_templates.specs.declared.pages.Page.TheVariants as page
 use Rattle.px_config.specs.declared.configs.Config.{Config}
+use Rattle.px_notes.specs.declared.endings.Ending.{Ending}
+use Rattle.px_notes.specs.declared.endings.Ending.TheVariants as ending
+use Rattle.px_notes.specs.Endings.{after_whole}
 use Rattle.px_answers.specs.Finished as answers
 use Rattle.px_answers.specs.Finished.{Work, finished, returned_so_far}
 use Rattle.px_answers.specs.Forms.{body_of, is_more}
@@ -18,8 +21,6 @@ use Rattle.px_answers.specs.declared.forms.Framed.{Framed}
 use Rattle.px_answers.specs.declared.forms.Returned.{Returned}
 use Rattle.px_answers.specs.declared.forms.AnswerOutcome.{AnswerOutcome}
 use Rattle.px_answers.specs.declared.courses.Course.{Course}
-use Rattle.px_pumps.specs.declared.notes.Ending.{Ending}
-use Rattle.px_pumps.specs.declared.notes.Ending.TheVariants as ending
 use Rattle.px_pumps.specs.declared.dues.Due.{Due}
 use Rattle.px_pumps.specs.declared.flows.Flow.{Flow}
 use Rattle.px_pumps.specs.declared.flows.Flow.TheVariants as flow
@@ -30,7 +31,7 @@ use Rattle.px_pumps.specs.declared.pumps.PumpStage.{PumpStage}
 use Rattle.px_pumps.specs.declared.pumps.PumpStage.TheVariants as stage
 use Rattle.px_pumps.specs.declared.talks.Talked.{Talked}
 use Rattle.px_pumps.specs.declared.talks.Talked.TheVariants as talked
-use Rattle.px_pumps.specs.Answering.{Ask, Seen, Waiting, Bad, Good, Answered, most_heads, after_whole, returned_ending, due_of}
+use Rattle.px_pumps.specs.Answering.{Ask, Seen, Waiting, Bad, Good, Answered, most_heads, returned_ending, due_of}
 use Rattle.px_pumps.specs.Asking.{ask_of}
 use Rattle.px_pumps.specs.Heads.{ShowsOnly, LeadsPastInterims, IsWaiting, heads_room}
 use Rattle.px_pumps.specs.Returning.{IsAnswerPage}

@@ -1,35 +1,26 @@
 -- Returning: what the client's sink took of what is due, and what comes after.
-use Rattle.std.specs.Prelude.{◌≡◌, ℕ, ◌≤◌, ◌⊎◌, List, ◌++◌, length, take}
+use Rattle.std.specs.Prelude.{◌≡◌, ℕ, ◌⊎◌, List, ◌++◌}
 use Rattle.px_base.specs.Causes.{Rose}
-use Rattle.px_base.specs.Sinks.{SinkState, AddsFront}
+use Rattle.px_base.specs.Sinks.{SinkState, AddsFront, AddsProperFront}
 use Rattle.px_templates.specs.declared.pages.Page.{Page}
 use Rattle.px_templates.specs.declared.pages.Page.TheVariants as page
+use Rattle.px_notes.specs.declared.endings.Ending.{Ending}
+use Rattle.px_notes.specs.declared.endings.Ending.TheVariants as ending
+use Rattle.px_notes.specs.declared.endings.After.{After}
+use Rattle.px_notes.specs.declared.endings.After.TheVariants as after
+use Rattle.px_notes.specs.declared.endings.Conclusion.{Conclusion}
+use Rattle.px_notes.specs.Endings.{IsAnswerAfter, broken}
 use Rattle.px_pumps.specs.declared.dues.Due.{Due}
-use Rattle.px_pumps.specs.declared.notes.Ending.{Ending}
-use Rattle.px_pumps.specs.declared.notes.Ending.TheVariants as ending
-use Rattle.px_pumps.specs.declared.notes.After.{After}
-use Rattle.px_pumps.specs.declared.notes.After.TheVariants as after
-use Rattle.px_pumps.specs.declared.notes.Conclusion.{Conclusion}
 use Rattle.px_pumps.specs.declared.talks.Talked.{Talked}
 use Rattle.px_pumps.specs.declared.talks.Talked.TheVariants as talked
-
--- a prefix of the bytes was added
-pub record AddsPrefix (old new bytes : List ℕ) : Type 0 where
-  pub count : ℕ
-  pub within : count ≤ length bytes
-  pub added : new ≡ old ++ take count bytes
-
--- not all that was due was returned, and that comes after
-abbrev pub broken : After → Conclusion
-broken a = record { ending = ending.Broken; after = a }
 
 -- what is due was returned whole
 abbrev pub ReturnsWhole : Due → List ℕ → List ℕ → Conclusion → Type 0
 ReturnsWhole due taken taken' x = (taken' ≡ taken ++ due.bytes) × (x ≡ record { ending = due.ending; after = due.after })
 
--- a proper prefix of it was, since the client's sink failed
+-- a proper front of it was, since the client's sink failed
 abbrev pub ReturnsFront : Due → List ℕ → List ℕ → Conclusion → Type 0
-ReturnsFront due taken taken' x = AddsFront taken taken' due.bytes × (x ≡ broken after.WriteFailed)
+ReturnsFront due taken taken' x = AddsProperFront taken taken' due.bytes × (x ≡ broken after.WriteFailed)
 
 -- what is due was returned: what the client's sink had taken before and after, and how it was concluded
 abbrev pub Returns : Due → List ℕ → List ℕ → Conclusion → Type 0
@@ -46,10 +37,10 @@ pub record HasDue (IsDue IsSo : Due → Type 0) : Type 0 where
   pub is_due : IsDue due
   pub is_so : IsSo due
 
--- memory was wanting in a talk: a prefix of what is due was returned, or nothing
+-- memory was wanting in a talk: a front of what is due was returned, or nothing
 pub record TalkWants (IsDue : Due → Type 0) (taken taken' : List ℕ) (t : Talked) : Type 0 where
   pub wanting : t ≡ talked.Ended (broken after.NoMemory)
-  pub returned : (taken' ≡ taken) ⊎ HasDue IsDue (λ due. AddsPrefix taken taken' due.bytes)
+  pub returned : (taken' ≡ taken) ⊎ HasDue IsDue (λ due. AddsFront taken taken' due.bytes)
 
 -- what came of a talk by which that is due
 abbrev pub TalkGives : (Page → Due) → (Due → Type 0) → List ℕ → List ℕ → Talked → Type 0
@@ -84,15 +75,6 @@ IsAnswerEnding ending.Bodiless = Unit {0}
 IsAnswerEnding ending.CutFront = Unit {0}
 IsAnswerEnding ending.Tunnel = ⊥
 IsAnswerEnding ending.Broken = Unit {0}
-
--- what comes after an answer, whole or not: the client's bytes aren't read
-abbrev pub IsAnswerAfter : After → Type 0
-IsAnswerAfter after.Keep = Unit {0}
-IsAnswerAfter after.Close = Unit {0}
-IsAnswerAfter after.Cut = ⊥
-IsAnswerAfter after.ReadFailed = ⊥
-IsAnswerAfter after.WriteFailed = Unit {0}
-IsAnswerAfter after.NoMemory = Unit {0}
 
 -- what came of it is of an answer
 abbrev pub IsHeard : Talked → Type 0

@@ -11,12 +11,11 @@ ghost use Rattle.px_pumps.specs.Hearing.{AnswerGives, EndsHere, TalkGoesOn, Hear
 ghost use Rattle.px_pumps.specs.Returning.{TalkCause, IsHeard};
 
 use crate::flows::Flow;
-use crate::notes::{After, Conclusion, after_whole, broken};
 use crate::pumps::Pump;
 use crate::talks::Talked;
-use px_answers::Asked;
 use px_base::{Failed, Mem, Sink, SinkFault, Source, Text, write_all};
-use px_config::{Config, Warm};
+use px_config::Running;
+use px_notes::{After, Asked, Conclusion, after_whole, broken};
 use px_streams::PIECE;
 use std::alloc::Global;
 
@@ -30,13 +29,12 @@ const FIRST_ROOM: usize = FIRST_PIECE + 128;
 /// Feeds a piece, and writes what comes out.
 fn feed_on<O: Sink>(
     pump: &mut Pump<'_>,
-    warm: &mut Warm<'_>,
+    running: &mut Running<'_>,
     piece: &[u8],
     out: &mut Text,
     client_out: &mut O,
 ) -> Result<Flow, SinkFault>
-    requires sections { warm.old.sections ≡ pump.old.config.sections }
-    requires filters { warm.old.filters ≡ pump.old.config.filters }
+    requires of { running.old ≡ pump.old.config }
     ensures fed { IsTrue (O.state client_out.old).tells → (ask : Ask) (fed put : List ℕ) → PumpAfter ask fed put pump.old
         → MatchResult result (λ f. FedOn ask (fed ++ piece.now) put (O.state client_out.old).taken (O.state client_out.new).taken f pump.new)
         (λ e. Stopped ask fed piece.now put (O.state client_out.old).taken (O.state client_out.new).taken e) }
@@ -46,11 +44,10 @@ fn feed_on<O: Sink>(
     ensures open { (O.state client_out.new).finished ≡ (O.state client_out.old).finished }
     ensures goes_on { SinkGoesOn (O.state client_out.old) (O.state client_out.new) }
     ensures config { pump.new.config ≡ pump.old.config }
-    ensures same_sections { warm.new.sections ≡ warm.old.sections }
-    ensures same_filters { warm.new.filters ≡ warm.old.filters }
+    ensures same { running.new ≡ running.old }
 {
     out.clear();
-    match pump.feed(warm, piece, out) {
+    match pump.feed(running, piece, out) {
         Err(Mem) => Err(SinkFault::Mem),
         Ok(flow) => match write_all(client_out, out.as_bytes()) {
             Ok(()) => Ok(flow),
@@ -89,24 +86,22 @@ fn end_refused(fault: SinkFault) -> Talked
 /// Ends the answer, and writes what comes out.
 fn end_on<O: Sink>(
     pump: &mut Pump<'_>,
-    warm: &mut Warm<'_>,
+    running: &mut Running<'_>,
     failed: bool,
     out: &mut Text,
     client_out: &mut O,
 ) -> Talked
-    requires sections { warm.old.sections ≡ pump.old.config.sections }
-    requires filters { warm.old.filters ≡ pump.old.config.filters }
+    requires of { running.old ≡ pump.old.config }
     ensures ended { IsTrue (O.state client_out.old).tells → (ask : Ask) (fed put taken : List ℕ) → PumpAfter ask fed put pump.old → (O.state client_out.old).taken ≡ taken ++ put
         → AnswerGives ask fed failed taken (O.state client_out.new).taken result }
     ensures cause { TalkCause (O.state client_out.old) (O.state client_out.new) result }
     ensures heard { IsHeard result }
     ensures open { (O.state client_out.new).finished ≡ (O.state client_out.old).finished }
     ensures goes_on { SinkGoesOn (O.state client_out.old) (O.state client_out.new) }
-    ensures same_sections { warm.new.sections ≡ warm.old.sections }
-    ensures same_filters { warm.new.filters ≡ warm.old.filters }
+    ensures same { running.new ≡ running.old }
 {
     out.clear();
-    match pump.end(warm, failed, out) {
+    match pump.end(running, failed, out) {
         Err(Mem) => Talked::Ended(broken(After::NoMemory)),
         Ok(flow) => match write_all(client_out, out.as_bytes()) {
             Ok(()) => end_talk(flow, pump.keeps()),
@@ -118,29 +113,27 @@ fn end_on<O: Sink>(
 /// Reads a piece of an answer, and writes what comes out of it. None where the answer goes on.
 fn pass_piece<I: Source, O: Sink>(
     pump: &mut Pump<'_>,
-    warm: &mut Warm<'_>,
+    running: &mut Running<'_>,
     buf: &mut [u8],
     out: &mut Text,
     link_in: &mut I,
     client_out: &mut O,
 ) -> Option<Talked>
     requires room { 0 < length buf.old }
-    requires sections { warm.old.sections ≡ pump.old.config.sections }
-    requires filters { warm.old.filters ≡ pump.old.config.filters }
-    ensures goes_on { IfNone result (TalkGoesOn (I.state link_in.old) (I.state link_in.new) (O.state client_out.old) (O.state client_out.new) warm.old warm.new pump.old pump.new) }
+    requires of { running.old ≡ pump.old.config }
+    ensures goes_on { IfNone result (TalkGoesOn (I.state link_in.old) (I.state link_in.new) (O.state client_out.old) (O.state client_out.new) pump.old pump.new) }
     ensures fewer { IfNone result (pieces_left pump.new.stage < pieces_left pump.old.stage) }
-    ensures ends { IfSome result (EndsHere (I.state link_in.old) (I.state link_in.new) (O.state client_out.old) (O.state client_out.new) warm.old warm.new pump.old) }
+    ensures ends { IfSome result (EndsHere (I.state link_in.old) (I.state link_in.new) (O.state client_out.old) (O.state client_out.new) pump.old) }
     ensures config { IfNone result (pump.new.config ≡ pump.old.config) }
-    ensures same_sections { IfNone result (warm.new.sections ≡ warm.old.sections) }
-    ensures same_filters { IfNone result (warm.new.filters ≡ warm.old.filters) }
+    ensures same { running.new ≡ running.old }
 {
     match link_in.read(buf) {
-        Err(Failed) => Some(end_on(pump, warm, true, out, client_out)),
+        Err(Failed) => Some(end_on(pump, running, true, out, client_out)),
         Ok(count) => {
             if count == 0 {
-                return Some(end_on(pump, warm, false, out, client_out));
+                return Some(end_on(pump, running, false, out, client_out));
             }
-            match feed_on(pump, warm, &buf[..count], out, client_out) {
+            match feed_on(pump, running, &buf[..count], out, client_out) {
                 Err(fault) => Some(end_refused(fault)),
                 Ok(flow) => match flow {
                     Flow::More => None,
@@ -158,18 +151,18 @@ fn pass_piece<I: Source, O: Sink>(
 /// Reads the rest of an answer, and returns it to the client, each piece before the next is read.
 fn pass_rest<I: Source, O: Sink>(
     pump: &mut Pump<'_>,
-    warm: &mut Warm<'_>,
+    running: &mut Running<'_>,
     out: &mut Text,
     link_in: &mut I,
     client_out: &mut O,
 ) -> Talked
-    requires sections { warm.old.sections ≡ pump.old.config.sections }
-    requires filters { warm.old.filters ≡ pump.old.config.filters }
-    ensures ends { EndsHere (I.state link_in.old) (I.state link_in.new) (O.state client_out.old) (O.state client_out.new) warm.old warm.new pump.old result }
+    requires of { running.old ≡ pump.old.config }
+    ensures ends { EndsHere (I.state link_in.old) (I.state link_in.new) (O.state client_out.old) (O.state client_out.new) pump.old result }
+    ensures same { running.new ≡ running.old }
 {
     let mut buf = [0u8; PIECE];
     'pieces: loop {
-        if let Some(talked) = pass_piece(pump, warm, &mut buf, out, link_in, client_out) {
+        if let Some(talked) = pass_piece(pump, running, &mut buf, out, link_in, client_out) {
             return talked;
         }
     }
@@ -189,43 +182,38 @@ fn first_room(alloc: Global) -> Text
 fn pass_on<I: Source, O: Sink>(
     alloc: Global,
     pump: &mut Pump<'_>,
-    warm: &mut Warm<'_>,
+    running: &mut Running<'_>,
     link_in: &mut I,
     client_out: &mut O,
 ) -> Talked
-    requires sections { warm.old.sections ≡ pump.old.config.sections }
-    requires filters { warm.old.filters ≡ pump.old.config.filters }
-    ensures heard { HeardOut pump.old (I.state link_in.old) (I.state link_in.new) (O.state client_out.old) (O.state client_out.new) warm.old warm.new result }
+    requires of { running.old ≡ pump.old.config }
+    ensures heard { HeardOut pump.old (I.state link_in.old) (I.state link_in.new) (O.state client_out.old) (O.state client_out.new) result }
+    ensures same { running.new ≡ running.old }
 {
     let mut buf = [0u8; FIRST_PIECE];
     let mut out = first_room(alloc);
-    match pass_piece(pump, warm, &mut buf, &mut out, link_in, client_out) {
+    match pass_piece(pump, running, &mut buf, &mut out, link_in, client_out) {
         Some(talked) => talked,
-        None => pass_rest(pump, warm, &mut out, link_in, client_out),
+        None => pass_rest(pump, running, &mut out, link_in, client_out),
     }
 }
 
-/// Reads an answer over a link, and returns it to the client. Where a page is due in its place, nothing was returned. The store
-/// lent is that of the configuration.
+/// Reads an answer over a link, and returns it to the client. Where a page is due in its place, nothing was returned.
 pub fn return_answer<I: Source, O: Sink>(
     alloc: Global,
-    config: &Config,
-    warm: &mut Warm<'_>,
+    running: &mut Running<'_>,
     asked: Asked,
     link_in: &mut I,
     client_out: &mut O,
 ) -> Talked
-    requires sections { warm.old.sections ≡ config.now.sections }
-    requires filters { warm.old.filters ≡ config.now.filters }
-    ensures hears { (page_due : page.Page → due.Due) → Hears (ask_of config.now asked page_due) (I.state link_in.old) (I.state link_in.new) (O.state client_out.old) (O.state client_out.new) result }
+    ensures hears { (page_due : page.Page → due.Due) → Hears (ask_of running.old asked page_due) (I.state link_in.old) (I.state link_in.new) (O.state client_out.old) (O.state client_out.new) result }
     ensures cause { TalkCause (O.state client_out.old) (O.state client_out.new) result }
     ensures heard { IsHeard result }
     ensures open { (O.state client_out.new).finished ≡ (O.state client_out.old).finished }
     ensures in_goes_on { SourceGoesOn (I.state link_in.old) (I.state link_in.new) }
     ensures out_goes_on { SinkGoesOn (O.state client_out.old) (O.state client_out.new) }
-    ensures same_sections { warm.new.sections ≡ warm.old.sections }
-    ensures same_filters { warm.new.filters ≡ warm.old.filters }
+    ensures same { running.new ≡ running.old }
 {
-    let mut pump = Pump::new(alloc, config, asked);
-    pass_on(alloc, &mut pump, warm, link_in, client_out)
+    let mut pump = Pump::new(alloc, running.config(), asked);
+    pass_on(alloc, &mut pump, running, link_in, client_out)
 }

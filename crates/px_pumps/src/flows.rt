@@ -1,5 +1,5 @@
 // How an answer stands.
-use crate::notes::Ending;
+use px_notes::Ending;
 use px_templates::Page;
 
 /// How an answer stands.

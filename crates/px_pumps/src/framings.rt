@@ -6,14 +6,15 @@ ghost use Rattle.px_taggers.specs.Tagging.{TagsLike};
 ghost use Rattle.px_pumps.specs.Asking.{as_version_1_1, framed_by, framed_answer, received_lines, response_set, returned_lines, terms_of};
 
 use px_actions::{ActionSet, Kind};
-use px_answers::{Asked, BodyPlan, Framed, HeaderLines, Terms};
+use px_answers::{BodyPlan, Framed, HeaderLines, Terms};
 use px_base::{List, Mem, Text};
-use px_config::{Config, Warm};
+use px_config::Running;
 use px_fields::Field;
 use px_framing::BodyRule;
 use px_head::ResponseHead;
 use px_headers::{ServerOut, is_text, server_headers};
 use px_merge::Side;
+use px_notes::Asked;
 use px_subst::Vars;
 use px_taggers::{has_taggers, tag_headers_with};
 use std::alloc::Global;
@@ -51,34 +52,29 @@ fn lines_for(alloc: Global, head: &ResponseHead, set: &ActionSet) -> Result<List
     }
 }
 
-/// The action set of an answer, from the request's set and tags. The store lent is that of the configuration.
+/// The action set of an answer, from the request's set and tags.
 #[tactic(auto, unfolding(crate::specs::Asking::response_set))]
 fn response_set(
     alloc: Global,
-    config: &Config,
-    warm: &mut Warm<'_>,
+    running: &mut Running<'_>,
     set: ActionSet,
     tags: List<Text>,
     head: &ResponseHead,
     vars: &Vars,
 ) -> Result<ActionSet, Mem>
-    requires sections { warm.old.sections ≡ config.now.sections }
-    requires filters { warm.old.filters ≡ config.now.filters }
-    ensures value { IfOk result (λ answer. answer ≡ response_set config.now set tags vars.now head.now) }
-    ensures same_sections { warm.new.sections ≡ warm.old.sections }
-    ensures same_filters { warm.new.filters ≡ warm.old.filters }
+    ensures value { IfOk result (λ answer. answer ≡ response_set running.old set tags vars.now head.now) }
+    ensures same { running.new ≡ running.old }
 {
-    if !config.settings.toggle {
+    if !running.config().settings.toggle {
         return Ok(set);
     }
     let mut set = set;
     let mut tags = tags;
     let lines = lines_for(alloc, head, &set)?;
-    let Warm { sections, filters } = warm;
     tag_headers_with(
         alloc,
-        sections,
-        filters,
+        &mut running.sections,
+        &mut running.filters,
         &mut set,
         &mut tags,
         lines.as_slice(),
@@ -138,22 +134,18 @@ fn is_filtered_text(filters: &[Text], fields: &[Field], set: &ActionSet) -> bool
     !filters.is_empty() && is_text(fields, set)
 }
 
-/// What a head settles. The store lent is that of the configuration.
+/// What a head settles.
 #[tactic(auto, unfolding(crate::specs::Asking::framed_answer))]
 pub fn settle(
     alloc: Global,
-    config: &Config,
-    warm: &mut Warm<'_>,
+    running: &mut Running<'_>,
     asked: Asked,
     head: ResponseHead,
     rule: BodyRule,
 ) -> Result<Settled, Mem>
-    requires sections { warm.old.sections ≡ config.now.sections }
-    requires filters { warm.old.filters ≡ config.now.filters }
-    ensures framed { IfOk result (λ settled. settled.framed ≡ framed_answer config.now asked head rule) }
+    ensures framed { IfOk result (λ settled. settled.framed ≡ framed_answer running.old asked head rule) }
     ensures vars { IfOk result (λ settled. settled.vars ≡ asked.vars) }
-    ensures same_sections { warm.new.sections ≡ warm.old.sections }
-    ensures same_filters { warm.new.filters ≡ warm.old.filters }
+    ensures same { running.new ≡ running.old }
 {
     let Asked {
         method: _,
@@ -164,7 +156,8 @@ pub fn settle(
         vars,
         moment,
     } = asked;
-    let set = response_set(alloc, config, warm, set, tags, &head, &vars)?;
+    let config = running.config();
+    let set = response_set(alloc, running, set, tags, &head, &vars)?;
     let filters = copy_texts(alloc, set.values(Kind::Filter))?;
     let terms = Terms {
         minor,
@@ -180,7 +173,7 @@ pub fn settle(
         &mut head,
         &set,
         &config.filters,
-        &mut warm.filters,
+        &mut running.filters,
         &vars,
         moment,
     )?;

@@ -12,16 +12,17 @@ ghost use Rattle.px_pumps.specs.Heads.{LeadsPastInterims, heads_room};
 ghost use Rattle.px_pumps.specs.Pumps.{EndsAnswer, flow_at, flow_by, front_bytes, held_at, IsOfAnswer, IsStageSettled, keeps_at, keeps_by, PassageAfter, pieces_left, PumpAfter, Pumped, SoFar, StageAfter, StaysAtEnd};
 ghost use Rattle.px_framing.specs.Reading.{added};
 
+use crate::dues::ending_of;
 use crate::flows::Flow;
 use crate::framings::{Settled, settle};
 use crate::heads::{HeadsRead, read_heads};
 use crate::laws::passage_tells;
-use crate::notes::ending_of;
-use px_answers::{AnswerOutcome, Asked, Passage};
+use px_answers::{AnswerOutcome, Passage};
 use px_base::{Mem, Text};
-use px_config::{Config, Warm};
+use px_config::{Config, Running};
 use px_filter_files::WarmFilters;
 use px_head::{HEAD_LIMIT, HeadSearch};
+use px_notes::Asked;
 use px_templates::Page;
 use std::alloc::Global;
 use std::marker::Model;
@@ -171,8 +172,7 @@ fn begin_behind(
 /// Goes on from the bytes at whose front heads are read, the last of them new; with the first head at most `left` are read.
 fn pass_heads(
     alloc: Global,
-    config: &Config,
-    warm: &mut Warm<'_>,
+    running: &mut Running<'_>,
     asked: Asked,
     left: u8,
     front: HeadFront<'_>,
@@ -180,17 +180,14 @@ fn pass_heads(
     out: &mut Text,
 ) -> Result<PumpStage, Mem>
     requires begins { BeginsSearched HEAD_LIMIT (front_bytes front) search }
-    requires sections { warm.old.sections ≡ config.now.sections }
-    requires filters { warm.old.filters ≡ config.now.filters }
-    ensures after { IfOk result (λ next. (ask : Ask) (fed : List ℕ) → ask ≡ ask_of config.now asked ask.page_due → LeadsPastInterims most_heads ask.method fed left (front_bytes front.entry)
-        → StageAfter ask fed (added out.old out.new) config.now next) }
+    ensures after { IfOk result (λ next. (ask : Ask) (fed : List ℕ) → ask ≡ ask_of running.old asked ask.page_due → LeadsPastInterims most_heads ask.method fed left (front_bytes front.entry)
+        → StageAfter ask fed (added out.old out.new) running.old next) }
     ensures grows { IfOk result (λ _. out.new ≡ out.old ++ added out.old out.new) }
     ensures kept { OnErr result (out.new ≡ out.old ++ added out.old out.new) }
-    ensures settled { IfOk result (IsStageSettled config.now) }
+    ensures settled { IfOk result (IsStageSettled running.old) }
     ensures pieces { IfOk result (λ next. (count : ℕ) → count < length (front_bytes front.entry) → count < HEAD_LIMIT → flow_at next ≡ Flow.More
         → pieces_left next < 2 ^ 64 + heads_room left count) }
-    ensures same_sections { warm.new.sections ≡ warm.old.sections }
-    ensures same_filters { warm.new.filters ≡ warm.old.filters }
+    ensures same { running.new ≡ running.old }
 {
     match read_heads(
         alloc,
@@ -210,10 +207,10 @@ fn pass_heads(
         }
         HeadsRead::Refused => Ok(PumpStage::Refused(Page::BadReply)),
         HeadsRead::Final { head, rule, from } => {
-            let settled = settle(alloc, config, warm, asked, head, rule)?;
+            let settled = settle(alloc, running, asked, head, rule)?;
             let passage = begin_behind(
                 alloc,
-                &mut warm.filters,
+                &mut running.filters,
                 settled,
                 &front.as_bytes()[from..],
                 out,
@@ -226,24 +223,20 @@ fn pass_heads(
 /// Feeds a piece to a stage.
 fn advance(
     alloc: Global,
-    config: &Config,
-    warm: &mut Warm<'_>,
+    running: &mut Running<'_>,
     stage: PumpStage,
     piece: &[u8],
     out: &mut Text,
 ) -> Result<PumpStage, Mem>
-    requires settled { IsStageSettled config.now stage }
-    requires sections { warm.old.sections ≡ config.now.sections }
-    requires filters { warm.old.filters ≡ config.now.filters }
-    ensures after { IfOk result (λ next. (ask : Ask) (fed put : List ℕ) → StageAfter ask fed put config.now stage → StageAfter ask (fed ++ piece.now) (put ++ added out.old out.new) config.now next) }
+    requires settled { IsStageSettled running.old stage }
+    ensures after { IfOk result (λ next. (ask : Ask) (fed put : List ℕ) → StageAfter ask fed put running.old stage → StageAfter ask (fed ++ piece.now) (put ++ added out.old out.new) running.old next) }
     ensures grows { IfOk result (λ _. out.new ≡ out.old ++ added out.old out.new) }
     ensures kept { OnErr result (out.new ≡ out.old ++ added out.old out.new) }
-    ensures settled { IfOk result (IsStageSettled config.now) }
+    ensures settled { IfOk result (IsStageSettled running.old) }
     ensures repeats { IfOk result (λ next. StaysAtEnd stage next out.old out.new) }
     ensures live { IfOk result (λ _. stage ≢ PumpStage.Wanting) }
     ensures pieces { IfOk result (λ next. flow_at next ≡ Flow.More → 0 < length piece.now → pieces_left next < pieces_left stage) }
-    ensures same_sections { warm.new.sections ≡ warm.old.sections }
-    ensures same_filters { warm.new.filters ≡ warm.old.filters }
+    ensures same { running.new ≡ running.old }
 {
     match stage {
         PumpStage::Heading(heading) => {
@@ -254,12 +247,12 @@ fn advance(
                 search,
             } = heading;
             let front = HeadFront::joined(held, piece)?;
-            let next = pass_heads(alloc, config, warm, asked, left, front, search, out)?;
+            let next = pass_heads(alloc, running, asked, left, front, search, out)?;
             Ok(next)
         }
         PumpStage::Behind(passage) => {
             let mut passage = passage;
-            passage.feed(&mut warm.filters, piece, out)?;
+            passage.feed(&mut running.filters, piece, out)?;
             Ok(PumpStage::Behind(passage))
         }
         PumpStage::Refused(page) => Ok(PumpStage::Refused(page)),
@@ -269,31 +262,27 @@ fn advance(
 
 /// Ends the bytes.
 fn finish(
-    config: &Config,
-    warm: &mut Warm<'_>,
+    running: &mut Running<'_>,
     stage: PumpStage,
     failed: bool,
     out: &mut Text,
 ) -> Result<PumpStage, Mem>
-    requires settled { IsStageSettled config.now stage }
-    requires sections { warm.old.sections ≡ config.now.sections }
-    requires filters { warm.old.filters ≡ config.now.filters }
-    ensures ended { IfOk result (λ next. (ask : Ask) (fed put : List ℕ) → StageAfter ask fed put config.now stage
+    requires settled { IsStageSettled running.old stage }
+    ensures ended { IfOk result (λ next. (ask : Ask) (fed put : List ℕ) → StageAfter ask fed put running.old stage
         → EndsAnswer ask (flow_at next) (keeps_at next) fed failed (put ++ added out.old out.new)) }
     ensures grows { IfOk result (λ _. out.new ≡ out.old ++ added out.old out.new) }
     ensures kept { OnErr result (out.new ≡ out.old ++ added out.old out.new) }
-    ensures settled { IfOk result (IsStageSettled config.now) }
+    ensures settled { IfOk result (IsStageSettled running.old) }
     ensures repeats { IfOk result (λ next. StaysAtEnd stage next out.old out.new) }
     ensures over { IfOk result (λ next. flow_at next ≢ Flow.More) }
     ensures live { IfOk result (λ _. stage ≢ PumpStage.Wanting) }
-    ensures same_sections { warm.new.sections ≡ warm.old.sections }
-    ensures same_filters { warm.new.filters ≡ warm.old.filters }
+    ensures same { running.new ≡ running.old }
 {
     match stage {
         PumpStage::Heading(_) => Ok(PumpStage::Refused(Page::NoServerData)),
         PumpStage::Behind(passage) => {
             let mut passage = passage;
-            passage.end(&mut warm.filters, failed, out)?;
+            passage.end(&mut running.filters, failed, out)?;
             Ok(PumpStage::Behind(passage))
         }
         PumpStage::Refused(page) => Ok(PumpStage::Refused(page)),
@@ -338,12 +327,16 @@ impl<'a> Pump<'a> {
         }
     }
 
-    /// Feeds a piece, and adds what it puts out. The store lent is that of the configuration. Once the
+    /// Feeds a piece, and adds what it puts out. What runs is its configuration. Once the
     /// flow isn't `More` it stays, and nothing is put out. After `Mem` each further call gives `Mem`,
     /// and `out` still begins with what it held.
-    pub fn feed(&mut self, warm: &mut Warm<'_>, piece: &[u8], out: &mut Text) -> Result<Flow, Mem>
-        requires sections { warm.old.sections ≡ self.old.config.sections }
-        requires filters { warm.old.filters ≡ self.old.config.filters }
+    pub fn feed(
+        &mut self,
+        running: &mut Running<'_>,
+        piece: &[u8],
+        out: &mut Text,
+    ) -> Result<Flow, Mem>
+        requires of { running.old ≡ self.old.config }
         ensures after { IfOk result (λ _. (ask : Ask) (fed put : List ℕ) → PumpAfter ask fed put self.old → PumpAfter ask (fed ++ piece.now) (put ++ added out.old out.new) self.new) }
         ensures pumped { IfOk result (λ f. (ask : Ask) (fed put : List ℕ) → PumpAfter ask fed put self.old → Pumped ask (fed ++ piece.now) (put ++ added out.old out.new) f (keeps_at self.new.stage)) }
         ensures grows { IfOk result (λ _. out.new ≡ out.old ++ added out.old out.new) }
@@ -356,23 +349,26 @@ impl<'a> Pump<'a> {
         ensures live { IfOk result (λ _. self.old.stage ≢ PumpStage.Wanting) }
         ensures wanting { OnErr result (self.new.stage ≡ PumpStage.Wanting) }
         ensures config { self.new.config ≡ self.old.config }
-        ensures same_sections { warm.new.sections ≡ warm.old.sections }
-        ensures same_filters { warm.new.filters ≡ warm.old.filters }
+        ensures same { running.new ≡ running.old }
     {
         passage_tells();
         let stage = replace(&mut self.stage, PumpStage::Wanting);
-        let next = advance(self.alloc, self.config, warm, stage, piece, out)?;
+        let next = advance(self.alloc, running, stage, piece, out)?;
         let flow = next.flow();
         self.stage = next;
         Ok(flow)
     }
 
     /// Ends the answer, and adds what it puts out. `failed` says that its source failed. The flow is
-    /// then at its end. The store lent is that of the configuration. After `Mem` each further call
+    /// then at its end. What runs is its configuration. After `Mem` each further call
     /// gives `Mem`, and `out` still begins with what it held.
-    pub fn end(&mut self, warm: &mut Warm<'_>, failed: bool, out: &mut Text) -> Result<Flow, Mem>
-        requires sections { warm.old.sections ≡ self.old.config.sections }
-        requires filters { warm.old.filters ≡ self.old.config.filters }
+    pub fn end(
+        &mut self,
+        running: &mut Running<'_>,
+        failed: bool,
+        out: &mut Text,
+    ) -> Result<Flow, Mem>
+        requires of { running.old ≡ self.old.config }
         ensures ended { IfOk result (λ f. (ask : Ask) (fed put : List ℕ) → PumpAfter ask fed put self.old → EndsAnswer ask f (keeps_at self.new.stage) fed failed (put ++ added out.old out.new)) }
         ensures grows { IfOk result (λ _. out.new ≡ out.old ++ added out.old out.new) }
         ensures kept { OnErr result (out.new ≡ out.old ++ added out.old out.new) }
@@ -384,12 +380,11 @@ impl<'a> Pump<'a> {
         ensures live { IfOk result (λ _. self.old.stage ≢ PumpStage.Wanting) }
         ensures wanting { OnErr result (self.new.stage ≡ PumpStage.Wanting) }
         ensures config { self.new.config ≡ self.old.config }
-        ensures same_sections { warm.new.sections ≡ warm.old.sections }
-        ensures same_filters { warm.new.filters ≡ warm.old.filters }
+        ensures same { running.new ≡ running.old }
     {
         passage_tells();
         let stage = replace(&mut self.stage, PumpStage::Wanting);
-        let next = finish(self.config, warm, stage, failed, out)?;
+        let next = finish(running, stage, failed, out)?;
         let flow = next.flow();
         self.stage = next;
         Ok(flow)

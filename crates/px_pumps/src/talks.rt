@@ -1,5 +1,5 @@
 // What came of a request that was sent on.
-use crate::notes::Conclusion;
+use px_notes::Conclusion;
 use px_templates::Page;
 
 /// What came of a request that was sent on.

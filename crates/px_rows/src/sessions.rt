@@ -3,12 +3,12 @@
 
 ghost use Rattle.std.specs.Prelude.{◌≡◌, ◌∷◌, [], Some, None, Ok, Err, true, false, codes};
 ghost use Rattle.px_framing.specs.declared.rules.BodyRule.TheVariants as rule;
+ghost use Rattle.px_notes.specs.declared.endings.After.TheVariants as after;
+ghost use Rattle.px_notes.specs.declared.sessions.SessionEnd.TheVariants as end;
 ghost use Rattle.px_judging.specs.Replies.{url_symbols};
 ghost use Rattle.px_judging.specs.Requests.{body_read, is_connect, is_head, keeps_behind_request, target_read};
 ghost use Rattle.px_patterns.specs.declared.faults.UrlFault.TheVariants as url;
-ghost use Rattle.px_pumps.specs.declared.notes.After.TheVariants as after;
 ghost use Rattle.px_serve.specs.Ends.{end_by, end_of_bytes, only_empty};
-ghost use Rattle.px_serve.specs.declared.ends.SessionEnd.TheVariants as end;
 ghost use Rattle.px_templates.specs.declared.pages.Page.TheVariants as page;
 ghost use Rattle.px_exchange.specs.Replies.{error_of, parent_value};
 ghost use Rattle.px_rows.specs.Rows.{field, request_head, symbols, url_at};

@@ -3,11 +3,10 @@ use Rattle.std.proofs.Common.{◌≡◌, ℕ, ◌+◌, ◌<◌, true, false, con
 use Rattle.std.proofs.lemmas.Bool.Decides.{nat_tests}
 use Rattle.std.proofs.lemmas.List.{append-nil, take-append-le, length-take-le}
 use Rattle.std.proofs.Math.Seq.{take-append_seam, take-append-add, take-length}
-use Rattle.px_base.specs.Sinks.{AddsFront}
-use Rattle.px_sending.specs.declared.messages.Message.{Message}
-use Rattle.px_sending.specs.declared.messages.Sent.{Sent}
-use Rattle.px_sending.specs.declared.messages.Sent.TheVariants as sent
-use Rattle.px_sending.specs.Prefixes.{IsProperFront, IsPrefix}
+use Rattle.px_base.specs.Sinks.{AddsFront, AddsProperFront}
+use Rattle.px_notes.specs.declared.messages.Message.{Message}
+use Rattle.px_notes.specs.declared.messages.Sent.{Sent}
+use Rattle.px_notes.specs.declared.messages.Sent.TheVariants as sent
 use Rattle.px_sending.specs.Sends.{Sends, SendsBy, body_in, interim, interim_behind}
 use Rattle.px_sending.specs.Pieces.{bare}
 
@@ -24,11 +23,11 @@ behind_part m n h =
     let part : nat_le (length m.head) (length (take n m.head)) ≡ false = grind (arith, nat_tests) in
     ap (λ b. cond b (interim m) []) part
 
-no_prefix : (bytes : List ℕ) → IsPrefix [] bytes
-no_prefix bytes = record { count = 0; within = omega arith; is = refl }
+no_front : (bytes : List ℕ) → AddsFront [] [] bytes
+no_front bytes = (0, (omega arith), refl)
 
 -- the link's sink failed in the head
-pub head_cut : (m : Message) (left link link' taken : List ℕ) → AddsFront link link' m.head → Sends m left left link link' taken taken sent.LinkFailed
+pub head_cut : (m : Message) (left link link' taken : List ℕ) → AddsProperFront link link' m.head → Sends m left left link link' taken taken sent.LinkFailed
 head_cut m left link link' taken (n, h, e) = record {
   came = left;
   is_stream = refl;
@@ -37,17 +36,17 @@ head_cut m left link link' taken (n, h, e) = record {
   back = [];
   returned = sym (append-nil taken);
   by = (
-    record {
-      count = n;
-      shorter = omega (arith, h, length-append m.head (body_in m left).raw);
-      is = sym (take-append-le n m.head (body_in m left).raw (omega (arith, h)));
-    },
+    (
+      n,
+      omega (arith, h, length-append m.head (body_in m left).raw),
+      sym (take-append-le n m.head (body_in m left).raw (omega (arith, h))),
+    ),
     sym (behind_part m n h),
   );
 }
 
 -- memory was wanting in the head
-pub head_wanting : (m : Message) (left link link' taken : List ℕ) → AddsFront link link' m.head → Sends m left left link link' taken taken sent.NoMemory
+pub head_wanting : (m : Message) (left link link' taken : List ℕ) → AddsProperFront link link' m.head → Sends m left left link link' taken taken sent.NoMemory
 head_wanting m left link link' taken (n, h, e) = record {
   came = left;
   is_stream = refl;
@@ -56,17 +55,17 @@ head_wanting m left link link' taken (n, h, e) = record {
   back = [];
   returned = sym (append-nil taken);
   by = (
-    record {
-      count = n;
-      within = omega (arith, h, length-append m.head (body_in m left).raw);
-      is = sym (take-append-le n m.head (body_in m left).raw (omega (arith, h)));
-    },
-    no_prefix _,
+    (
+      n,
+      omega (arith, h, length-append m.head (body_in m left).raw),
+      sym (take-append-le n m.head (body_in m left).raw (omega (arith, h))),
+    ),
+    no_front _,
   );
 }
 
 -- the client's sink failed behind the head
-pub interim_cut : (m : Message) (left link link' taken taken' : List ℕ) → link' ≡ link ++ m.head → AddsFront taken taken' (interim m) → Sends m left left link link' taken taken' sent.WriteFailed
+pub interim_cut : (m : Message) (left link link' taken taken' : List ℕ) → link' ≡ link ++ m.head → AddsProperFront taken taken' (interim m) → Sends m left left link link' taken taken' sent.WriteFailed
 interim_cut m left link link' taken taken' w (n, h, e) = record {
   came = left;
   is_stream = refl;
@@ -74,11 +73,11 @@ interim_cut m left link link' taken taken' w (n, h, e) = record {
   sent = w;
   back = take n (interim m);
   returned = e;
-  by = (refl, record { count = n; shorter = h; is = refl });
+  by = (refl, (n, h, refl));
 }
 
 -- memory was wanting there
-pub interim_wanting : (m : Message) (left link link' taken taken' : List ℕ) → link' ≡ link ++ m.head → AddsFront taken taken' (interim m) → Sends m left left link link' taken taken' sent.NoMemory
+pub interim_wanting : (m : Message) (left link link' taken taken' : List ℕ) → link' ≡ link ++ m.head → AddsProperFront taken taken' (interim m) → Sends m left left link link' taken taken' sent.NoMemory
 interim_wanting m left link link' taken taken' w (n, h, e) =
     let whole : interim_behind m m.head ≡ interim m = ap (interim_behind m) (sym (append-nil m.head)) ∙ behind_whole m [] in
     record {
@@ -89,25 +88,25 @@ interim_wanting m left link link' taken taken' w (n, h, e) =
       back = take n (interim m);
       returned = e;
       by = (
-        record { count = length m.head; within = omega (arith, length-append m.head (body_in m left).raw); is = sym (take-append_seam m.head (body_in m left).raw) },
-        record { count = n; within = rw whole (omega (arith, h)); is = rw whole refl },
+        (length m.head, omega (arith, length-append m.head (body_in m left).raw), sym (take-append_seam m.head (body_in m left).raw)),
+        (n, rw whole (omega (arith, h)), rw whole refl),
       );
     }
 
 -- bytes behind the head
-longer : (head raw out : List ℕ) (f : IsProperFront out raw) → IsProperFront (head ++ out) (head ++ raw)
-longer head raw out f = record {
-  count = length head + f.count;
-  shorter = (let s = f.shorter in omega (arith, s, length-append head raw));
-  is = ap (λ (zs : List ℕ). head ++ zs) f.is ∙ sym (take-append-add head raw f.count);
-}
+longer : (head raw out : List ℕ) → AddsProperFront [] out raw → AddsProperFront [] (head ++ out) (head ++ raw)
+longer head raw out (n, h, e) = (
+  length head + n,
+  omega (arith, h, length-append head raw),
+  ap (λ (zs : List ℕ). head ++ zs) e ∙ sym (take-append-add head raw n),
+)
 
-longer_prefix : (head raw out : List ℕ) (f : IsPrefix out raw) → IsPrefix (head ++ out) (head ++ raw)
-longer_prefix head raw out f = record {
-  count = length head + f.count;
-  within = (let s = f.within in omega (arith, s, length-append head raw));
-  is = ap (λ (zs : List ℕ). head ++ zs) f.is ∙ sym (take-append-add head raw f.count);
-}
+longer_front : (head raw out : List ℕ) → AddsFront [] out raw → AddsFront [] (head ++ out) (head ++ raw)
+longer_front head raw out (n, h, e) = (
+  length head + n,
+  omega (arith, h, length-append head raw),
+  ap (λ (zs : List ℕ). head ++ zs) e ∙ sym (take-append-add head raw n),
+)
 
 by_body : (m : Message) (came rest out back : List ℕ) (how : Sent) → SendsBy (bare m.rule) came rest out back how → SendsBy m came rest (m.head ++ out) (interim m) how
 by_body m came rest out back sent.Whole (e, o, b, r) = (e, ap (λ (zs : List ℕ). m.head ++ zs) o, refl, r)
@@ -115,9 +114,9 @@ by_body m came rest out back sent.Cut (e, o, b, r) = (e, ap (λ (zs : List ℕ).
 by_body m came rest out back sent.Misframed (e, o, b, r) = (e, ap (λ (zs : List ℕ). m.head ++ zs) o, refl, r)
 by_body m came rest out back sent.ReadFailed (e, o, b) = (e, ap (λ (zs : List ℕ). m.head ++ zs) o, refl)
 by_body m came rest out back sent.LinkFailed (f, b) = (longer m.head (body_in m came).raw out f, sym (behind_whole m out))
-by_body m came rest out back sent.WriteFailed (o, f) = (let none = f.shorter in absurd (omega (arith, none)))
+by_body m came rest out back sent.WriteFailed (o, f) = (let none = f.1 in absurd (omega (arith, none)))
 by_body m came rest out back sent.NoMemory (f, b) =
-    (longer_prefix m.head (body_in m came).raw out f, rw (behind_whole m out) (record { count = length (interim m); within = omega arith; is = sym (take-length (interim m)) }))
+    (longer_front m.head (body_in m came).raw out f, rw (behind_whole m out) ((length (interim m), (omega arith), sym (take-length (interim m)))))
 
 -- the body was sent behind the head and the interim head
 pub head_and_body : (m : Message) (left left' link link1 link2 taken taken' : List ℕ) (how : Sent) → link1 ≡ link ++ m.head → taken' ≡ taken ++ interim m → Sends (bare m.rule) left left' link1 link2 [] [] how

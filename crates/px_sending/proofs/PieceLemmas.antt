@@ -4,7 +4,7 @@ use Rattle.std.proofs.lemmas.Bool.Decides.{nat_tests}
 use Rattle.std.proofs.lemmas.List.{append-nil, drop-append-le, take-append-le, take_all}
 use Rattle.std.proofs.Math.Seq.{take-append_seam, take-append-add, drop-append_seam, drop-append-add}
 use Rattle.px_base.specs.Sources.{SourceState, SourceGoesOn}
-use Rattle.px_base.specs.Sinks.{SinkState, SinkGoesOn, AddsFront}
+use Rattle.px_base.specs.Sinks.{SinkState, SinkGoesOn, AddsFront, AddsProperFront}
 use Rattle.px_base.specs.declared.faults.SinkFault.{SinkFault}
 use Rattle.px_base.specs.declared.faults.SinkFault.TheVariants as fault
 use Rattle.px_framing.specs.Body.{Part, nothing, first_bytes, at_end}
@@ -17,8 +17,7 @@ use Rattle.px_framing.specs.declared.rules.BodyRule.{BodyRule}
 use Rattle.px_framing.specs.declared.rules.BodyRule.TheVariants as rule
 use Rattle.px_framing.specs.declared.stages.Stage.{Stage}
 use Rattle.px_framing.specs.declared.stages.Stage.TheVariants as stage
-use Rattle.px_sending.specs.declared.messages.Sent.TheVariants as sent
-use Rattle.px_sending.specs.Prefixes.{IsPrefix}
+use Rattle.px_notes.specs.declared.messages.Sent.TheVariants as sent
 use Rattle.px_sending.specs.Sends.{Sends, body_in, end_of_body, behind_body, interim_behind}
 use Rattle.px_sending.specs.Pieces.{PassesPiece, StopsInPiece, PieceStopsBy, SentSoFar, bare, link_refused, sent_at}
 
@@ -133,11 +132,11 @@ front_of put more tail n h =
 long_of : (put more tail : List ℕ) (n : ℕ) → n < length more → length put + n < length ((put ++ more) ++ tail)
 long_of put more tail n h = omega (arith, h, length-append put more, length-append (put ++ more) tail)
 
-prefix_of : (put tail : List ℕ) → IsPrefix put (put ++ tail)
-prefix_of put tail = record { count = length put; within = omega (arith, length-append put tail); is = sym (take-append_seam put tail) }
+front_put : (put tail : List ℕ) → AddsFront [] put (put ++ tail)
+front_put put tail = (length put, omega (arith, length-append put tail), sym (take-append_seam put tail))
 
-no_prefix : (bytes : List ℕ) → IsPrefix [] bytes
-no_prefix bytes = record { count = 0; within = omega arith; is = refl }
+no_front : (bytes : List ℕ) → AddsFront [] [] bytes
+no_front bytes = (0, (omega arith), refl)
 
 no_interim : (r : BodyRule) (out : List ℕ) → [] ≡ interim_behind (bare r) out
 no_interim r out = by (nat_le 0 (length out)) []
@@ -155,7 +154,7 @@ sent_wanting r stream rest rest' link link' reading h = record {
   sent = h.sent;
   back = [];
   returned = refl;
-  by = (subst (λ (zs : List ℕ). IsPrefix h.put zs) (sym (raw_of r stream h.fed rest h.put h.plain (length h.fed) reading h.read h.after)) (prefix_of h.put (goes_on reading rest).raw), no_prefix _);
+  by = (subst (λ (zs : List ℕ). AddsFront [] h.put zs) (sym (raw_of r stream h.fed rest h.put h.plain (length h.fed) reading h.read h.after)) (front_put h.put (goes_on reading rest).raw), no_front _);
 }
 
 -- a write was refused
@@ -179,11 +178,11 @@ sent_some r stream ahead left rest link link1 link2 f old h k = by f (k h.fed h.
       back = [];
       returned = refl;
       by = (
-        record {
-          count = length h.put + x.front.0;
-          shorter = rw (raw_is x) (long_of h.put x.more (goes_on x.reading left).raw x.front.0 x.front.1);
-          is = rw (raw_is x) (front_of h.put x.more (goes_on x.reading left).raw x.front.0 x.front.1);
-        },
+        (
+          length h.put + x.front.0,
+          rw (raw_is x) (long_of h.put x.more (goes_on x.reading left).raw x.front.0 x.front.1),
+          rw (raw_is x) (front_of h.put x.more (goes_on x.reading left).raw x.front.0 x.front.1),
+        ),
         no_interim r (h.put ++ take x.front.0 x.more),
       );
     }
@@ -195,12 +194,12 @@ sent_some r stream ahead left rest link link1 link2 f old h k = by f (k h.fed h.
       back = [];
       returned = refl;
       by = (
-        record {
-          count = length h.put + x.front.0;
-          within = (let long = long_of h.put x.more (goes_on x.reading left).raw x.front.0 x.front.1 in rw (raw_is x) (omega (arith, long)));
-          is = rw (raw_is x) (front_of h.put x.more (goes_on x.reading left).raw x.front.0 x.front.1);
-        },
-        no_prefix _,
+        (
+          length h.put + x.front.0,
+          (let long = long_of h.put x.more (goes_on x.reading left).raw x.front.0 x.front.1 in rw (raw_is x) (omega (arith, long))),
+          rw (raw_is x) (front_of h.put x.more (goes_on x.reading left).raw x.front.0 x.front.1),
+        ),
+        no_front _,
       );
     }
     by fault.Mem (inr e) = rw e (sent_wanting r stream (ahead ++ left) rest link link1 old h)
@@ -242,7 +241,7 @@ passes_piece r fed put plain piece piece' line data_more link link' whole used s
     record { more = line ++ take whole piece; data_more = data_more; used = used; uses = u; left = e; sent = w; after = a }
 
 -- a write was refused in it
-pub stops_in_piece : (r : BodyRule) (fed put plain piece line data_more link link' : List ℕ) (whole used : ℕ) (f : SinkFault) (new : Reading) → AddsFront link link' (line ++ take whole piece)
+pub stops_in_piece : (r : BodyRule) (fed put plain piece line data_more link link' : List ℕ) (whole used : ℕ) (f : SinkFault) (new : Reading) → AddsProperFront link link' (line ++ take whole piece)
     → ReaderAfter r (fed ++ piece) (put ++ (line ++ take whole piece)) (plain ++ data_more) (length fed + used) new → PieceStopsBy r fed put plain piece link link' f
 stops_in_piece r fed put plain piece line data_more link link' whole used f new w a = by f
   where
@@ -254,11 +253,11 @@ stops_in_piece r fed put plain piece line data_more link link' whole used f new 
     by fault.Mem = inl stops
 
 -- a front of what comes first is a front of all
-pub first_front : (old new xs ys : List ℕ) → AddsFront old new xs → AddsFront old new (xs ++ ys)
+pub first_front : (old new xs ys : List ℕ) → AddsProperFront old new xs → AddsProperFront old new (xs ++ ys)
 first_front old new xs ys (n, h, e) = (n, omega (arith, h, length-append xs ys), e ∙ ap (λ (zs : List ℕ). old ++ zs) (sym (take-append-le n xs ys (omega (arith, h)))))
 
 -- and so is what comes first with a front of what follows
-pub second_front : (old mid new xs ys : List ℕ) → mid ≡ old ++ xs → AddsFront mid new ys → AddsFront old new (xs ++ ys)
+pub second_front : (old mid new xs ys : List ℕ) → mid ≡ old ++ xs → AddsProperFront mid new ys → AddsProperFront old new (xs ++ ys)
 second_front old mid new xs ys w (n, h, e) =
     (length xs + n, omega (arith, h, length-append xs ys), e ∙ ap (λ (zs : List ℕ). zs ++ take n ys) w ∙ append_assoc old xs (take n ys) ∙ ap (λ (zs : List ℕ). old ++ zs) (sym (take-append-add xs ys n)))
 

@@ -1,4 +1,3 @@
 pub mod Heads
-pub mod Prefixes
 pub mod Sends
 pub mod Pieces

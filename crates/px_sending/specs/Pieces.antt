@@ -1,6 +1,6 @@
 -- Sending a body: what was sent behind each piece.
 use Rattle.std.specs.Prelude.{◌≡◌, ◌⊎◌, ℕ, ◌+◌, List, [], ◌++◌, length, drop, false, IsTrue, Result, MatchResult}
-use Rattle.px_base.specs.Sinks.{SinkState, SinkGoesOn, AddsFront}
+use Rattle.px_base.specs.Sinks.{SinkState, SinkGoesOn, AddsProperFront}
 use Rattle.px_base.specs.Sources.{SourceState, SourceGoesOn}
 use Rattle.px_base.specs.Causes.{Rose}
 use Rattle.px_base.specs.declared.faults.SinkFault.{SinkFault}
@@ -9,9 +9,9 @@ use Rattle.px_framing.specs.Reading.{ReaderAfter, Reading, Uses}
 use Rattle.px_framing.specs.declared.places.State.{State}
 use Rattle.px_framing.specs.declared.places.State.TheVariants as state
 use Rattle.px_framing.specs.declared.rules.BodyRule.{BodyRule}
-use Rattle.px_sending.specs.declared.messages.Message.{Message}
-use Rattle.px_sending.specs.declared.messages.Sent.{Sent}
-use Rattle.px_sending.specs.declared.messages.Sent.TheVariants as sent
+use Rattle.px_notes.specs.declared.messages.Message.{Message}
+use Rattle.px_notes.specs.declared.messages.Sent.{Sent}
+use Rattle.px_notes.specs.declared.messages.Sent.TheVariants as sent
 
 -- the body of a message alone
 abbrev pub bare : BodyRule → Message
@@ -28,13 +28,13 @@ pub record PassesPiece (rule : BodyRule) (fed put plain ahead ahead' link link' 
   pub sent : link' ≡ link ++ more
   pub after : ReaderAfter rule (fed ++ ahead) (put ++ more) (plain ++ data_more) (length fed + used) r
 
--- a write was refused: a proper prefix of what the piece settles was sent
+-- a write was refused: a proper front of what the piece settles was sent
 pub record StopsInPiece (rule : BodyRule) (fed put plain ahead link link' : List ℕ) : Type 0 where
   pub more : List ℕ
   pub data_more : List ℕ
   pub used : ℕ
   pub reading : Reading
-  pub front : AddsFront link link' more
+  pub front : AddsProperFront link link' more
   pub after : ReaderAfter rule (fed ++ ahead) (put ++ more) (plain ++ data_more) (length fed + used) reading
 
 -- why a piece wasn't passed on whole; for want of memory nothing of it may have been sent

@@ -1,15 +1,15 @@
 -- Sending: what goes to the next server and to the client for a message, by what came of it.
 use Rattle.std.specs.Prelude.{◌≡◌, ℕ, Bool, true, false, if◌then◌else◌, nat_le, List, [], ◌++◌, length, drop, codes, MatchBool}
 use Rattle.px_base.specs.Causes.{Rose}
+use Rattle.px_base.specs.Sinks.{AddsFront, AddsProperFront}
 use Rattle.px_streams.specs.Streams.{IsStream}
 use Rattle.px_framing.specs.Body.{Part, at_end}
 use Rattle.px_framing.specs.Reading.{first, goes_on}
 use Rattle.px_framing.specs.declared.places.State.{State}
 use Rattle.px_framing.specs.declared.places.State.TheVariants as state
-use Rattle.px_sending.specs.declared.messages.Message.{Message}
-use Rattle.px_sending.specs.declared.messages.Sent.{Sent}
-use Rattle.px_sending.specs.declared.messages.Sent.TheVariants as sent
-use Rattle.px_sending.specs.Prefixes.{IsProperFront, IsPrefix}
+use Rattle.px_notes.specs.declared.messages.Message.{Message}
+use Rattle.px_notes.specs.declared.messages.Sent.{Sent}
+use Rattle.px_notes.specs.declared.messages.Sent.TheVariants as sent
 
 -- ---- what is due
 
@@ -52,9 +52,9 @@ SendsBy m stream rest out back sent.Misframed =
     (end_of_body m stream ≡ state.Misframed) × (out ≡ all_of m stream) × (back ≡ interim m) × (rest ≡ behind_body m stream)
 SendsBy m stream rest out back sent.ReadFailed =
     ((body_in m stream).state ≡ state.More) × (out ≡ all_of m stream) × (back ≡ interim m)
-SendsBy m stream rest out back sent.LinkFailed = IsProperFront out (all_of m stream) × (back ≡ interim_behind m out)
-SendsBy m stream rest out back sent.WriteFailed = (out ≡ m.head) × IsProperFront back (interim m)
-SendsBy m stream rest out back sent.NoMemory = IsPrefix out (all_of m stream) × IsPrefix back (interim_behind m out)
+SendsBy m stream rest out back sent.LinkFailed = AddsProperFront [] out (all_of m stream) × (back ≡ interim_behind m out)
+SendsBy m stream rest out back sent.WriteFailed = (out ≡ m.head) × AddsProperFront [] back (interim m)
+SendsBy m stream rest out back sent.NoMemory = AddsFront [] out (all_of m stream) × AddsFront [] back (interim_behind m out)
 
 abbrev pub is_link_failed : Sent → Bool
 is_link_failed sent.LinkFailed = true

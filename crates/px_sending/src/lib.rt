@@ -3,10 +3,8 @@
 #![tactic(auto)]
 
 mod heads;
-mod messages;
 mod pieces;
 mod sends;
 
 pub use heads::{NextHead, expects_continue, next_head};
-pub use messages::{Message, Sent};
 pub use sends::send;

@@ -8,9 +8,9 @@ ghost use Rattle.px_framing.specs.declared.rules.BodyRule.{BodyRule as Rule};
 ghost use Rattle.px_sending.specs.Sends.{RoseWhere, Sends, is_link_failed, is_read_failed, is_write_failed};
 ghost use Rattle.px_sending.specs.Pieces.{PassesPiece, PieceCause, PieceStopsBy, bare, link_refused as link_refused_spec, sent_at};
 
-use crate::messages::Sent;
 use px_base::{Mem, Sink, SinkFault, Source, Text, write_all};
 use px_framing::{BodyReader, BodyRule, State};
+use px_notes::Sent;
 use px_streams::{Ahead, ReadFault, fill};
 use std::alloc::Global;
 
@@ -39,7 +39,7 @@ fn body_sent(state: State) -> Sent
     }
 }
 
-/// Writes bytes and others behind them. A refusal means that a proper prefix of them was taken.
+/// Writes bytes and others behind them. A refusal means that a proper front of them was taken.
 fn write_both<P: Sink>(link_out: &mut P, first: &[u8], second: &[u8]) -> Result<(), SinkFault>
     ensures bytes { AddsAll (P.state link_out.old) (P.state link_out.new) result (first.now ++ second.now) }
     ensures cause { PieceCause (P.state link_out.old) (P.state link_out.new) result }

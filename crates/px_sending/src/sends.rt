@@ -4,9 +4,9 @@ ghost use Rattle.px_base.specs.Sinks.{SinkGoesOn};
 ghost use Rattle.px_base.specs.Sources.{SourceGoesOn};
 ghost use Rattle.px_sending.specs.Sends.{RoseWhere, Sends, interim_for, is_link_failed, is_read_failed, is_write_failed};
 
-use crate::messages::{Message, Sent};
 use crate::pieces::send_body;
 use px_base::{Sink, SinkFault, Source, write_all};
+use px_notes::{Message, Sent};
 use px_streams::Ahead;
 use std::alloc::Global;
 

@@ -1,51 +1,31 @@
 -- What one turn of a session adds.
-use Rattle.std.proofs.Common.{rules, ◌≡◌, ℕ, Bool, true, false, ◌+◌, ◌<◌, List, [], ◌∷◌, ◌++◌, length, map, Option, None, Some, sym, ap, ◌∙◌, refl, inl, inr, arith, add-one}
+use Rattle.std.proofs.Common.{◌≡◌, ℕ, Bool, true, false, ◌+◌, ◌<◌, ◌==◌, not, IsTrue, List, [], ◌∷◌, ◌++◌, length, map, Option, None, Some, Ok, Err, sym, ap, subst, ◌∙◌, refl, inl, inr, arith, add-one, length-append}
+use Rattle.std.specs.Prelude.{if◌then◌else◌}
 use Rattle.std.proofs.lemmas.List.{append-nil, map-append}
-use Rattle.px_base.proofs.SinkLemmas.{sink_goes_on}
-use Rattle.px_base.specs.Sources.{SourceState, SourceGoesOn}
-use Rattle.px_base.specs.Sinks.{SinkState, SinkGoesOn}
-use Rattle.px_base.specs.Dials.{DialerState, DialerGoesOn}
+use Rattle.px_base.specs.Sources.{SourceGoesOn}
+use Rattle.px_base.specs.Sinks.{SinkState, SinkGoesOn, Finishes}
 use Rattle.px_base.specs.Moments.{ClockState, ClockGoesOn}
-use Rattle.px_judging.specs.declared.readings.HeadSeen.{HeadSeen}
-use Rattle.px_exchange.specs.declared.notes.ExchangeNote.{ExchangeNote}
-use Rattle.px_serve.specs.declared.ends.SessionEnd.{SessionEnd}
-use Rattle.px_serve.specs.declared.ends.SessionEnd.TheVariants as end
-use Rattle.px_serve.specs.declared.ends.TheConstants.{REQUEST_LIMIT}
+use Rattle.px_streams.specs.Feeds.{FeedState, bytes_behind}
+use Rattle.px_ends.specs.Ends.{EndsState, EndsGoOn, Tell, client_stream}
+use Rattle.px_ends.proofs.EndLemmas.{ends_go_on, ends_same, tell_on}
+use Rattle.px_base.proofs.SinkLemmas.{sink_goes_on}
 use Rattle.px_head.specs.Blocks.{head_end}
 use Rattle.px_head.specs.declared.TheConstants.{HEAD_LIMIT}
 use Rattle.px_head.specs.declared.blocks.HeadEnd.TheVariants as head
-use Rattle.std.specs.Prelude.{if◌then◌else◌}
-use Rattle.px_serve.specs.Ends.{end_after, end_of_bytes, only_empty}
-use Rattle.px_serve.specs.Histories.{Begun, Looks, Noted, note_of}
-use Rattle.px_serve.specs.Sessions.{Caller, Objects, Lasts, HeadOf, EndsBetween, Tell, BeginsExchange, SessionTurns, Turned, Serves, Reaches, begin, session_state, is_last_request, SessionStep}
+use Rattle.px_notes.specs.declared.endings.After.{After}
+use Rattle.px_notes.specs.declared.endings.After.TheVariants as after
+use Rattle.px_notes.specs.declared.endings.Ending.{Ending}
+use Rattle.px_notes.specs.declared.sessions.ExchangeNote.{ExchangeNote}
+use Rattle.px_notes.specs.declared.sessions.SessionEnd.{SessionEnd}
+use Rattle.px_notes.specs.declared.sessions.SessionEnd.TheVariants as end
+use Rattle.px_judging.specs.declared.readings.HeadSeen.{HeadSeen}
+use Rattle.px_exchange.specs.Causes.{ClientReadCause, StaysOpenAfter, WriteCauseAfter}
+use Rattle.px_serve.specs.declared.ends.TheConstants.{REQUEST_LIMIT}
+use Rattle.px_serve.specs.Answering.{AnswersBetween}
+use Rattle.px_serve.specs.Ends.{EndCause, Faults, SessionStaysOpen, TurnCause, TurnStaysOpen, end_after, end_by, end_of_bytes, faults_of, is_tunnel, only_empty}
+use Rattle.px_serve.specs.Histories.{Begun, Looks, Noted, TakesOne, note_of}
+use Rattle.px_serve.specs.Sessions.{EndsBetween, HeadOf, Reaches, TakesHead, Runs, Serves, SessionStep, SessionTurns, Turned, session_caller, given_of, is_last_request, session_state}
 use Rattle.px_serve.proofs.HistoryLemmas.{noted_more, noted_none, none_noted}
-
--- a turn with one exchange; i1 is the client's source behind the head
-pub turned_one : {caller : Caller} {n : ℕ} {looks looks' : Looks} {i i1 i' : SourceState} {ahead ahead' : List ℕ} {old new : Objects} {notes notes' : List ExchangeNote} {e : Option SessionEnd} (seen : HeadSeen) (rest : List ℕ)
-    → SourceGoesOn i i1 → (Tell i old → HeadOf (ahead ++ i.left) seen rest)
-    → BeginsExchange caller n seen i1 rest (ahead' ++ i'.left) looks looks' old new notes notes' e → Turned caller n looks looks' i i' ahead ahead' old new notes notes' e
-turned_one {caller = caller} {n = n} {looks = looks} {looks' = looks'} {i = i} {i' = i'} {ahead = ahead} {ahead' = ahead'} {old = old} {new = new} {e = e} seen rest on head b = record {
-  begun = b.begun ∷ [];
-  noted = b.noted;
-  history = λ first clock before h. noted_more first looks looks' clock old.clock new.clock before b.begun b.takes h;
-  turns = λ t before. by e b.ends (record { seen = seen; rest = rest; head = head t; noted = refl; answers = b.answers (on.tells_same ∙ t.client_in) t.client_out t.dialer });
-}
-  where
-    by : {before : List Begun} (end : Option SessionEnd) → end ≡ end_after (is_last_request n) b.begun.concluded
-        → SessionStep caller n (session_state (ahead ++ i.left) old before) (session_state (ahead' ++ i'.left) new (before ++ b.begun ∷ [])) b.begun
-        → SessionTurns caller n (session_state (ahead ++ i.left) old before) (session_state (ahead' ++ i'.left) new (before ++ b.begun ∷ [])) i'.left end
-    by None is step = record { begun = b.begun; step = step; goes_on = sym is }
-    by (Some end) is step = inr (record { begun = b.begun; step = step; ends = sym is })
-
--- a turn that ends the session before an exchange
-pub turned_none : {caller : Caller} {n : ℕ} {looks : Looks} {i i' : SourceState} {ahead ahead' : List ℕ} {o : Objects} {notes : List ExchangeNote} {e : SessionEnd}
-    → (Tell i o → EndsBetween (ahead ++ i.left) i'.left e) → Turned caller n looks looks i i' ahead ahead' o o notes notes (Some e)
-turned_none {looks = looks} {o = o} {notes = notes} why = record {
-  begun = [];
-  noted = sym (append-nil notes);
-  history = λ first clock before h. noted_none first looks clock o.clock before h;
-  turns = λ t before. inl (record { undialled = refl; unreturned = refl; unbegun = append-nil before; why = why t });
-}
 
 -- the client's bytes ended
 pub ends_at : (stream ahead left : List ℕ) → head_end HEAD_LIMIT stream ≡ head.NotYet → ahead ++ left ≡ stream → left ≡ [] → EndsBetween stream left (end_of_bytes ahead)
@@ -58,114 +38,247 @@ ends_at stream ahead left none e nothing = by (only_empty ahead) refl
     by true k = rw k (none, rw same k)
     by false k = rw k (none, rw same k)
 
+-- neither end failed
+pub calm : (old new : EndsState) → new.client.source.faults ≡ old.client.source.faults → new.client_out.faults ≡ old.client_out.faults → faults_of new ≡ faults_of old
+calm old new i o = rw (i, o) refl
+
+-- the bytes ended quietly
+pub end_cause : (old new : Faults) (bytes : List ℕ) → new ≡ old → EndCause old new (end_of_bytes bytes)
+end_cause old new bytes e = by (only_empty bytes)
+  where
+    by : (b : Bool) → EndCause old new (if b then end.Ended else end.Cut)
+    by true = e
+    by false = e
+
+-- the faults of an exchange, by how it was concluded
+cause_by : (old new : EndsState) (last tunnel : Bool) (x : Ending) (a : After) → ClientReadCause old.client.source new.client.source a → WriteCauseAfter old.client_out new.client_out x a
+    → TurnCause (faults_of old) (faults_of new) (end_by last tunnel a)
+cause_by old new true tunnel x after.Keep i o = calm old new i o
+cause_by old new false tunnel x after.Keep i o = calm old new i o
+cause_by old new true true x after.Close i o = calm old new i o
+cause_by old new true false x after.Close i o = calm old new i o
+cause_by old new false tunnel x after.Close i o = calm old new i o
+cause_by old new last tunnel x after.Cut i o = calm old new i o
+cause_by old new last tunnel x after.ReadFailed i o = i
+cause_by old new last tunnel x after.WriteFailed i o = (i, o)
+cause_by old new last tunnel x after.NoMemory i o = tt
+
+no : true ≡ false → ⊥
+no h = cc
+
+-- whether the client's sink is as open behind it
+open_by : (old new : SinkState) (last : Bool) (x : Ending) (a : After) → StaysOpenAfter old new x a → TurnStaysOpen old new (end_by last (is_tunnel x) a)
+open_by old new true x after.Keep h = h
+open_by old new false x after.Keep h = h
+open_by old new true x after.Close h = by (is_tunnel x) refl
+  where
+    by : (t : Bool) → is_tunnel x ≡ t → SessionStaysOpen old new (if not t then end.Spent else end.Closed)
+    by true k = tt
+    by false k = h (λ e. no (rw e at k))
+open_by old new false x after.Close h = tt
+open_by old new last x after.Cut h = h
+open_by old new last x after.ReadFailed h = tt
+open_by old new last x after.WriteFailed h = tt
+open_by old new last x after.NoMemory h = tt
+
+-- a session goes on only behind a request that wasn't the last
+goes_on_below : (n : ℕ) (tunnel : Bool) (a : After) → n < REQUEST_LIMIT → end_by (is_last_request n) tunnel a ≡ None → n + 1 < REQUEST_LIMIT
+goes_on_below n tunnel after.Keep h e = by (is_last_request n) refl e
+  where
+    by : (b : Bool) → (n + 1 == REQUEST_LIMIT) ≡ b → (if b then Some end.Spent else None) ≡ None → n + 1 < REQUEST_LIMIT
+    by true k f = absurd (cc)
+    by false k f = grind (arith, h, k)
+goes_on_below n tunnel after.Close h e = absurd (cc)
+goes_on_below n tunnel after.Cut h e = absurd (cc)
+goes_on_below n tunnel after.ReadFailed h e = absurd (cc)
+goes_on_below n tunnel after.WriteFailed h e = absurd (cc)
+goes_on_below n tunnel after.NoMemory h e = absurd (cc)
+
+-- an end at which nothing was done with the client's sink
+stays_open : (o : SinkState) (e : SessionEnd) → SessionStaysOpen o o e
+stays_open o end.Ended = refl
+stays_open o end.Cut = refl
+stays_open o end.Spent = refl
+stays_open o end.Closed = tt
+stays_open o end.ReadFailed = tt
+stays_open o end.WriteFailed = tt
+stays_open o end.NoMemory = tt
+
+-- a turn with one exchange: k is the client behind the request's head, and c the clock behind its moment
+turned_behind : (tags : List (List ℕ)) (looks looks' : Looks) (old new : EndsState) (k : FeedState) (c : ClockState) (seen : HeadSeen) (b : Begun) (notes notes' : List ExchangeNote)
+    → length notes < REQUEST_LIMIT
+    → (IsTrue old.client.source.tells → HeadOf (client_stream old) seen (bytes_behind k))
+    → k.source.faults ≡ old.client.source.faults → SourceGoesOn old.client.source k.source
+    → TakesOne looks looks' old.clock c b → ClockGoesOn old.clock c
+    → AnswersBetween (given_of (session_caller tags old) (length notes) seen b) (record old { client = k; clock = c }) new b.concluded
+    → notes' ≡ notes ++ note_of b ∷ []
+    → Turned tags looks looks' old new notes notes' (end_after (is_last_request (length notes)) b.concluded)
+turned_behind tags looks looks' old new k c seen b notes notes' limit found unfailed on takes clock_on x noted = record {
+  begun = b ∷ [];
+  noted = noted;
+  history = λ first clock before h. noted_more first looks looks' clock old.clock new.clock before b (rw x.clock_same takes) h;
+  turns = λ t before. by before (end_after (is_last_request n) b.concluded) refl (step t before);
+  one_more = λ _. ap (λ (zs : List ExchangeNote). length zs) noted ∙ length-append notes (note_of b ∷ []);
+  below = goes_on_below n (is_tunnel b.concluded.ending) b.concluded.after limit;
+  cause = rw (sym quiet) (cause_by mid new (is_last_request n) (is_tunnel b.concluded.ending) b.concluded.ending b.concluded.after x.read_cause x.write_cause);
+  still_open = open_by old.client_out new.client_out (is_last_request n) b.concluded.ending b.concluded.after x.still_open;
+  goes_on = ends_go_on went x.goes_on;
+}
+  where
+    n : ℕ
+    n = length notes
+
+    mid : EndsState
+    mid = record old { client = k; clock = c }
+
+    quiet : faults_of mid ≡ faults_of old
+    quiet = calm old mid unfailed refl
+
+    went : EndsGoOn old mid
+    went = let same = ends_same old in record { client = on; client_out = same.client_out; dialer = same.dialer; clock = clock_on; peer_same = refl }
+
+    step : Tell old → (before : List Begun) → SessionStep (session_caller tags old) n (session_state old before) (session_state new (before ++ b ∷ [])) b
+    step t before = record { seen = seen; rest = bytes_behind k; head = found t.client; noted = refl; answers = x.answers (tell_on went t) }
+
+    by : (before : List Begun) (e : Option SessionEnd) → e ≡ end_after (is_last_request n) b.concluded
+        → SessionStep (session_caller tags old) n (session_state old before) (session_state new (before ++ b ∷ [])) b
+        → SessionTurns (session_caller tags old) n (session_state old before) (session_state new (before ++ b ∷ [])) new.client.source.left e
+    by before None is s = record { begun = b; step = s; goes_on = sym is }
+    by before (Some e) is s = inr (record { begun = b; step = s; ends = sym is })
+
+-- the same: e1 are the ends behind the request's head
+pub turned_one : (tags : List (List ℕ)) (looks looks' : Looks) (old e1 new : EndsState) (c : ClockState) (seen : HeadSeen) (b : Begun) (notes notes' : List ExchangeNote)
+    → length notes < REQUEST_LIMIT → TakesHead old e1 (Ok seen) → TakesOne looks looks' e1.clock c b → ClockGoesOn e1.clock c
+    → AnswersBetween (given_of (session_caller tags e1) (length notes) seen b) (record e1 { clock = c }) new b.concluded
+    → notes' ≡ notes ++ note_of b ∷ []
+    → Turned tags looks looks' old new notes notes' (end_after (is_last_request (length notes)) b.concluded)
+turned_one tags looks looks' old e1 new c seen b notes notes' limit h takes clock_on x noted =
+    turned_behind tags looks looks' old new e1.client c seen b notes notes' limit h.found (ap (λ (f : Faults). f.source) h.cause) h.goes_on
+    (subst (λ (t : ClockState). TakesOne looks looks' t c b) clock1 takes) (subst (λ (t : ClockState). ClockGoesOn t c) clock1 clock_on)
+    (subst (λ (e : EndsState). AnswersBetween (given_of (session_caller tags e) (length notes) seen b) (record e { client = e1.client; clock = c }) new b.concluded) h.rest x) noted
+  where
+    clock1 : e1.clock ≡ old.clock
+    clock1 = ap (λ (e : EndsState). e.clock) h.rest
+
+-- a turn that ends the session before an exchange
+none_behind : (tags : List (List ℕ)) (looks : Looks) (old : EndsState) (k : FeedState) (notes : List ExchangeNote) (e : SessionEnd)
+    → (IsTrue old.client.source.tells → EndsBetween (client_stream old) k.source.left e) → EndCause (faults_of old) (faults_of (record old { client = k })) e → SourceGoesOn old.client.source k.source
+    → Turned tags looks looks old (record old { client = k }) notes notes (Some e)
+none_behind tags looks old k notes e why cause on = record {
+  begun = [];
+  noted = sym (append-nil notes);
+  history = λ first clock before h. noted_none first looks clock old.clock before h;
+  turns = λ t before. inl (record { undialled = refl; unreturned = refl; unbegun = append-nil before; why = why t.client });
+  one_more = λ x. absurd (cc);
+  below = λ x. absurd (cc);
+  cause = cause;
+  still_open = stays_open old.client_out e;
+  goes_on = let same = ends_same old in record { client = on; client_out = same.client_out; dialer = same.dialer; clock = same.clock; peer_same = refl };
+}
+
+pub turned_none : (tags : List (List ℕ)) (looks : Looks) (old new : EndsState) (notes : List ExchangeNote) (e : SessionEnd) → TakesHead old new (Err e) → Turned tags looks looks old new notes notes (Some e)
+turned_none tags looks old new notes e h =
+    subst (λ (n : EndsState). Turned tags looks looks old n notes notes (Some e)) (sym h.rest)
+    (none_behind tags looks old new.client notes e h.found (subst (λ (n : EndsState). EndCause (faults_of old) (faults_of n) e) h.rest h.cause) h.goes_on)
+
 -- what the loop of a session keeps, behind so many exchanges
-pub record Serving (caller : Caller) (n : ℕ) (first last : Looks) (i i' : SourceState) (ahead : List ℕ) (old now : Objects) (notes : List ExchangeNote) : Type 0 where
-  pub number : n < REQUEST_LIMIT
-  pub counted : length notes ≡ n
+pub record Serving (tags : List (List ℕ)) (first last : Looks) (old now : EndsState) (notes : List ExchangeNote) : Type 0 where
+  pub below : length notes < REQUEST_LIMIT
   pub begun : List Begun
   pub notes_are : notes ≡ map note_of begun
   pub noted : Noted first last old.clock now.clock begun
-  pub reached : Tell i old → Reaches caller (begin i.left old.dialer old.client_out.taken) n (session_state (ahead ++ i'.left) now begun)
-  pub unfailed_in : i'.faults ≡ i.faults
-  pub unfailed_out : now.client_out.faults ≡ old.client_out.faults
-  pub open_ : now.client_out.finished ≡ old.client_out.finished
-  pub in_goes_on : SourceGoesOn i i'
-  pub lasts : Lasts old now
-
-dialer_goes_on : {a b c : DialerState} → DialerGoesOn a b → DialerGoesOn b c → DialerGoesOn a c
-dialer_goes_on h k = search rules
-
-clock_goes_on : {a b c : ClockState} → ClockGoesOn a b → ClockGoesOn b c → ClockGoesOn a c
-clock_goes_on h k = record { tells_same = k.tells_same ∙ h.tells_same; given_kept = λ g. k.given_kept (h.given_kept g) }
-
-pub lasts_on : {a b c : Objects} → Lasts a b → Lasts b c → Lasts a c
-lasts_on h k = record { client_out = sink_goes_on h.client_out k.client_out; dialer = dialer_goes_on h.dialer k.dialer; clock = clock_goes_on h.clock k.clock }
-
-pub source_goes_on : {a b c : SourceState} → SourceGoesOn a b → SourceGoesOn b c → SourceGoesOn a c
-source_goes_on h k = search rules
-
-tells_on : {i i' : SourceState} {old now : Objects} → SourceGoesOn i i' → Lasts old now → Tell i old → Tell i' now
-tells_on h l t = record { client_in = h.tells_same ∙ t.client_in; client_out = l.client_out.tells_same ∙ t.client_out; dialer = l.dialer.tells_same ∙ t.dialer }
+  pub reached : Tell old → Reaches (session_caller tags old) (session_state old []) (length notes) (session_state now begun)
+  pub unfailed : faults_of now ≡ faults_of old
+  pub still_open : now.client_out.finished ≡ old.client_out.finished
+  pub goes_on : EndsGoOn old now
 
 notes_on : (notes notes' : List ExchangeNote) (begun more : List Begun) → notes ≡ map note_of begun → notes' ≡ notes ++ map note_of more → notes' ≡ map note_of (begun ++ more)
 notes_on notes notes' begun more e k = k ∙ ap (λ (ns : List ExchangeNote). ns ++ map note_of more) e ∙ sym (map-append note_of begun more)
 
-source_same : (i : SourceState) → SourceGoesOn i i
-source_same i = search rules
-
-sink_same : (o : SinkState) → SinkGoesOn o o
-sink_same o = search rules
-
-dialer_same : (d : DialerState) → DialerGoesOn d d
-dialer_same d = search rules
-
-clock_same : (t : ClockState) → ClockGoesOn t t
-clock_same t = search rules
-
 -- before the first request
-pub serving_none : {caller : Caller} {looks : Looks} {i : SourceState} {o : Objects} (notes : List ExchangeNote) (ahead : List ℕ) → 0 < REQUEST_LIMIT → notes ≡ [] → ahead ≡ [] → Serving caller 0 looks looks i i ahead o o notes
-serving_none {looks = looks} {i = i} {o = o} notes ahead some e nothing = record {
-  number = some;
-  counted = ap length e;
+pub serving_none : {tags : List (List ℕ)} {looks : Looks} {old : EndsState} {notes : List ExchangeNote} → notes ≡ [] → Serving tags looks looks old old notes
+serving_none {looks = looks} {old = old} e = rw e (record {
+  below = omega arith;
   begun = [];
-  notes_are = e;
-  noted = none_noted looks o.clock;
-  reached = λ t. rw nothing refl;
-  unfailed_in = refl;
-  unfailed_out = refl;
-  open_ = refl;
-  in_goes_on = source_same i;
-  lasts = record { client_out = sink_same o.client_out; dialer = dialer_same o.dialer; clock = clock_same o.clock };
-}
+  notes_are = refl;
+  noted = none_noted looks old.clock;
+  reached = λ t. refl;
+  unfailed = refl;
+  still_open = refl;
+  goes_on = ends_same old;
+})
+
+-- the turn, as one of the client that called at first
+turn_of : (tags : List (List ℕ)) (old now new : EndsState) (n : ℕ) (before begun : List Begun) (e : Option SessionEnd) → now.peer ≡ old.peer
+    → SessionTurns (session_caller tags now) n (session_state now before) (session_state new begun) new.client.source.left e
+    → SessionTurns (session_caller tags old) n (session_state now before) (session_state new begun) new.client.source.left e
+turn_of tags old now new n before begun e same t =
+    subst (λ (p : List ℕ). SessionTurns (record { tags = tags; peer = p }) n (session_state now before) (session_state new begun) new.client.source.left e) same t
 
 -- the session goes on behind one more exchange
-pub serving_on : {caller : Caller} {n : ℕ} {first looks looks' : Looks} {i i1 i2 : SourceState} {ahead ahead' : List ℕ} {old now next : Objects} {notes notes' : List ExchangeNote}
-    → Serving caller n first looks i i1 ahead old now notes → Turned caller n looks looks' i1 i2 ahead ahead' now next notes notes' None
-    → n + 1 < REQUEST_LIMIT → length notes' ≡ length notes + 1 → i2.faults ≡ i1.faults → next.client_out.faults ≡ now.client_out.faults → next.client_out.finished ≡ now.client_out.finished → SourceGoesOn i1 i2 → Lasts now next
-    → Serving caller (n + 1) first looks' i i2 ahead' old next notes'
-serving_on {first = first} {old = old} {notes = notes} {notes' = notes'} h turned below longer read written same on lasts = record {
-  number = below;
-  counted = omega (arith, longer, h.counted);
-  begun = h.begun ++ turned.begun;
-  notes_are = notes_on notes notes' h.begun turned.begun h.notes_are turned.noted;
-  noted = turned.history first old.clock h.begun h.noted;
-  reached = λ t. rw add-one (_, h.reached t, turned.turns (tells_on h.in_goes_on h.lasts t) h.begun);
-  unfailed_in = read ∙ h.unfailed_in;
-  unfailed_out = written ∙ h.unfailed_out;
-  open_ = same ∙ h.open_;
-  in_goes_on = source_goes_on h.in_goes_on on;
-  lasts = lasts_on h.lasts lasts;
+pub serving_on : {tags : List (List ℕ)} {first looks looks' : Looks} {old now new : EndsState} {notes notes' : List ExchangeNote}
+    → Serving tags first looks old now notes → Turned tags looks looks' now new notes notes' None → Serving tags first looks' old new notes'
+serving_on {tags = tags} {first = first} {old = old} {now = now} {new = new} {notes = notes} {notes' = notes'} s t = record {
+  below = rw (t.one_more refl) (t.below refl);
+  begun = s.begun ++ t.begun;
+  notes_are = notes_on notes notes' s.begun t.begun s.notes_are t.noted;
+  noted = t.history first old.clock s.begun s.noted;
+  reached = λ tell. rw (t.one_more refl, add-one (length notes)) (session_state now s.begun, s.reached tell, turn_of tags old now new (length notes) s.begun (s.begun ++ t.begun) None s.goes_on.peer_same (t.turns (tell_on s.goes_on tell) s.begun));
+  unfailed = t.cause ∙ s.unfailed;
+  still_open = t.still_open ∙ s.still_open;
+  goes_on = ends_go_on s.goes_on t.goes_on;
 }
+
+-- whether the sink is as open, behind exchanges that left it so
+open_on : (old now new : SinkState) (e : SessionEnd) → now.finished ≡ old.finished → SessionStaysOpen now new e → SessionStaysOpen old new e
+open_on old now new end.Ended s h = h ∙ s
+open_on old now new end.Cut s h = h ∙ s
+open_on old now new end.Spent s h = h ∙ s
+open_on old now new end.Closed s h = tt
+open_on old now new end.ReadFailed s h = tt
+open_on old now new end.WriteFailed s h = tt
+open_on old now new end.NoMemory s h = tt
 
 -- the session ends
-pub serves_to : {caller : Caller} {n : ℕ} {first looks looks' : Looks} {i i1 i2 : SourceState} {ahead ahead' : List ℕ} {old now next : Objects} {notes notes' : List ExchangeNote} {e : SessionEnd}
-    → Serving caller n first looks i i1 ahead old now notes → Turned caller n looks looks' i1 i2 ahead ahead' now next notes notes' (Some e)
-    → Serves caller first looks' i i2 old next notes' e
-serves_to {n = n} {first = first} {i1 = i1} {i2 = i2} {ahead = ahead} {ahead' = ahead'} {old = old} {now = now} {notes = notes} {notes' = notes'} h turned = record {
-  begun = h.begun ++ turned.begun;
-  notes_are = notes_on notes notes' h.begun turned.begun h.notes_are turned.noted;
-  noted = turned.history first old.clock h.begun h.noted;
-  session = λ t. record {
-    kept = n;
-    middle = session_state (ahead ++ i1.left) now h.begun;
-    rest = ahead' ++ i2.left;
-    reached = h.reached t;
-    ended = turned.turns (tells_on h.in_goes_on h.lasts t) h.begun;
+pub runs_to : {tags : List (List ℕ)} {first looks looks' : Looks} {old now new : EndsState} {notes notes' : List ExchangeNote} {e : SessionEnd}
+    → Serving tags first looks old now notes → Turned tags looks looks' now new notes notes' (Some e) → Runs tags first looks' old new notes' e
+runs_to {tags = tags} {first = first} {old = old} {now = now} {new = new} {notes = notes} {notes' = notes'} {e = e} s t = record {
+  begun = s.begun ++ t.begun;
+  notes_are = notes_on notes notes' s.begun t.begun s.notes_are t.noted;
+  noted = t.history first old.clock s.begun s.noted;
+  session = λ tell. record {
+    kept = length notes;
+    middle = session_state now s.begun;
+    rest = client_stream new;
+    reached = s.reached tell;
+    ended = turn_of tags old now new (length notes) s.begun (s.begun ++ t.begun) (Some e) s.goes_on.peer_same (t.turns (tell_on s.goes_on tell) s.begun);
   };
+  cause = subst (λ (f : Faults). EndCause f (faults_of new) e) s.unfailed t.cause;
+  still_open = open_on old.client_out now.client_out new.client_out e s.still_open t.still_open;
+  goes_on = ends_go_on s.goes_on t.goes_on;
 }
 
--- memory was wanting before anything was read: nothing was dialled or returned, whether the client's sink was finished or not
-pub serves_none : {caller : Caller} {looks : Looks} {i : SourceState} {o : Objects} (out : SinkState) (notes : List ExchangeNote) → notes ≡ [] → out.taken ≡ o.client_out.taken
-    → Serves caller looks looks i i o (record { client_out = out; dialer = o.dialer; clock = o.clock }) notes end.NoMemory
-serves_none {looks = looks} {i = i} {o = o} out notes e same = record {
+-- memory was wanting before anything was read
+pub runs_none : {tags : List (List ℕ)} {looks : Looks} {old : EndsState} (notes : List ExchangeNote) → notes ≡ [] → Runs tags looks looks old old notes end.NoMemory
+runs_none {looks = looks} {old = old} notes e = record {
   begun = [];
   notes_are = e;
-  noted = none_noted looks o.clock;
-  session = λ t. record {
-    kept = 0;
-    middle = begin i.left o.dialer o.client_out.taken;
-    rest = i.left;
-    reached = refl;
-    ended = inl (record { undialled = refl; unreturned = same; unbegun = refl; why = tt });
-  };
+  noted = none_noted looks old.clock;
+  session = λ t. record { kept = 0; middle = session_state old []; rest = client_stream old; reached = refl; ended = inl (record { undialled = refl; unreturned = refl; unbegun = refl; why = tt }) };
+  cause = tt;
+  still_open = tt;
+  goes_on = ends_same old;
+}
+
+-- the client's sink is finished behind the session
+pub serves_behind : {tags : List (List ℕ)} {looks looks' : Looks} {old mid : EndsState} {o : SinkState} {notes : List ExchangeNote} {e : SessionEnd}
+    → Runs tags looks looks' old mid notes e → Finishes mid.client_out o → SinkGoesOn mid.client_out o → Serves tags looks looks' old (record mid { client_out = o }) notes e
+serves_behind {tags = tags} {old = old} {mid = mid} {o = o} {e = e} r f on = record {
+  begun = r.begun;
+  notes_are = r.notes_are;
+  noted = r.noted;
+  session = λ t. rw f.taken_same (r.session t);
+  cause = rw f.faults_same r.cause;
+  finished = λ t. f.finished (r.goes_on.client_out.tells_same ∙ t);
+  goes_on = record { client = r.goes_on.client; client_out = sink_goes_on r.goes_on.client_out on; dialer = r.goes_on.dialer; clock = r.goes_on.clock; peer_same = r.goes_on.peer_same };
 }

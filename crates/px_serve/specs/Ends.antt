@@ -1,15 +1,15 @@
 -- How sessions end.
 use Rattle.std.specs.Prelude.{◌≡◌, ℕ, Bool, true, false, not, ◌&&◌, ◌==◌, if◌then◌else◌, List, [], ◌∷◌, Option, None, Some}
 use Rattle.px_base.specs.Causes.{Rose}
-use Rattle.px_base.specs.Sources.{SourceState}
 use Rattle.px_base.specs.Sinks.{SinkState}
-use Rattle.px_pumps.specs.declared.notes.After.{After}
-use Rattle.px_pumps.specs.declared.notes.After.TheVariants as after
-use Rattle.px_pumps.specs.declared.notes.Conclusion.{Conclusion}
-use Rattle.px_pumps.specs.declared.notes.Ending.{Ending}
-use Rattle.px_pumps.specs.declared.notes.Ending.TheVariants as ending
-use Rattle.px_serve.specs.declared.ends.SessionEnd.{SessionEnd}
-use Rattle.px_serve.specs.declared.ends.SessionEnd.TheVariants as end
+use Rattle.px_ends.specs.Ends.{EndsState}
+use Rattle.px_notes.specs.declared.endings.After.{After}
+use Rattle.px_notes.specs.declared.endings.After.TheVariants as after
+use Rattle.px_notes.specs.declared.endings.Conclusion.{Conclusion}
+use Rattle.px_notes.specs.declared.endings.Ending.{Ending}
+use Rattle.px_notes.specs.declared.endings.Ending.TheVariants as ending
+use Rattle.px_notes.specs.declared.sessions.SessionEnd.{SessionEnd}
+use Rattle.px_notes.specs.declared.sessions.SessionEnd.TheVariants as end
 
 -- the bytes are empty lines: each is LF, or CR LF
 abbrev pub only_empty : List ℕ → Bool
@@ -46,35 +46,29 @@ end_by last tunnel after.NoMemory = Some end.NoMemory
 abbrev pub end_after : Bool → Conclusion → Option SessionEnd
 end_after last x = end_by last (is_tunnel x.ending) x.after
 
--- the client's source failed where the end is ReadFailed, and elsewhere only in a tunnel that wanted memory
-abbrev pub ReadEndCause : SourceState → SourceState → SessionEnd → Type 0
-ReadEndCause old new end.ReadFailed = Rose old.faults new.faults
-ReadEndCause old new end.Ended = new.faults ≡ old.faults
-ReadEndCause old new end.Cut = new.faults ≡ old.faults
-ReadEndCause old new end.Closed = new.faults ≡ old.faults
-ReadEndCause old new end.Spent = new.faults ≡ old.faults
-ReadEndCause old new end.WriteFailed = new.faults ≡ old.faults
-ReadEndCause old new end.NoMemory = Unit {0}
+-- how often the client's source and its sink have failed
+pub record Faults : Type 0 where
+  pub source : ℕ
+  pub sink : ℕ
 
--- the client's sink failed where the end is WriteFailed, and elsewhere only in a tunnel whose client's source failed, too, or that
--- wanted memory
-abbrev pub WriteEndCause : SinkState → SinkState → SessionEnd → Type 0
-WriteEndCause old new end.WriteFailed = Rose old.faults new.faults
-WriteEndCause old new end.Ended = new.faults ≡ old.faults
-WriteEndCause old new end.Cut = new.faults ≡ old.faults
-WriteEndCause old new end.Closed = new.faults ≡ old.faults
-WriteEndCause old new end.Spent = new.faults ≡ old.faults
-WriteEndCause old new end.ReadFailed = Unit {0}
-WriteEndCause old new end.NoMemory = Unit {0}
+abbrev pub faults_of : EndsState → Faults
+faults_of e = record { source = e.client.source.faults; sink = e.client_out.faults }
+
+-- each fault is at the end that names it; beside it the client's sink may have failed, too, in a tunnel whose source failed, and
+-- both may have in one that wanted memory
+abbrev pub EndCause : Faults → Faults → SessionEnd → Type 0
+EndCause old new end.Ended = new ≡ old
+EndCause old new end.Cut = new ≡ old
+EndCause old new end.Closed = new ≡ old
+EndCause old new end.Spent = new ≡ old
+EndCause old new end.ReadFailed = Rose old.source new.source
+EndCause old new end.WriteFailed = (new.source ≡ old.source) × Rose old.sink new.sink
+EndCause old new end.NoMemory = Unit {0}
 
 -- the same before an end is known
-abbrev pub ReadTurnCause : SourceState → SourceState → Option SessionEnd → Type 0
-ReadTurnCause old new None = new.faults ≡ old.faults
-ReadTurnCause old new (Some e) = ReadEndCause old new e
-
-abbrev pub WriteTurnCause : SinkState → SinkState → Option SessionEnd → Type 0
-WriteTurnCause old new None = new.faults ≡ old.faults
-WriteTurnCause old new (Some e) = WriteEndCause old new e
+abbrev pub TurnCause : Faults → Faults → Option SessionEnd → Type 0
+TurnCause old new None = new ≡ old
+TurnCause old new (Some e) = EndCause old new e
 
 -- the client's sink is as open as it was, save behind a tunnel
 abbrev pub SessionStaysOpen : SinkState → SinkState → SessionEnd → Type 0

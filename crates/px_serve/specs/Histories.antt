@@ -3,8 +3,8 @@ use Rattle.std.specs.Prelude.{◌≡◌, ℕ, ◌-◌, ◌≤◌, Bool, IsTrue, 
 use Rattle.px_base.specs.Moments.{ClockState}
 use Rattle.px_base.specs.Repeating.{behind_first, behind_firsts, first_or, firsts_or}
 use Rattle.px_config.specs.declared.configs.Config.{Config}
-use Rattle.px_exchange.specs.declared.notes.ExchangeNote.{ExchangeNote}
-use Rattle.px_pumps.specs.declared.notes.Conclusion.{Conclusion}
+use Rattle.px_notes.specs.declared.sessions.ExchangeNote.{ExchangeNote}
+use Rattle.px_notes.specs.declared.endings.Conclusion.{Conclusion}
 use Rattle.px_publish.specs.Views.{Entry, EndsIn, GoesOn, LookGives, Pair}
 
 -- an exchange that was begun: the configuration that it used with that one's number, its moment, and how it was concluded
@@ -30,6 +30,10 @@ pub record Looks : Type 0 where
   pub view : List Config
   pub pair : Option Pair
   pub coming : List (Entry Config)
+
+-- what gives configurations, by what its type tells of it
+abbrev pub looks_of : {K : Type 0} → Bool → (K → List Config) → (K → Option Pair) → (K → List (Entry Config)) → K → Looks
+looks_of tells view pair coming k = record { tells = tells; view = view k; pair = pair k; coming = coming k }
 
 -- the number of the entry that is held
 abbrev pub held_number : Looks → ℕ

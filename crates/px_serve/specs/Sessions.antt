@@ -1,22 +1,22 @@
 -- Sessions: exchanges chained over one client's stream.
-use Rattle.std.specs.Prelude.{◌≡◌, ℕ, ◌+◌, zero, suc, Bool, true, false, ◌==◌, IsTrue, ◌⊎◌, List, [], ◌∷◌, ◌++◌, length, map, Option, None, Some}
-use Rattle.px_base.specs.Sources.{SourceState}
-use Rattle.px_base.specs.Sinks.{SinkState, SinkGoesOn}
-use Rattle.px_base.specs.Dials.{DialerState, DialerGoesOn}
-use Rattle.px_base.specs.Moments.{ClockState, ClockGoesOn}
+use Rattle.std.specs.Prelude.{◌≡◌, ℕ, ◌+◌, ◌<◌, zero, suc, Bool, true, false, ◌==◌, IsTrue, ◌⊎◌, List, [], ◌∷◌, ◌++◌, length, map, Option, None, Some, Result, MatchResult}
+use Rattle.px_base.specs.Sources.{SourceGoesOn}
+use Rattle.px_base.specs.Dials.{DialerState}
+use Rattle.px_base.specs.Moments.{ClockState}
+use Rattle.px_ends.specs.Ends.{EndsState, EndsGoOn, Tell, client_stream}
 use Rattle.px_head.specs.declared.TheConstants.{HEAD_LIMIT}
 use Rattle.px_head.specs.Blocks.{head_end}
 use Rattle.px_head.specs.declared.blocks.HeadEnd.TheVariants as head
+use Rattle.px_notes.specs.declared.sessions.ExchangeNote.{ExchangeNote}
+use Rattle.px_notes.specs.declared.sessions.SessionEnd.{SessionEnd}
+use Rattle.px_notes.specs.declared.sessions.SessionEnd.TheVariants as end
 use Rattle.px_judging.specs.declared.readings.HeadSeen.{HeadSeen}
 use Rattle.px_judging.specs.declared.readings.HeadSeen.TheVariants as seen
-use Rattle.px_exchange.specs.declared.notes.ExchangeNote.{ExchangeNote}
 use Rattle.px_judging.specs.Given.{Given}
 use Rattle.px_exchange.specs.Exchange.{Answers}
-use Rattle.px_serve.specs.declared.ends.SessionEnd.{SessionEnd}
-use Rattle.px_serve.specs.declared.ends.SessionEnd.TheVariants as end
 use Rattle.px_serve.specs.declared.ends.TheConstants.{REQUEST_LIMIT}
-use Rattle.px_serve.specs.Ends.{only_empty, end_after}
-use Rattle.px_serve.specs.Histories.{Begun, Looks, Noted, TakesOne, note_of}
+use Rattle.px_serve.specs.Ends.{EndCause, SessionStaysOpen, TurnCause, TurnStaysOpen, end_after, faults_of, only_empty}
+use Rattle.px_serve.specs.Histories.{Begun, Looks, Noted, note_of}
 
 -- between two requests: the client's bytes that are left, the dialer, what the client's sink has taken, and the exchanges that
 -- were begun
@@ -115,50 +115,57 @@ pub record IsSession (caller : Caller) (stream left : List ℕ) (old new : Diale
   pub reached : Reaches caller (begin stream old taken) kept middle
   pub ended : EndsSession caller kept middle (record { stream = rest; dialer = new; taken = taken'; begun = begun }) left e
 
--- the objects that each exchange of a session is lent
-pub record Objects : Type 0 where
-  pub client_out : SinkState
-  pub dialer : DialerState
-  pub clock : ClockState
+-- the client of a session between these ends
+abbrev pub session_caller : List (List ℕ) → EndsState → Caller
+session_caller tags e = record { tags = tags; peer = e.peer }
 
--- what lasts of them, whatever is done
-pub record Lasts (old new : Objects) : Type 0 where
-  pub client_out : SinkGoesOn old.client_out new.client_out
-  pub dialer : DialerGoesOn old.dialer new.dialer
-  pub clock : ClockGoesOn old.clock new.clock
+-- between two requests, behind the exchanges that were begun
+abbrev pub session_state : EndsState → List Begun → SessionState
+session_state e begun = record { stream = client_stream e; dialer = e.dialer; taken = e.client_out.taken; begun = begun }
 
--- the client's source, its sink and the dialer tell
-pub record Tell (i : SourceState) (o : Objects) : Type 0 where
-  pub client_in : IsTrue i.tells
-  pub client_out : IsTrue o.client_out.tells
-  pub dialer : IsTrue o.dialer.tells
+-- a session between these ends
+abbrev pub IsSessionOf : List (List ℕ) → EndsState → EndsState → List Begun → SessionEnd → Type 0
+IsSessionOf tags old new begun e =
+    IsSession (session_caller tags old) (client_stream old) new.client.source.left old.dialer new.dialer old.client_out.taken new.client_out.taken begun e
 
--- the exchange of that number, for that head and the client's bytes behind it: what was noted of it, and how the session ends
--- behind it, if it does; i is the client's source
-pub record BeginsExchange (caller : Caller) (n : ℕ) (seen : HeadSeen) (i : SourceState) (rest rest' : List ℕ) (looks looks' : Looks) (old new : Objects) (notes notes' : List ExchangeNote) (e : Option SessionEnd) : Type 0 where
-  pub begun : Begun
-  pub noted : notes' ≡ notes ++ note_of begun ∷ []
-  pub takes : TakesOne looks looks' old.clock new.clock begun
-  pub answers : IsTrue i.tells → IsTrue old.client_out.tells → IsTrue old.dialer.tells
-      → Answers (given_of caller n seen begun) (record { stream = rest; behind = rest' }) old.dialer new.dialer old.client_out.taken new.client_out.taken begun.concluded
-  pub ends : e ≡ end_after (is_last_request n) begun.concluded
+-- the head at the front of the client's stream was read, or the session ends before it; nothing else was used
+pub record TakesHead (old new : EndsState) (r : Result HeadSeen SessionEnd) : Type 0 where
+  pub found : IsTrue old.client.source.tells → MatchResult r (λ seen. HeadOf (client_stream old) seen (client_stream new)) (λ e. EndsBetween (client_stream old) new.client.source.left e)
+  pub cause : MatchResult r (λ _. faults_of new ≡ faults_of old) (λ e. EndCause (faults_of old) (faults_of new) e)
+  pub goes_on : SourceGoesOn old.client.source new.client.source
+  pub rest : new ≡ record old { client = new.client }
 
--- between two requests, with that stream left, and behind the exchanges that were begun
-abbrev pub session_state : List ℕ → Objects → List Begun → SessionState
-session_state stream o begun = record { stream = stream; dialer = o.dialer; taken = o.client_out.taken; begun = begun }
-
--- the turn of that number: the exchanges that it began, one or none, and what they add to those before; the client's source
--- before and after, and what was read ahead of it
-pub record Turned (caller : Caller) (n : ℕ) (looks looks' : Looks) (i i' : SourceState) (ahead ahead' : List ℕ) (old new : Objects) (notes notes' : List ExchangeNote) (e : Option SessionEnd) : Type 0 where
+-- one turn of a session: the exchanges that it began, one or none, what they add to those before, and how the session ends behind
+-- it, if it does
+pub record Turned (tags : List (List ℕ)) (looks looks' : Looks) (old new : EndsState) (notes notes' : List ExchangeNote) (e : Option SessionEnd) : Type 0 where
   pub begun : List Begun
   pub noted : notes' ≡ notes ++ map note_of begun
   pub history : (first : Looks) (clock : ClockState) (before : List Begun) → Noted first looks clock old.clock before → Noted first looks' clock new.clock (before ++ begun)
-  pub turns : Tell i old → (before : List Begun) → SessionTurns caller n (session_state (ahead ++ i.left) old before) (session_state (ahead' ++ i'.left) new (before ++ begun)) i'.left e
+  pub turns : Tell old → (before : List Begun) → SessionTurns (session_caller tags old) (length notes) (session_state old before) (session_state new (before ++ begun)) new.client.source.left e
+  pub one_more : e ≡ None → length notes' ≡ length notes + 1
+  pub below : e ≡ None → length notes + 1 < REQUEST_LIMIT
+  pub cause : TurnCause (faults_of old) (faults_of new) e
+  pub still_open : TurnStaysOpen old.client_out new.client_out e
+  pub goes_on : EndsGoOn old new
 
--- a session of these objects: the exchanges that it began, whose notes it gives, and how it ended
-pub record Serves (caller : Caller) (looks looks' : Looks) (i i' : SourceState) (old new : Objects) (notes : List ExchangeNote) (e : SessionEnd) : Type 0 where
+-- the requests of a session between these ends: the exchanges that they began, whose notes they give, and how it ended; the client's
+-- sink isn't finished yet
+pub record Runs (tags : List (List ℕ)) (looks looks' : Looks) (old new : EndsState) (notes : List ExchangeNote) (e : SessionEnd) : Type 0 where
   pub begun : List Begun
   pub notes_are : notes ≡ map note_of begun
   pub noted : Noted looks looks' old.clock new.clock begun
-  pub session : Tell i old
-      → IsSession caller i.left i'.left old.dialer new.dialer old.client_out.taken new.client_out.taken begun e
+  pub session : Tell old → IsSessionOf tags old new begun e
+  pub cause : EndCause (faults_of old) (faults_of new) e
+  pub still_open : SessionStaysOpen old.client_out new.client_out e
+  pub goes_on : EndsGoOn old new
+
+-- a session between these ends: the exchanges that it began, whose notes it gives, and how it ended; the client was told that no more
+-- comes
+pub record Serves (tags : List (List ℕ)) (looks looks' : Looks) (old new : EndsState) (notes : List ExchangeNote) (e : SessionEnd) : Type 0 where
+  pub begun : List Begun
+  pub notes_are : notes ≡ map note_of begun
+  pub noted : Noted looks looks' old.clock new.clock begun
+  pub session : Tell old → IsSessionOf tags old new begun e
+  pub cause : EndCause (faults_of old) (faults_of new) e
+  pub finished : IsTrue old.client_out.tells → IsTrue new.client_out.finished
+  pub goes_on : EndsGoOn old new

@@ -1,25 +1,35 @@
 // The store that a session keeps from request to request, and a worker from session to session.
-ghost use Rattle.std.specs.Prelude.{◌≡◌, ◌↔◌, ◌++◌, IsTrue, Some};
-ghost use Rattle.px_base.specs.Dials.{DialerGoesOn};
-ghost use Rattle.px_base.specs.Sinks.{SinkGoesOn};
-ghost use Rattle.px_base.specs.Sources.{SourceGoesOn};
-ghost use Rattle.px_exchange.specs.Causes.{ClientReadCause, ClientStaysOpen, ClientWriteCause};
-ghost use Rattle.px_exchange.specs.Exchange.{Answers};
-ghost use Rattle.px_serve.specs.Keeping.{IsStoreOf, OfEntry, store_number};
+ghost use Rattle.std.specs.Prelude.{◌≡◌, ◌↔◌, IsTrue, Some};
+ghost use Rattle.px_judging.specs.Given.{given_for};
+ghost use Rattle.px_serve.specs.Answering.{AnswersBetween};
+ghost use Rattle.px_serve.specs.Keeping.{OfEntry, store_number};
 
-use px_base::{Dialer, Mem, Sink, Source};
-use px_config::{Config, Warm};
-use px_exchange::{Conclusion, Handed, answer_cold, answer_request};
-use px_streams::Ahead;
+use px_base::Mem;
+use px_config::{Config, Running};
+use px_ends::{Ends, Outside};
+use px_exchange::exchange;
+use px_judging::Handed;
+use px_notes::{After, Conclusion, broken};
+use px_publish::Snapshot;
 use px_ways::Way;
 use std::alloc::Global;
+use std::marker::Model;
 use std::thread::Threads;
 
-/// What the patterns and filters of the entry with that number keep from search to search.
+/// The entry with that number, which runs: seen as that entry.
 #[derive(Drop)]
 pub struct KeptEntry<'c> {
     pub number: u64,
-    pub warm: Warm<'c>,
+    pub running: Running<'c>,
+}
+
+impl<'c> Model for KeptEntry<'c> {
+    ghost use Rattle.px_config.specs.declared.configs.Config.{Config};
+    ghost use Rattle.px_publish.specs.Views.{Entry};
+
+    ghost Value = { Entry Config };
+
+    ghost view = { λ k. record { number = k.number; config = k.running } };
 }
 
 /// The store with which sessions are served, if there was memory for one.
@@ -31,12 +41,12 @@ pub enum Store<'c> {
 }
 
 impl<'c> Store<'c> {
-    /// A store of the configuration of the entry with that number.
+    /// A store of the entry with that number.
     pub fn new(alloc: Global, number: u64, config: &'c Config) -> Store<'c>
-        ensures { OfEntry number config.now result }
+        ensures { OfEntry (record { number = number; config = config.now }) result }
     {
-        match config.warm(alloc) {
-            Ok(warm) => Store::Of(KeptEntry { number, warm }),
+        match Running::new(alloc, config) {
+            Ok(running) => Store::Of(KeptEntry { number, running }),
             Err(Mem) => Store::Wanting,
         }
     }
@@ -52,45 +62,62 @@ impl<'c> Store<'c> {
     }
 }
 
-/// Answers the request of an entry with that number: with the store kept where it is of that entry, and else with one of its own.
-pub fn answer<R: Threads + Sync, S: Source, O: Sink, D: Dialer>(
+/// Answers a request by an entry that runs.
+fn answer_by<R: Threads + Sync, A: Outside>(
     alloc: Global,
     way: &Way<'_, R>,
     handed: &Handed<'_>,
-    number: u64,
-    kept: &mut KeptEntry<'_>,
-    client_in: &mut S,
-    ahead: &mut Ahead,
-    client_out: &mut O,
-    dialer: &mut D,
+    running: &mut Running<'_>,
+    ends: &mut Ends<A>,
 ) -> Conclusion
-    requires of { kept.old.number ≡ number → IsStoreOf handed.now.config kept.old }
-    ensures answers { IsTrue (S.state client_in.old).tells → IsTrue (O.state client_out.old).tells → IsTrue (D.state dialer.old).tells
-        → Answers handed.now
-        (record { stream = ahead.old ++ (S.state client_in.old).left; behind = ahead.new ++ (S.state client_in.new).left })
-        (D.state dialer.old) (D.state dialer.new) (O.state client_out.old).taken (O.state client_out.new).taken result }
-    ensures read_cause { ClientReadCause (S.state client_in.old) (S.state client_in.new) result.after }
-    ensures write_cause { ClientWriteCause (O.state client_out.old) (O.state client_out.new) result }
-    ensures open { ClientStaysOpen (O.state client_out.old) (O.state client_out.new) result }
-    ensures in_goes_on { SourceGoesOn (S.state client_in.old) (S.state client_in.new) }
-    ensures out_goes_on { SinkGoesOn (O.state client_out.old) (O.state client_out.new) }
-    ensures goes_on { DialerGoesOn (D.state dialer.old) (D.state dialer.new) }
-    ensures same_number { kept.new.number ≡ kept.old.number }
-    ensures same_sections { kept.new.warm.sections ≡ kept.old.warm.sections }
-    ensures same_filters { kept.new.warm.filters ≡ kept.old.warm.filters }
+    ensures answers { AnswersBetween (given_for running.old handed.now ends.old.peer) ends.old ends.new result }
+    ensures same { running.new ≡ running.old }
 {
-    if kept.number == number {
-        answer_request(
-            alloc,
-            way,
-            handed,
-            &mut kept.warm,
-            client_in,
-            ahead,
-            client_out,
-            dialer,
-        )
+    exchange(
+        alloc,
+        way,
+        handed,
+        &ends.peer,
+        running,
+        &mut ends.client.source,
+        &mut ends.client.ahead,
+        &mut ends.client_out,
+        &mut ends.dialer,
+    )
+}
+
+/// Answers a request by a configuration that begins to run for it.
+fn answer_anew<R: Threads + Sync, A: Outside>(
+    alloc: Global,
+    way: &Way<'_, R>,
+    handed: &Handed<'_>,
+    config: &Config,
+    ends: &mut Ends<A>,
+) -> Conclusion
+    ensures { AnswersBetween (given_for config.now handed.now ends.old.peer) ends.old ends.new result }
+{
+    match Running::new(alloc, config) {
+        Ok(mut running) => answer_by(alloc, way, handed, &mut running, ends),
+        Err(Mem) => broken(After::NoMemory),
+    }
+}
+
+/// Answers the request of an entry: with the one kept where it is that entry, and else with one of its own.
+pub fn answer<R: Threads + Sync, A: Outside>(
+    alloc: Global,
+    way: &Way<'_, R>,
+    handed: &Handed<'_>,
+    snapshot: &Snapshot<'_, Config>,
+    kept: &mut KeptEntry<'_>,
+    ends: &mut Ends<A>,
+) -> Conclusion
+    requires of { kept.old.number ≡ snapshot.now.number → kept.old.config ≡ snapshot.now.config.now }
+    ensures answers { AnswersBetween (given_for snapshot.now.config.now handed.now ends.old.peer) ends.old ends.new result }
+    ensures same { kept.new ≡ kept.old }
+{
+    if kept.number == snapshot.number {
+        answer_by(alloc, way, handed, &mut kept.running, ends)
     } else {
-        answer_cold(alloc, way, handed, client_in, ahead, client_out, dialer)
+        answer_anew(alloc, way, handed, snapshot.config, ends)
     }
 }

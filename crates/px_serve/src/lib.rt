@@ -4,12 +4,14 @@
 ghost use Rattle.std.specs.Prelude.{◌≡◌};
 
 mod ends;
+mod heads;
 mod keeping;
+mod notes;
 mod sessions;
 
-pub use ends::{REQUEST_LIMIT, SessionEnd};
+pub use ends::REQUEST_LIMIT;
 pub use keeping::{KeptEntry, Store};
-pub use sessions::{Session, serve_connection, serve_stored};
+pub use sessions::{serve_cold, serve_connection};
 
 /// What the constant of this crate is.
 pub fn constants()

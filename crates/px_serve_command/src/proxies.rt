@@ -17,6 +17,7 @@ use px_commands::{ServeWords, Status, USAGE, parse_serve, read_serve, report, re
 use px_config::{Config, FileSet, LoadFault, gather, spell};
 use px_desk::{Desk, DeskParts, ReloadCounts};
 use px_doors::{Doors, ListenAddress};
+use px_ends::Outside;
 use px_link_pool::{Look, Sees};
 use px_proxy::serve_all;
 use px_publish::{ConfigReader, Publisher, publish_pair};
@@ -64,9 +65,9 @@ pub fn run_proxy<R: Threads + Wait + Sync, F: Files, A: Doors, E: Sink>(
     parts: DeskParts<F, A, E>,
 ) -> Proxied<F, A, E>
 where
-    Look: Sees<<A::Dial as Dialer>::In>,
+    Look: Sees<<<A::Conn as Outside>::Dial as Dialer>::In>,
     requires begun { DoorsBegun (A.state parts.doors) }
-    ensures runs { RunsProxy (record { ins = A.Dial.In.state; outs = A.Dial.Out.state }) (map string_bytes words.now)
+    ensures runs { RunsProxy (record { ins = A.Conn.Dial.In.state; outs = A.Conn.Dial.Out.state }) (map string_bytes words.now)
         (record { files = F.state parts.files; doors = A.state parts.doors; errors = E.state parts.err })
         (record { files = F.state result.parts.files; doors = A.state result.parts.doors; errors = E.state result.parts.err }) result.counts result.status }
 {
@@ -89,9 +90,9 @@ fn serve_by<R: Threads + Wait + Sync, F: Files, A: Doors, E: Sink>(
     parts: DeskParts<F, A, E>,
 ) -> Ended<F, A, E>
 where
-    Look: Sees<<A::Dial as Dialer>::In>,
+    Look: Sees<<<A::Conn as Outside>::Dial as Dialer>::In>,
     requires begun { DoorsBegun (A.state parts.doors) }
-    ensures serves { ServesBy (record { ins = A.Dial.In.state; outs = A.Dial.Out.state }) (map string_bytes words.now)
+    ensures serves { ServesBy (record { ins = A.Conn.Dial.In.state; outs = A.Conn.Dial.Out.state }) (map string_bytes words.now)
         (record { files = F.state parts.files; doors = A.state parts.doors; errors = E.state parts.err })
         (record { files = F.state result.parts.files; doors = A.state result.parts.doors; errors = E.state result.parts.err }) result.counts result.status }
     ensures goes_on { ProxyGoesOn
@@ -142,11 +143,11 @@ fn run_serve<R: Threads + Wait + Sync, F: Files, A: Doors, E: Sink>(
     parts: DeskParts<F, A, E>,
 ) -> Ended<F, A, E>
 where
-    Look: Sees<<A::Dial as Dialer>::In>,
+    Look: Sees<<<A::Conn as Outside>::Dial as Dialer>::In>,
     requires begun { DoorsBegun (A.state parts.doors) }
     requires some { 0 < serve.workers }
     requires at_most { serve.workers ≤ 64 }
-    ensures runs { RunsServe (record { ins = A.Dial.In.state; outs = A.Dial.Out.state }) serve.entry.config.now serve.entry.most
+    ensures runs { RunsServe (record { ins = A.Conn.Dial.In.state; outs = A.Conn.Dial.Out.state }) serve.entry.config.now serve.entry.most
         (record { files = F.state parts.files; doors = A.state parts.doors; errors = E.state parts.err })
         (record { files = F.state result.parts.files; doors = A.state result.parts.doors; errors = E.state result.parts.err }) result.counts result.status }
     ensures goes_on { ProxyGoesOn
@@ -180,12 +181,12 @@ fn serve_first<R: Threads + Wait + Sync, F: Files, A: Doors, E: Sink>(
     parts: DeskParts<F, A, E>,
 ) -> Ended<F, A, E>
 where
-    Look: Sees<<A::Dial as Dialer>::In>,
+    Look: Sees<<<A::Conn as Outside>::Dial as Dialer>::In>,
     requires begun { DoorsBegun (A.state parts.doors) }
     requires spells { Spells loaded first }
     requires some { 0 < serve.workers }
     requires at_most { serve.workers ≤ 64 }
-    ensures serves { ServesFirst (record { ins = A.Dial.In.state; outs = A.Dial.Out.state }) serve.entry.config.now serve.entry.most loaded first
+    ensures serves { ServesFirst (record { ins = A.Conn.Dial.In.state; outs = A.Conn.Dial.Out.state }) serve.entry.config.now serve.entry.most loaded first
         (record { files = F.state parts.files; doors = A.state parts.doors; errors = E.state parts.err })
         (record { files = F.state result.parts.files; doors = A.state result.parts.doors; errors = E.state result.parts.err }) result.counts result.status }
     ensures goes_on { ProxyGoesOn
@@ -209,13 +210,13 @@ fn serve_sharing<N: Opening + Send, R: Threads + Wait + Sync, F: Files, A: Doors
     parts: DeskParts<F, A, E>,
 ) -> Ended<F, A, E>
 where
-    Look: Sees<<A::Dial as Dialer>::In>,
+    Look: Sees<<<A::Conn as Outside>::Dial as Dialer>::In>,
     requires begun { DoorsBegun (A.state parts.doors) }
     requires opening { A.state parts.doors ≡ N.doors }
     requires spells { Spells loaded first }
     requires some { 0 < serve.workers }
     requires at_most { serve.workers ≤ 64 }
-    ensures serves { ServesSharing (record { ins = A.Dial.In.state; outs = A.Dial.Out.state }) serve.entry.config.now serve.entry.most loaded first
+    ensures serves { ServesSharing (record { ins = A.Conn.Dial.In.state; outs = A.Conn.Dial.Out.state }) serve.entry.config.now serve.entry.most loaded first
         (record { files = F.state parts.files; doors = A.state parts.doors; errors = E.state parts.err })
         (record { files = F.state result.parts.files; doors = A.state result.parts.doors; errors = E.state result.parts.err }) result.counts result.status }
     ensures goes_on { ProxyGoesOn

@@ -2,4 +2,3 @@ pub mod AnswerLemmas
 pub mod FrontLemmas
 pub mod LinkLemmas
 pub mod SharedDoorLemmas
-pub mod SharingLemmas

@@ -8,9 +8,15 @@ use Rattle.px_base.specs.declared.dials.DialOutcome.TheVariants as outcome
 use Rattle.px_base.specs.declared.dials.LinkSeen.{LinkSeen}
 use Rattle.px_decide.specs.declared.routes.Route.{Route}
 use Rattle.px_templates.specs.declared.pages.Page.{Page}
-use Rattle.px_sending.specs.declared.messages.Message.{Message}
-use Rattle.px_sending.specs.declared.messages.Sent.{Sent}
-use Rattle.px_sending.specs.declared.messages.Sent.TheVariants as sent
+use Rattle.px_notes.specs.declared.messages.Message.{Message}
+use Rattle.px_notes.specs.declared.messages.Sent.{Sent}
+use Rattle.px_notes.specs.declared.messages.Sent.TheVariants as sent
+use Rattle.px_notes.specs.Endings.{broken}
+use Rattle.px_notes.specs.declared.endings.After.TheVariants as after
+use Rattle.px_notes.specs.declared.endings.Conclusion.{Conclusion}
+use Rattle.px_notes.specs.declared.endings.Ending.TheVariants as ending
+use Rattle.px_notes.specs.declared.sessions.SessionEnd.{SessionEnd}
+use Rattle.px_notes.specs.declared.sessions.SessionEnd.TheVariants as end
 use Rattle.px_config.specs.declared.configs.Config.{Config}
 use Rattle.px_judging.specs.Given.{Given}
 use Rattle.px_judging.specs.declared.judgements.Judgement.{Judgement}
@@ -18,17 +24,11 @@ use Rattle.px_judging.specs.declared.judgements.Judgement.TheVariants as judgeme
 use Rattle.px_judging.specs.declared.judgements.TunnelPlan.{TunnelPlan}
 use Rattle.px_pool_ends.specs.Answers.{IsAnswer}
 use Rattle.px_pumps.specs.Answering.{Ask, Answered}
-use Rattle.px_pumps.specs.Returning.{broken}
 use Rattle.px_pumps.specs.declared.dues.Due.{Due}
-use Rattle.px_pumps.specs.declared.notes.After.TheVariants as after
-use Rattle.px_pumps.specs.declared.notes.Conclusion.{Conclusion}
-use Rattle.px_pumps.specs.declared.notes.Ending.TheVariants as ending
 use Rattle.px_exchange.specs.Dialling.{DialsOnce, OutcomeCause}
 use Rattle.px_exchange.specs.Exchange.{Answers, Does, asking, tunnel_page_due}
 use Rattle.px_exchange.specs.Forwarding.{Client, Says, FollowsSending, Forwards, concluded}
 use Rattle.px_exchange.specs.Tunnels.{Tunnels, TunnelsOver}
-use Rattle.px_serve.specs.declared.ends.SessionEnd.{SessionEnd}
-use Rattle.px_serve.specs.declared.ends.SessionEnd.TheVariants as end
 use Rattle.px_serve.specs.Ends.{end_after}
 use Rattle.px_serve.specs.Histories.{Begun}
 use Rattle.px_serve.specs.Sessions.{Caller, SessionState, SessionStep, Reaches, EndsSession, IsSession, is_last_request, given_of, begin}

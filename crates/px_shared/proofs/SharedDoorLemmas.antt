@@ -2,20 +2,22 @@
 use Rattle.std.proofs.Common.{◌≡◌, ℕ, zero, suc, ◌<◌, IsTrue, List, [], ◌∷◌, ◌++◌, length, length-append, drop, map, slice_get, Some, refl, sym, ap, ◌∙◌, arith}
 use mathlib.Core.Logic.{∥∥₁_map}
 use Rattle.px_link_pool.specs.Histories.{Views}
-use Rattle.px_doors.specs.Conns.{ConnState, PartedState}
+use Rattle.px_ends.specs.Ends.{EndsState}
 use Rattle.px_doors.specs.Doors.{DoorsState, DoorsGoesOn, Stays, ConnComes, DoorsEnd}
-use Rattle.px_shared.specs.SharedDoors.{ComesOf, EachComesOf, pooled_conn, with_pools}
+use Rattle.px_doors.specs.Parted.{PartedState}
+use Rattle.px_shared.specs.Sharing.{pooled_ends}
+use Rattle.px_shared.specs.SharedDoors.{ComesOf, EachComesOf, with_pools}
 
 -- ---- lists
 
-drop_map : (n : ℕ) (cs : List ConnState) → drop n (map pooled_conn cs) ≡ map pooled_conn (drop n cs)
+drop_map : (n : ℕ) (cs : List EndsState) → drop n (map pooled_ends cs) ≡ map pooled_ends (drop n cs)
 drop_map zero cs = refl
 drop_map (suc n) [] = refl
 drop_map (suc n) (c ∷ cs) = drop_map n cs
 
-get_map : (n : ℕ) (cs : List ConnState) (c : ConnState) → slice_get cs n ≡ Some c → slice_get (map pooled_conn cs) n ≡ Some (pooled_conn c)
+get_map : (n : ℕ) (cs : List EndsState) (c : EndsState) → slice_get cs n ≡ Some c → slice_get (map pooled_ends cs) n ≡ Some (pooled_ends c)
 get_map n [] c e = grind arith
-get_map zero (x ∷ xs) c e = let same : x ≡ c = cc in ap (λ y. Some (pooled_conn y)) same
+get_map zero (x ∷ xs) c e = let same : x ≡ c = cc in ap (λ y. Some (pooled_ends y)) same
 get_map (suc n) (x ∷ xs) c e = get_map n xs c e
 
 each_more : {S T : Type 0} (v : Views S T) (ps qs : List PartedState) (p q : PartedState) → ComesOf v p q → EachComesOf v ps qs → EachComesOf v (ps ++ p ∷ []) (qs ++ q ∷ [])
@@ -29,14 +31,15 @@ each_more v (x ∷ xs) [] p q c h = absurd h
 pub stays_over : (old new : DoorsState) (ps : List PartedState) → Stays old new → Stays (with_pools old ps) (with_pools new ps)
 stays_over old new ps s = record { accepted_same = s.accepted_same; parted_same = λ t. refl }
 
-pub comes_over : (old new : DoorsState) (ps : List PartedState) (c : ConnState) → DoorsGoesOn old new → ConnComes old new c → ConnComes (with_pools old ps) (with_pools new ps) (pooled_conn c)
+pub comes_over : (old new : DoorsState) (ps : List PartedState) (c : EndsState) → DoorsGoesOn old new → ConnComes old new c → ConnComes (with_pools old ps) (with_pools new ps) (pooled_ends c)
 comes_over old new ps c on h = record {
   one_more = h.one_more;
-  first = λ t. drop_map old.accepted old.conns ∙ ap (map pooled_conn) (h.first t) ∙ ap (λ cs. pooled_conn c ∷ cs) (sym (drop_map new.accepted new.conns));
+  first = λ t. drop_map old.accepted old.conns ∙ ap (map pooled_ends) (h.first t) ∙ ap (λ cs. pooled_ends c ∷ cs) (sym (drop_map new.accepted new.conns));
   nth = λ t. get_map old.accepted old.conns c (h.nth t);
   parted_same = λ t. refl;
   fresh = record {
     ends = h.fresh.ends;
+    none_ahead = h.fresh.none_ahead;
     none_dialled = refl;
     no_name_failed = h.fresh.no_name_failed;
     no_reach_failed = h.fresh.no_reach_failed;
@@ -50,12 +53,12 @@ comes_over old new ps c on h = record {
 }
 
 pub ends_over : (old new : DoorsState) (ps : List PartedState) → DoorsEnd old new → DoorsEnd (with_pools old ps) (with_pools new ps)
-ends_over old new ps h = record { stays = stays_over old new ps h.stays; told = h.told; none_left = drop_map old.accepted old.conns ∙ ap (map pooled_conn) h.none_left }
+ends_over old new ps h = record { stays = stays_over old new ps h.stays; told = h.told; none_left = drop_map old.accepted old.conns ∙ ap (map pooled_ends) h.none_left }
 
 pub goes_on_over : (old new : DoorsState) (ps qs : List PartedState) → DoorsGoesOn old new → DoorsGoesOn (with_pools old ps) (with_pools new qs)
 goes_on_over old new ps qs h = record {
   tells_same = h.tells_same;
-  conns_same = ap (map pooled_conn) h.conns_same;
+  conns_same = ap (map pooled_ends) h.conns_same;
   accepted_later = h.accepted_later;
   faults_later = h.faults_later;
   steady_kept = h.steady_kept;

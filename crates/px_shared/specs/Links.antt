@@ -7,7 +7,7 @@ use Rattle.px_base.specs.declared.dials.DialOutcome.{DialOutcome}
 use Rattle.px_base.specs.declared.dials.DialOutcome.TheVariants as outcome
 use Rattle.px_base.specs.declared.dials.LinkSeen.{LinkSeen}
 use Rattle.px_pool_ends.specs.Answers.{IsAnswer}
-use Rattle.px_pumps.specs.declared.notes.Ending.TheVariants as ending
+use Rattle.px_notes.specs.declared.endings.Ending.TheVariants as ending
 use Rattle.px_serve.specs.Histories.{Begun}
 
 -- what was heard over a link is the front of what its source offered

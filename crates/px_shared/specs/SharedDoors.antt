@@ -1,20 +1,13 @@
 -- Doors that put a pool of links over the dialer of each connection, and the doors below them.
-use Rattle.std.specs.Prelude.{◌≡◌, IsTrue, List, [], ◌∷◌, map}
-use Rattle.px_pool_ends.specs.Incomings.{Hearing}
-use Rattle.px_pool_ends.specs.Outgoings.{Sending}
+use Rattle.std.specs.Prelude.{◌≡◌, ℕ, IsTrue, List, [], ◌∷◌, map}
 use Rattle.px_link_pool.specs.Histories.{Views}
-use Rattle.px_link_pool.specs.declared.histories.History.{History}
-use Rattle.px_doors.specs.Conns.{ConnState, PartedState}
 use Rattle.px_doors.specs.Doors.{DoorsState}
-use Rattle.px_shared.specs.Sharing.{IsLeftBy, PoolTells, pooled}
-
--- a connection whose dialer has a pool over it
-abbrev pub pooled_conn : ConnState → ConnState
-pooled_conn c = record { client_in = c.client_in; client_out = c.client_out; dialer = pooled c.dialer; clock = c.clock; peer = c.peer }
+use Rattle.px_doors.specs.Parted.{PartedState}
+use Rattle.px_shared.specs.Sharing.{Unpools, pooled_ends}
 
 -- doors whose connections have a pool, with those that were parted
 abbrev pub with_pools : DoorsState → List PartedState → DoorsState
-with_pools d parted = record { listens_at = d.listens_at; tells = d.tells; conns = map pooled_conn d.conns; accepted = d.accepted; parted = parted; faults = d.faults; steady = d.steady }
+with_pools d parted = record { listens_at = d.listens_at; tells = d.tells; conns = map pooled_ends d.conns; accepted = d.accepted; parted = parted; faults = d.faults; steady = d.steady }
 
 -- A connection is parted below as it was parted, but for its dialer: that is the one that the pool leaves, and what was done with
 -- the pool tells its dials, of which there were none before.
@@ -22,13 +15,8 @@ pub record ComesOf {S T : Type 0} (v : Views S T) (parted below : PartedState) :
   pub number : below.number ≡ parted.number
   pub handed : below.handed ≡ parted.handed
   pub session : below.session ≡ parted.session
-  pub client_in : below.conn.client_in ≡ parted.conn.client_in
-  pub client_out : below.conn.client_out ≡ parted.conn.client_out
-  pub clock : below.conn.clock ≡ parted.conn.clock
-  pub peer : below.conn.peer ≡ parted.conn.peer
-  pub dialer : IsLeftBy parted.conn.dialer below.conn.dialer
-  pub history : History Hearing Sending S T
-  pub told : IsTrue parted.conn.dialer.tells → PoolTells v [] parted.conn.dialer.dials below.conn.dialer.dials history
+  pub wanting : ℕ
+  pub ends : Unpools v parted.ends below.ends wanting
 
 -- so it is of each, in order
 abbrev pub EachComesOf : {S T : Type 0} → Views S T → List PartedState → List PartedState → Type 0

@@ -4,30 +4,30 @@ use Rattle.std.proofs.Math.Seq.{take-append-add}
 use Rattle.std.proofs.lemmas.Grind.{common_steps}
 use Rattle.px_base.specs.Causes.{Rose}
 use Rattle.px_base.specs.Sources.{SourceState}
-use Rattle.px_base.specs.Sinks.{SinkState}
+use Rattle.px_base.specs.Sinks.{SinkState, AddsFront}
 use Rattle.px_socks.specs.declared.handshakes.Refusal.{Refusal}
 use Rattle.px_socks.specs.declared.handshakes.Refusal.TheVariants as refusal
 use Rattle.px_socks.specs.Messages.{TookSome}
 use Rattle.px_socks.specs.Replies.{IsReplyFront, SelectsNone}
-use Rattle.px_socks.specs.Shaking.{AddsFrontOrAll, SendsDue}
+use Rattle.px_socks.specs.Shaking.{SendsDue}
 
 -- the two parts of the bytes, as slices read them
 pub parts_of : (k : ℕ) (bytes : List ℕ) → k ≤ length bytes → take k bytes ++ take (length bytes - k) (drop k bytes) ≡ bytes
 parts_of k bytes within = grind (arith, common_steps)
 
 -- all of the first part and a front of the other are a front of all
-some_more : (old mid new first rest : List ℕ) → mid ≡ old ++ first → AddsFrontOrAll mid new rest → AddsFrontOrAll old new (first ++ rest)
+some_more : (old mid new first rest : List ℕ) → mid ≡ old ++ first → AddsFront mid new rest → AddsFront old new (first ++ rest)
 some_more old mid new first rest e (n, few, h) =
     let same : take (length first + n) (first ++ rest) ≡ first ++ take n rest = take-append-add first rest n in
     (length first + n, omega (arith, length-append first rest), h ∙ ap (λ (l : List ℕ). l ++ take n rest) e ∙ append_assoc old first (take n rest) ∙ ap (λ (l : List ℕ). old ++ l) (sym same))
 
-all_some : (old new bytes : List ℕ) → new ≡ old ++ bytes → AddsFrontOrAll old new bytes
+all_some : (old new bytes : List ℕ) → new ≡ old ++ bytes → AddsFront old new bytes
 all_some old new bytes e = (length bytes, (omega arith), grind (arith, common_steps))
 
 -- the greeting and a front of the request
-pub some_sent : (old mid new both : List ℕ) → 3 ≤ length both → mid ≡ old ++ take 3 both → AddsFrontOrAll mid new (take (length both - 3) (drop 3 both)) → AddsFrontOrAll old new both
+pub some_sent : (old mid new both : List ℕ) → 3 ≤ length both → mid ≡ old ++ take 3 both → AddsFront mid new (take (length both - 3) (drop 3 both)) → AddsFront old new both
 some_sent old mid new both within e h =
-    let P = λ (l : List ℕ). AddsFrontOrAll old new l in
+    let P = λ (l : List ℕ). AddsFront old new l in
     subst P (parts_of 3 both within) (some_more old mid new (take 3 both) (take (length both - 3) (drop 3 both)) e h)
 
 -- the greeting and the request
@@ -46,7 +46,7 @@ due_greeting i i' o o' both r k sent = record {
 }
 
 -- the method was selected, and a write of the request is refused
-pub due_front : (i i' : SourceState) (o o' : SinkState) (both : List ℕ) (r : Refusal) → i.left ≡ 5 ∷ 0 ∷ i'.left → AddsFrontOrAll o.taken o'.taken both
+pub due_front : (i i' : SourceState) (o o' : SinkState) (both : List ℕ) (r : Refusal) → i.left ≡ 5 ∷ 0 ∷ i'.left → AddsFront o.taken o'.taken both
     → (r ≡ refusal.NotReached → Rose o.faults o'.faults) → SendsDue i i' o o' both r
 due_front i i' o o' both r e sent rose = record {
   heard = 5 ∷ 0 ∷ [];

@@ -6,7 +6,7 @@ use Rattle.std.proofs.lemmas.Grind.{common_steps}
 use Rattle.std.proofs.Math.Seq.{take-append_seam, drop-append_seam}
 use Rattle.px_base.specs.Causes.{Rose}
 use Rattle.px_base.specs.Sources.{SourceState, given}
-use Rattle.px_base.specs.Sinks.{SinkState}
+use Rattle.px_base.specs.Sinks.{SinkState, AddsFront}
 use Rattle.px_base.specs.Dials.{Traffic, traffic, DialerState, IsTold, is_open_at, is_open, finish, closed_dial}
 use Rattle.px_base.specs.declared.dials.Dial.{Dial}
 use Rattle.px_socks.specs.declared.handshakes.Refusal.{Refusal}
@@ -16,8 +16,7 @@ use Rattle.px_socks.specs.declared.servers.ServerStop.TheVariants as stop
 use Rattle.px_socks.specs.Ends.{InnerSource, InnerSink, has_failed}
 use Rattle.px_socks.specs.Messages.{due_messages, IsAccepted, Took, NoneAhead}
 use Rattle.px_socks.specs.Replies.{IsHeardFront}
-use Rattle.px_socks.specs.Notes.{IsFrontSent}
-use Rattle.px_socks.specs.Shaking.{AddsFrontOrAll, SendsDue, IsHandshakeRefused}
+use Rattle.px_socks.specs.Shaking.{SendsDue, IsHandshakeRefused}
 use Rattle.px_socks.specs.Serving.{IsOpenLink, RefusedOver, Hung, IsBehindHandshake, open_dial, IsNewLink, ServesDial}
 
 failed_of : (n : ℕ) → Rose 0 n → has_failed n ≡ true
@@ -29,7 +28,7 @@ refused_over i i' o o' e f l (inl read) = inl (failed_of i'.faults (rw e at read
 refused_over i i' o o' e f l (inr (inl write)) = inr (inl (failed_of o'.faults (rw f at write)))
 refused_over i i' o o' e f l (inr (inr none)) = inr (inr (λ t. let P = λ (bytes : List ℕ). NoneAhead IsAccepted bytes in subst P l (none t)))
 
-pub front_sent : (old new bytes : List ℕ) → old ≡ [] → AddsFrontOrAll old new bytes → IsFrontSent new bytes
+pub front_sent : (old new bytes : List ℕ) → old ≡ [] → AddsFront old new bytes → AddsFront [] new bytes
 front_sent old new bytes e (n, within, h) = (n, within, h ∙ ap (λ (l : List ℕ). l ++ take n bytes) e)
 
 -- what was heard was given, by a source of which nothing was read before
@@ -43,9 +42,9 @@ pub heard_front : (i i' : SourceState) (o o' : SinkState) (both : List ℕ) (r :
 heard_front i i' o o' both r fresh same h = subst IsHeardFront (sym (given_is i i' h.heard fresh same h.moved)) h.enough
 
 pub sent_front : (i i' : SourceState) (o o' : SinkState) (both : List ℕ) (r : Refusal) → i.left ≡ i.offered → i'.offered ≡ i.offered → o.taken ≡ [] → SendsDue i i' o o' both r
-    → IsFrontSent o'.taken (due_messages (given i') both)
+    → AddsFront [] o'.taken (due_messages (given i') both)
 sent_front i i' o o' both r fresh same empty h =
-    let P = λ (bytes : List ℕ). IsFrontSent o'.taken (due_messages bytes both) in
+    let P = λ (bytes : List ℕ). AddsFront [] o'.taken (due_messages bytes both) in
     subst P (sym (given_is i i' h.heard fresh same h.moved)) (front_sent o.taken o'.taken (due_messages h.heard both) empty h.front)
 
 pub sent_whole : (i i' : SourceState) (o o' : SinkState) (both : List ℕ) (r : Refusal) → i.left ≡ i.offered → i'.offered ≡ i.offered → o.taken ≡ [] → SendsDue i i' o o' both r

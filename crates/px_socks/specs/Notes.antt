@@ -1,5 +1,6 @@
 -- The notes of a dialer, one for each of its dials, and the dials that they make of the inner ones, those of the dialer below.
 use Rattle.std.specs.Prelude.{◌≡◌, ℕ, ◌<◌, ◌≤◌, ◌⊎◌, true, false, IsTrue, List, [], ◌∷◌, ◌++◌, length, take, drop, Some}
+use Rattle.px_base.specs.Sinks.{AddsFront}
 use Rattle.px_base.specs.Dials.{Traffic, is_open, is_open_at}
 use Rattle.px_base.specs.declared.dials.Dial.{Dial}
 use Rattle.px_base.specs.declared.dials.DialOutcome.{DialOutcome}
@@ -59,10 +60,6 @@ outer_dials (note.TooLong name port ∷ ns) ds = refused_dial name port ∷ oute
 outer_dials (note.Lost name port ∷ ns) [] = []
 outer_dials (note.Lost name port ∷ ns) (d ∷ ds) = outer_dials ns ds
 
--- a front of the bytes was sent
-abbrev pub IsFrontSent : List ℕ → List ℕ → Type 0
-IsFrontSent sent bytes = (n : ℕ) × (n ≤ length bytes) × (sent ≡ take n bytes)
-
 -- the inner outcome of an accepted dial: a link whose first bytes offered are those that are accepted, so many as were heard,
 -- and, once it is hung up, whose first bytes sent are both messages
 abbrev pub IsAcceptedBy : HandshakePassage → DialOutcome → Type 0
@@ -80,7 +77,7 @@ IsRefusedBy bytes outcome.NoName = Unit {0}
 IsRefusedBy bytes outcome.NotReached = Unit {0}
 IsRefusedBy bytes (outcome.Open mark offered) = ⊥
 IsRefusedBy bytes (outcome.Link seen) =
-    IsHeardFront seen.heard × IsFrontSent seen.sent (due_messages seen.heard bytes) × (seen.write_failed ≡ false → seen.sent ≡ due_messages seen.heard bytes)
+    IsHeardFront seen.heard × AddsFront [] seen.sent (due_messages seen.heard bytes) × (seen.write_failed ≡ false → seen.sent ≡ due_messages seen.heard bytes)
     × ((seen.read_failed ≡ true) ⊎ ((seen.write_failed ≡ true) ⊎ NoneAhead IsAccepted seen.offered))
 
 -- the inner outcome of a dial in whose handshake memory was wanting: a link that is hung up and was sent a front of what was
@@ -89,7 +86,7 @@ abbrev pub IsLostBy : List ℕ → DialOutcome → Type 0
 IsLostBy bytes outcome.NoName = ⊥
 IsLostBy bytes outcome.NotReached = ⊥
 IsLostBy bytes (outcome.Open mark offered) = ⊥
-IsLostBy bytes (outcome.Link seen) = IsHeardFront seen.heard × IsFrontSent seen.sent (due_messages seen.heard bytes)
+IsLostBy bytes (outcome.Link seen) = IsHeardFront seen.heard × AddsFront [] seen.sent (due_messages seen.heard bytes)
 
 -- a dial name whose target's host has more than 255 bytes, so no request can tell its length
 abbrev pub IsTooLong : List ℕ → Type 0

@@ -1,7 +1,7 @@
 -- What comes of one dial of a server and the handshake with it.
 use Rattle.std.specs.Prelude.{◌≡◌, ℕ, ◌⊎◌, true, false, IsTrue, List, [], ◌∷◌, ◌++◌, drop, Some, None, Result, Ok, Err}
 use Rattle.px_base.specs.Sources.{SourceState, SourceGoesOn, given}
-use Rattle.px_base.specs.Sinks.{SinkState, SinkGoesOn}
+use Rattle.px_base.specs.Sinks.{SinkState, SinkGoesOn, AddsFront}
 use Rattle.px_base.specs.Dials.{DialerState, HangsUp, is_open, Met, offers, nameless, unreached, untold, names_its_server, coming_behind, LeavesWanting}
 use Rattle.px_base.specs.declared.dials.Dial.{Dial}
 use Rattle.px_base.specs.declared.dials.DialOutcome.TheVariants as outcome
@@ -12,7 +12,7 @@ use Rattle.px_socks.specs.Ends.{InnerSource, InnerSink, has_failed}
 use Rattle.px_socks.specs.Comings.{accepted_length}
 use Rattle.px_socks.specs.Messages.{due_messages, IsAccepted, Took, NoneAhead}
 use Rattle.px_socks.specs.Replies.{IsHeardFront}
-use Rattle.px_socks.specs.Notes.{IsFrontSent, IsRefusedBy, IsLostBy}
+use Rattle.px_socks.specs.Notes.{IsRefusedBy, IsLostBy}
 
 -- a link behind a handshake: nothing else went over it, and nothing failed
 pub record IsBegun (passage : HandshakePassage) (i : SourceState) (o : SinkState) : Type 0 where
@@ -43,7 +43,7 @@ pub record Hung (old new : DialerState) (i : SourceState) (o : SinkState) (messa
   pub out_goes_on : SinkGoesOn o last_out
   pub still_open : last_out.finished ≡ o.finished
   pub enough : IsTrue i.tells → IsTrue o.tells → IsHeardFront (given last_in)
-  pub sent : IsTrue i.tells → IsTrue o.tells → IsFrontSent last_out.taken (due_messages (given last_in) messages)
+  pub sent : IsTrue i.tells → IsTrue o.tells → AddsFront [] last_out.taken (due_messages (given last_in) messages)
   pub whole : IsTrue i.tells → IsTrue o.tells → s ≡ stop.Refused → has_failed last_out.faults ≡ false → last_out.taken ≡ due_messages (given last_in) messages
   pub why : s ≡ stop.Refused → RefusedOver last_in last_out i
 

@@ -1,20 +1,16 @@
 -- What one handshake does with both ends of a link.
 use Rattle.std.specs.Prelude.{◌≡◌, ℕ, ◌≤◌, ◌⊎◌, IsTrue, List, ◌++◌, length, take, Result, MatchResult}
 use Rattle.px_base.specs.Sources.{SourceState}
-use Rattle.px_base.specs.Sinks.{SinkState}
+use Rattle.px_base.specs.Sinks.{SinkState, AddsFront}
 use Rattle.px_base.specs.Causes.{Rose}
 use Rattle.px_socks.specs.Messages.{due_messages, IsAccepted, NoneAhead}
 use Rattle.px_socks.specs.Replies.{IsHeardFront}
 use Rattle.px_socks.specs.declared.handshakes.Refusal.{Refusal}
 use Rattle.px_socks.specs.declared.handshakes.Refusal.TheVariants as refusal
 
--- a front of the bytes was added
-abbrev pub AddsFrontOrAll : List ℕ → List ℕ → List ℕ → Type 0
-AddsFrontOrAll old new bytes = (n : ℕ) × (n ≤ length bytes) × (new ≡ old ++ take n bytes)
-
 -- all bytes were sent, or after a refusal a front of them
 abbrev pub SendsToServer : {T E : Type 0} → SinkState → SinkState → Result T E → List ℕ → Type 0
-SendsToServer old new result bytes = IsTrue old.tells → MatchResult result (λ _. new.taken ≡ old.taken ++ bytes) (λ _. AddsFrontOrAll old.taken new.taken bytes)
+SendsToServer old new result bytes = IsTrue old.tells → MatchResult result (λ _. new.taken ≡ old.taken ++ bytes) (λ _. AddsFront old.taken new.taken bytes)
 
 -- what a handshake hears and sends that gives no link: it reads on only where what it heard may be accepted, and sends a front of
 -- what is due by that; all of it, unless a write was refused
@@ -22,7 +18,7 @@ pub record SendsDue (i i' : SourceState) (o o' : SinkState) (messages : List ℕ
   pub heard : List ℕ
   pub moved : i.left ≡ heard ++ i'.left
   pub enough : IsHeardFront heard
-  pub front : AddsFrontOrAll o.taken o'.taken (due_messages heard messages)
+  pub front : AddsFront o.taken o'.taken (due_messages heard messages)
   pub whole : r ≡ refusal.NotReached → ¬ (Rose o.faults o'.faults) → o'.taken ≡ o.taken ++ due_messages heard messages
 
 -- why a handshake is refused: a count of the link rose, or the server's bytes end before or leave the accepted form

@@ -1,7 +1,7 @@
 // Bytes that were read ahead of a source.
 ghost use Rattle.std.specs.Prelude.{◌≡◌, ◌<◌, ◌≤◌, ◌+◌, ◌++◌, [], length, drop, IsTrue, IfOk, IfErr, true, false};
 ghost use Rattle.px_base.specs.Sources.{SourceGoesOn};
-ghost use Rattle.px_fields.specs.FieldLines.{IsFrontOf};
+ghost use mathlib.Core.List.{IsPrefix};
 ghost use Rattle.px_streams.specs.Streams.{KeepsBytes, ReadCause};
 
 use px_base::{Failed, Mem, Source};
@@ -98,7 +98,7 @@ impl Ahead {
 
 /// Reads a piece, and adds it at the end. The room is made before the read, so that after want of memory nothing was read.
 fn read_piece<S: Source>(source: &mut S, bytes: &mut Vec<u8>) -> Result<usize, ReadFault>
-    ensures added { IfOk result (λ count. (length bytes.new.items ≡ length bytes.old.items + count) × IsFrontOf bytes.old.items bytes.new.items) }
+    ensures added { IfOk result (λ count. (length bytes.new.items ≡ length bytes.old.items + count) × IsPrefix bytes.old.items bytes.new.items) }
     ensures read { IfOk result (λ count. IsTrue (S.state source.old).tells → bytes.new.items ++ (S.state source.new).left ≡ bytes.old.items ++ (S.state source.old).left) }
     ensures end { IfOk result (λ count. count ≡ 0 → IsTrue (S.state source.old).tells → (S.state source.old).left ≡ []) }
     ensures refused { IfErr result (λ _. (bytes.new.items ≡ bytes.old.items) × (IsTrue (S.state source.old).tells → (S.state source.new).left ≡ (S.state source.old).left)) }
@@ -117,7 +117,7 @@ pub fn fill<S: Source>(source: &mut S, ahead: &mut Ahead) -> Result<bool, ReadFa
     ensures bytes { KeepsBytes (S.state source.old) (S.state source.new) ahead.old ahead.new }
     ensures end { IsTrue (S.state source.old).tells → IfOk result (λ more. more ≡ false → ((S.state source.old).left ≡ []) × ((S.state source.new).left ≡ [])) }
     ensures more { IfOk result (λ more. more ≡ true → length ahead.old < length ahead.new) }
-    ensures longer { IfOk result (λ _. IsFrontOf ahead.old ahead.new) }
+    ensures longer { IfOk result (λ _. IsPrefix ahead.old ahead.new) }
     ensures refused { IfErr result (λ _. ahead.new ≡ ahead.old) }
     ensures cause { ReadCause (S.state source.old) (S.state source.new) result }
     ensures goes_on { SourceGoesOn (S.state source.old) (S.state source.new) }

@@ -1,6 +1,5 @@
 ghost use Rattle.std.specs.Prelude.{◌≡◌, ◌≤◌, ◌<◌, ◌+◌, ◌-◌, ◌^◌, false, IfOk, IfSome, length};
-ghost use Rattle.px_doors.specs.Conns.{IsFreshConn};
-ghost use Rattle.px_doors.specs.MemConns.{mem_conn};
+ghost use Rattle.px_ends.specs.Ends.{IsFreshEnds};
 
 use crate::common::same;
 use px_base::{
@@ -8,25 +7,25 @@ use px_base::{
     Text, write_all,
 };
 use px_doors::*;
-use px_serve::{Session, SessionEnd};
+use px_ends::{Ends, Outside};
+use px_notes::{Session, SessionEnd};
 use px_sockets::{SocketDialer, SocketSource};
 use std::alloc::Global;
 use std::test::Fail;
 use std::time::Duration;
 
 /// A connection in memory whose client says those bytes.
-fn client(alloc: Global, bytes: &[u8]) -> Result<MemConn, Mem>
-    ensures { IfOk result (λ conn. IsFreshConn (mem_conn conn)) }
+fn client(alloc: Global, bytes: &[u8]) -> Result<MemEnds, Mem>
+    ensures { IfOk result (λ conn. IsFreshEnds conn) }
 {
-    Ok(Conn {
-        client_in: TapeIn::new(alloc, bytes, &[], &[])?,
-        client_out: TapeOut::new(alloc, &[], &[])?,
-        dialer: MemDialer::new(alloc, List::new(alloc))?,
-        clock: FixedClock::new(List::new(alloc)),
-        peer: Peer {
-            address: Text::from_bytes(alloc, b"127.0.0.1")?,
-        },
-    })
+    let client_in = TapeIn::new(alloc, bytes, &[], &[])?;
+    let client_out = TapeOut::new(alloc, &[], &[])?;
+    let dialer = MemDialer::new(alloc, List::new(alloc))?;
+    let clock = FixedClock::new(List::new(alloc));
+    let peer = Peer {
+        address: Text::from_bytes(alloc, b"127.0.0.1")?,
+    };
+    Ok(Ends::new(alloc, client_in, client_out, dialer, clock, peer))
 }
 
 /// Doors with three connections, of which those calls fail.
@@ -49,17 +48,18 @@ fn pass_by(alloc: Global, doors: &mut MemDoors, number: u64) -> Result<bool, Acc
     ensures all_parted { length (⟦<MemDoors as Doors>⟧.state doors.new).parted ≡ (⟦<MemDoors as Doors>⟧.state doors.new).accepted }
 {
     match doors.accept()? {
-        Some(conn) => {
+        Some(ends) => {
             let session = Session {
                 exchanges: List::new(alloc),
                 end: SessionEnd::Ended,
             };
-            doors.part(Parted {
+            let mut parted = Some(Parted {
                 number,
                 handed: 7,
                 session,
-                conn,
+                ends,
             });
+            doors.part(&mut parted);
             Ok(true)
         }
         None => Ok(false),
@@ -87,7 +87,11 @@ fn doors_in_memory_give_their_connections_in_order(rt: HostRuntime) -> Result<()
     same(&rt, pass_by(alloc, &mut doors, 3), Ok(false));
     same(&rt, doors.parted().len(), 3);
     for (parted, mark) in doors.parted().iter().zip(0..) {
-        let seen = (parted.number, parted.handed, parted.conn.client_in.mark());
+        let seen = (
+            parted.number,
+            parted.handed,
+            parted.ends.client.source.mark(),
+        );
         same(&rt, seen, (mark, 7, mark));
     }
     Ok(())
@@ -105,7 +109,7 @@ fn the_calls_of_doors_in_memory_fail_by_their_numbers(rt: HostRuntime) -> Result
     same(&rt, pass_by(alloc, &mut doors, 1), Ok(true));
     same(&rt, doors.parted().len(), 2);
     for (parted, mark) in doors.parted().iter().zip(0..) {
-        same(&rt, parted.conn.client_in.mark(), mark);
+        same(&rt, parted.ends.client.source.mark(), mark);
     }
     Ok(())
 }
@@ -137,10 +141,10 @@ fn open_doors<'r>(rt: &'r HostRuntime) -> Option<(SocketDoors<'r>, u16)>
 /// Whether doors fail where a connection is asked for.
 fn fails_to_accept<D: Doors>(doors: &mut D) -> bool
 where
-    D::In: Drop,
-    D::Out: Drop,
-    D::Dial: Drop,
-    D::Time: Drop,
+    <D::Conn as Outside>::In: Drop,
+    <D::Conn as Outside>::Out: Drop,
+    <D::Conn as Outside>::Dial: Drop,
+    <D::Conn as Outside>::Time: Drop,
     requires { (D.state doors.old).accepted < 2 ^ 64 - 1 }
 {
     matches!(doors.accept(), Err(AcceptFault::Failed))
@@ -163,24 +167,24 @@ struct Call {
 /// What the client of the next connection says.
 fn next_call<D: Doors>(doors: &mut D) -> Option<Call>
 where
-    D::In: Drop,
-    D::Out: Drop,
-    D::Dial: Drop,
-    D::Time: Drop,
+    <D::Conn as Outside>::In: Drop,
+    <D::Conn as Outside>::Out: Drop,
+    <D::Conn as Outside>::Dial: Drop,
+    <D::Conn as Outside>::Time: Drop,
     requires { (D.state doors.old).accepted < 2 ^ 64 - 1 }
 {
-    let Ok(Some(conn)) = doors.accept() else {
+    let Ok(Some(ends)) = doors.accept() else {
         return None;
     };
-    let Conn {
-        mut client_in,
+    let Ends {
+        mut client,
         client_out: _client_out,
         dialer: _dialer,
         mut clock,
         peer,
-    } = conn;
+    } = ends;
     let mut said = [0; 4];
-    if client_in.read(&mut said) != Ok(4) {
+    if client.read(&mut said) != Ok(4) {
         return None;
     }
     Some(Call {
@@ -211,32 +215,33 @@ fn doors_over_tcp_give_who_calls(rt: HostRuntime) {
 /// Answers a connection that was accepted with so many thousand bytes, and parts it.
 fn answer_and_part<D: Doors>(alloc: Global, doors: &mut D, thousands: u64) -> bool
 where
-    D::In: Drop,
-    D::Out: Drop,
-    D::Dial: Drop,
-    D::Time: Drop,
+    <D::Conn as Outside>::In: Drop,
+    <D::Conn as Outside>::Out: Drop,
+    <D::Conn as Outside>::Dial: Drop,
+    <D::Conn as Outside>::Time: Drop,
     requires more { (D.state doors.old).accepted < 2 ^ 64 - 1 }
     requires untold { (D.state doors.old).tells ≡ false }
 {
-    let Ok(Some(mut conn)) = doors.accept() else {
+    let Ok(Some(mut ends)) = doors.accept() else {
         return false;
     };
     let piece = [b'a'; 1_000];
     'pieces: for _ in 0..thousands {
-        if write_all(&mut conn.client_out, &piece).is_err() {
+        if write_all(&mut ends.client_out, &piece).is_err() {
             return false;
         }
     }
-    conn.client_out.finish();
-    doors.part(Parted {
+    ends.client_out.finish();
+    let mut parted = Some(Parted {
         number: 0,
         handed: 0,
         session: Session {
             exchanges: List::new(alloc),
             end: SessionEnd::Closed,
         },
-        conn,
+        ends,
     });
+    doors.part(&mut parted);
     true
 }
 

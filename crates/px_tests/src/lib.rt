@@ -11,6 +11,8 @@ mod exercise;
 #[cfg(test)]
 mod pumps;
 #[cfg(test)]
+mod reloads;
+#[cfg(test)]
 mod serving;
 #[cfg(test)]
 mod sharing;

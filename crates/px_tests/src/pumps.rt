@@ -5,8 +5,9 @@ use crate::common::{same, same_at, text};
 use crate::sides::Told;
 use px_actions::{ActionSet, Update};
 use px_base::{Failed, List, MemFiles, Source, TapeIn, TapeOut, Text};
-use px_config::{Config, Warm, load};
-use px_pumps::{After, Asked, Conclusion, Ending, Flow, Pump, Talked, return_answer};
+use px_config::{Config, Running, load};
+use px_notes::{After, Asked, Conclusion, Ending};
+use px_pumps::{Flow, Pump, Talked, return_answer};
 use px_subst::Vars;
 use px_templates::Page;
 use std::alloc::Global;
@@ -59,36 +60,32 @@ fn asked(rt: &impl Abort, alloc: Global, words: &[&str]) -> Asked {
 fn feed(
     rt: &impl Abort,
     pump: &mut Pump<'_>,
-    warm: &mut Warm<'_>,
+    running: &mut Running<'_>,
     piece: &[u8],
     out: &mut Text,
 ) -> Flow
-    requires sections { warm.old.sections ≡ pump.old.config.sections }
-    requires filters { warm.old.filters ≡ pump.old.config.filters }
-    ensures sections { warm.new.sections ≡ pump.new.config.sections }
-    ensures filters { warm.new.filters ≡ pump.new.config.filters }
+    requires of { running.old ≡ pump.old.config }
+    ensures of { running.new ≡ pump.new.config }
 {
-    pump.feed(warm, piece, out).expect(rt, "memory")
+    pump.feed(running, piece, out).expect(rt, "memory")
 }
 
 /// Feeds an answer in pieces of one size, and gives the flow behind the last of them.
 fn feed_all(
     rt: &impl Abort,
     pump: &mut Pump<'_>,
-    warm: &mut Warm<'_>,
+    running: &mut Running<'_>,
     answer: &[u8],
     size: usize,
     out: &mut Text,
 ) -> Flow
-    requires sections { warm.old.sections ≡ pump.old.config.sections }
-    requires filters { warm.old.filters ≡ pump.old.config.filters }
-    ensures sections { warm.new.sections ≡ pump.new.config.sections }
-    ensures filters { warm.new.filters ≡ pump.new.config.filters }
+    requires of { running.old ≡ pump.old.config }
+    ensures of { running.new ≡ pump.new.config }
 {
     assert!(rt; size > 0);
     let mut flow = Flow::More;
     'pieces: for piece in answer.chunks(size) {
-        flow = feed(rt, pump, warm, piece, out);
+        flow = feed(rt, pump, running, piece, out);
     }
     flow
 }
@@ -110,10 +107,10 @@ fn fed(
     answer: &[u8],
     size: usize,
 ) -> SoFar {
-    let mut warm = config.warm(alloc).expect(rt, "memory");
+    let mut running = Running::new(alloc, config).expect(rt, "memory");
     let mut pump = Pump::new(alloc, config, asked(rt, alloc, words));
     let mut out = Text::new(alloc);
-    let flow = feed_all(rt, &mut pump, &mut warm, answer, size, &mut out);
+    let flow = feed_all(rt, &mut pump, &mut running, answer, size, &mut out);
     SoFar {
         out,
         flow,
@@ -271,9 +268,9 @@ fn what_comes_is_written_before_the_next_read(rt: HostRuntime) {
         taken: &taken,
     };
     let config = config(&rt, alloc);
-    let mut warm = config.warm(alloc).expect(&rt, "memory");
+    let mut running = Running::new(alloc, &config).expect(&rt, "memory");
     let asked = asked(&rt, alloc, &[]);
-    let talked = return_answer(alloc, &config, &mut warm, asked, &mut link, &mut client);
+    let talked = return_answer(alloc, &mut running, asked, &mut link, &mut client);
     let whole = Talked::Ended(Conclusion {
         ending: Ending::Passed,
         after: After::Keep,

@@ -1,12 +1,12 @@
 //! The command `serve` over doors in memory.
-ghost use Rattle.std.specs.Prelude.{IfOk};
-ghost use Rattle.px_doors.specs.Conns.{IsFreshConn};
+ghost use Rattle.std.specs.Prelude.{All, IfOk};
+ghost use Rattle.px_ends.specs.Ends.{IsFreshEnds};
 ghost use Rattle.px_desk.specs.Facts.{DoorsBegun};
-ghost use Rattle.px_doors.specs.MemConns.{AreFreshConns, mem_conn};
 
 use crate::common::{same, same_at};
 use px_base::{Answer, FixedClock, List, Mem, MemDialer, MemFiles, Peer, TapeIn, TapeOut, Text};
-use px_doors::{Conn, Doors, MemConn, MemDoors};
+use px_doors::{Doors, MemDoors, MemEnds};
+use px_ends::Ends;
 use px_serve_command::{DeskParts, Proxied, run_proxy};
 use std::alloc::Global;
 use std::sync::Wait;
@@ -19,9 +19,23 @@ const ANSWER: &[u8] = b"HTTP/1.1 200 OK\r\nContent-Length: 2\r\n\r\nhi";
 
 const REPLY: &[u8] = b"HTTP/1.1 200 OK\r\nContent-Length: 2\r\nConnection: keep-alive\r\n\r\nhi";
 
+/// The ends of a client that says those bytes, whose dials have those answers.
+fn ends_of(alloc: Global, said: &[u8], answers: List<Answer>) -> Result<MemEnds, Mem>
+    ensures { IfOk result (λ conn. IsFreshEnds conn) }
+{
+    let client_in = TapeIn::new(alloc, said, &[], &[])?;
+    let client_out = TapeOut::new(alloc, &[], &[])?;
+    let dialer = MemDialer::new(alloc, answers)?;
+    let clock = FixedClock::new(List::new(alloc));
+    let peer = Peer {
+        address: Text::from_bytes(alloc, b"127.0.0.1")?,
+    };
+    Ok(Ends::new(alloc, client_in, client_out, dialer, clock, peer))
+}
+
 /// A connection with one request, whose one dial has one answer.
-fn conn(alloc: Global) -> Result<MemConn, Mem>
-    ensures { IfOk result (λ conn. IsFreshConn (mem_conn conn)) }
+fn conn(alloc: Global) -> Result<MemEnds, Mem>
+    ensures { IfOk result (λ conn. IsFreshEnds conn) }
 {
     let mut answers = List::new(alloc);
     answers.add(Answer::Link {
@@ -30,35 +44,19 @@ fn conn(alloc: Global) -> Result<MemConn, Mem>
         read_fails: List::new(alloc),
         write_fails: List::new(alloc),
     })?;
-    Ok(Conn {
-        client_in: TapeIn::new(alloc, GET, &[], &[])?,
-        client_out: TapeOut::new(alloc, &[], &[])?,
-        dialer: MemDialer::new(alloc, answers)?,
-        clock: FixedClock::new(List::new(alloc)),
-        peer: Peer {
-            address: Text::from_bytes(alloc, b"127.0.0.1")?,
-        },
-    })
+    ends_of(alloc, GET, answers)
 }
 
 /// A connection with two requests. Each of its two dials would give an answer to both, one at a time.
-fn conn_of_two(alloc: Global) -> Result<MemConn, Mem>
-    ensures { IfOk result (λ conn. IsFreshConn (mem_conn conn)) }
+fn conn_of_two(alloc: Global) -> Result<MemEnds, Mem>
+    ensures { IfOk result (λ conn. IsFreshEnds conn) }
 {
     let mut answers = List::new(alloc);
     answers.add(two_answers(alloc)?)?;
     answers.add(two_answers(alloc)?)?;
     let mut asked = Text::from_bytes(alloc, GET)?;
     asked.push_all(GET)?;
-    Ok(Conn {
-        client_in: TapeIn::new(alloc, asked.as_bytes(), &[], &[])?,
-        client_out: TapeOut::new(alloc, &[], &[])?,
-        dialer: MemDialer::new(alloc, answers)?,
-        clock: FixedClock::new(List::new(alloc)),
-        peer: Peer {
-            address: Text::from_bytes(alloc, b"127.0.0.1")?,
-        },
-    })
+    ends_of(alloc, asked.as_bytes(), answers)
 }
 
 /// A link with two answers, of which a read brings one.
@@ -75,16 +73,16 @@ fn two_answers(alloc: Global) -> Result<Answer, Mem> {
 }
 
 /// Three connections with one request each.
-fn three_conns(alloc: Global) -> Result<List<MemConn>, Mem>
-    ensures { IfOk result (λ conns. AreFreshConns conns) }
+pub(crate) fn three_conns(alloc: Global) -> Result<List<MemEnds>, Mem>
+    ensures { IfOk result (λ conns. All IsFreshEnds conns) }
 {
     let conns = vec![in alloc; conn(alloc)?, conn(alloc)?, conn(alloc)?]?;
     Ok(List::from_vec(conns))
 }
 
 /// One connection with two requests.
-fn one_conn(alloc: Global) -> Result<List<MemConn>, Mem>
-    ensures { IfOk result (λ conns. AreFreshConns conns) }
+fn one_conn(alloc: Global) -> Result<List<MemEnds>, Mem>
+    ensures { IfOk result (λ conns. All IsFreshEnds conns) }
 {
     let conns = vec![in alloc; conn_of_two(alloc)?]?;
     Ok(List::from_vec(conns))
@@ -105,10 +103,10 @@ fn files_of(alloc: Global, main: &[u8]) -> Result<MemFiles, Mem> {
 fn parts_of(
     alloc: Global,
     main: &[u8],
-    conns: List<MemConn>,
+    conns: List<MemEnds>,
     fails: &[u64],
 ) -> Result<DeskParts<MemFiles, MemDoors, TapeOut>, Mem>
-    requires fresh { AreFreshConns conns }
+    requires fresh { All IsFreshEnds conns }
     ensures begun { IfOk result (λ parts. DoorsBegun (⟦<MemDoors as Doors>⟧.state parts.doors)) }
 {
     let doors = MemDoors::new(alloc, conns, fails)?;
@@ -117,7 +115,7 @@ fn parts_of(
     Ok(DeskParts { files, doors, err })
 }
 
-fn words_of(alloc: Global, words: &[&str]) -> Result<Vec<String>, Fail> {
+pub(crate) fn words_of(alloc: Global, words: &[&str]) -> Result<Vec<String>, Fail> {
     let mut owned = Vec::new(alloc);
     for word in words {
         owned.push(String::from_str(alloc, word)?)?;
@@ -131,10 +129,10 @@ fn proxied<R: Threads + Wait + Sync>(
     rt: &R,
     words: &[&str],
     main: &[u8],
-    conns: List<MemConn>,
+    conns: List<MemEnds>,
     fails: &[u64],
 ) -> Result<Proxied<MemFiles, MemDoors, TapeOut>, Fail>
-    requires fresh { AreFreshConns conns }
+    requires fresh { All IsFreshEnds conns }
 {
     let parts = parts_of(alloc, main, conns, fails)?;
     let words = words_of(alloc, words)?;
@@ -156,7 +154,7 @@ fn two_of_three_connections_are_served(rt: HostRuntime) -> Result<(), Fail> {
     same(&rt, parted.len(), 2);
     for (number, one) in parted.iter().enumerate() {
         same(&rt, one.number, number as u64);
-        same(&rt, one.conn.client_out.taken(), REPLY);
+        same(&rt, one.ends.client_out.taken(), REPLY);
     }
     Ok(())
 }
@@ -207,8 +205,8 @@ fn the_requests_of_a_connection_share_a_link_where_the_main_file_says_so(
         let proxied = proxied(rt.alloc(), &rt, &["serve", "c", "1"], main, conns, &[])?;
         same_at(&rt, main, proxied.status, 0);
         for parted in proxied.parts.doors.parted() {
-            same_at(&rt, main, parted.conn.dialer.links().len(), links);
-            for link in parted.conn.dialer.links() {
+            same_at(&rt, main, parted.ends.dialer.links().len(), links);
+            for link in parted.ends.dialer.links() {
                 same_at(&rt, main, link.sent.as_bytes(), sent);
             }
         }

@@ -1,16 +1,22 @@
 //! Sessions whose requests share links to origins.
+ghost use Rattle.std.specs.Prelude.{◌≡◌, []};
+
 use crate::common::{same, same_text, text};
 use px_base::{
     Answer, Dialer, FixedClock, LinkNote, List, MemDialer, MemFiles, Peer, TapeIn, TapeOut, Text,
 };
 use px_config::{Config, load};
+use px_ends::{Ends, Joined, Outside};
+use px_link_pool::{Look, Sees};
+use px_notes::{Session, SessionEnd};
 use px_publish::FixedConfig;
-use px_serve::SessionEnd;
-use px_shared::{SharedSession, serve_shared};
+use px_serve::serve_cold;
+use px_shared::{with_pool, without_pool};
 use px_ways::Way;
 use std::alloc::Global;
 use std::process::Abort;
 use std::sync::Arc;
+use std::thread::Threads;
 
 const GET: &str = "GET http://a.test/x HTTP/1.1\r\nHost: a.test\r\n\r\n";
 
@@ -45,7 +51,9 @@ fn config(rt: &impl Abort, alloc: Global) -> Config {
 }
 
 /// A dialer whose first dial gives a link with two answers that come in those cuts, and whose others aren't reached.
-fn dialer(rt: &impl Abort, alloc: Global, cuts: &[usize]) -> MemDialer {
+fn dialer(rt: &impl Abort, alloc: Global, cuts: &[usize]) -> MemDialer
+    ensures { (⟦<MemDialer as Dialer>⟧.state result).dials ≡ [] }
+{
     let mut answers = List::new(alloc);
     answers
         .add(Answer::Link {
@@ -58,43 +66,72 @@ fn dialer(rt: &impl Abort, alloc: Global, cuts: &[usize]) -> MemDialer {
     MemDialer::new(alloc, answers).expect(rt, "memory")
 }
 
-/// What a session is lent besides its configurations and its dialer.
-#[derive(Drop)]
-struct Ends {
-    client_in: TapeIn,
-    client_out: TapeOut,
-    clock: FixedClock,
-    peer: Peer,
-}
+/// The types of the ends of a session in memory.
+type TwiceConn = Joined<TapeIn, TapeOut, MemDialer, FixedClock>;
 
-/// Those of a client that asks twice.
-fn lent(rt: &impl Abort, alloc: Global) -> Ends {
+/// The ends of a client that asks twice, over such a dialer.
+fn ends(rt: &impl Abort, alloc: Global, cuts: &[usize]) -> Ends<TwiceConn>
+    ensures { result.dialer.dials ≡ [] }
+{
     let asked = twice(rt, alloc, GET);
-    Ends {
-        client_in: TapeIn::new(alloc, asked.as_bytes(), &[], &[]).expect(rt, "memory"),
-        client_out: TapeOut::new(alloc, &[], &[]).expect(rt, "memory"),
-        clock: FixedClock::new(List::new(alloc)),
-        peer: Peer {
-            address: text(rt, alloc, "127.0.0.1"),
-        },
-    }
+    let client_in = TapeIn::new(alloc, asked.as_bytes(), &[], &[]).expect(rt, "memory");
+    let client_out = TapeOut::new(alloc, &[], &[]).expect(rt, "memory");
+    let dialer = dialer(rt, alloc, cuts);
+    let clock = FixedClock::new(List::new(alloc));
+    let peer = Peer {
+        address: text(rt, alloc, "127.0.0.1"),
+    };
+    Ends::new(alloc, client_in, client_out, dialer, clock, peer)
 }
 
-/// Asserts that both answers were returned, and that one link was dialled, over which both requests went.
-fn was_shared(rt: &impl Abort, alloc: Global, ends: &Ends, shared: SharedSession<MemDialer>) {
-    let SharedSession {
+/// What came of a session over a pool of links.
+#[derive(Drop)]
+struct SharedSession {
+    session: Session,
+    taken: Text,
+    dialer: MemDialer,
+    wanting: u64,
+}
+
+/// Serves a client over a pool of links of its ends' dialer. It says for how many links memory was wanting.
+fn over_pool<R: Threads + Sync, A: Outside>(
+    rt: &R,
+    alloc: Global,
+    config: Arc<Config>,
+    ends: Ends<A>,
+) -> (Session, Ends<A>, u64)
+where
+    Look: Sees<<A::Dial as Dialer>::In>,
+    requires undialled { ends.dialer.dials ≡ [] }
+{
+    let mut pooled = with_pool(alloc, ends);
+    let session = serve_cold(
+        alloc,
+        &Way::AtOnce(rt),
+        &mut FixedConfig::new(config),
+        &[],
+        &mut pooled,
+    );
+    let (ends, wanting) = without_pool(pooled);
+    (session, ends, wanting)
+}
+
+/// Serves a client that asks twice over a pool of links.
+fn shared<R: Threads + Sync + Abort>(rt: &R, alloc: Global, cuts: &[usize]) -> SharedSession {
+    let config = Arc::new(alloc, config(rt, alloc)).expect(rt, "memory");
+    let (session, ends, wanting) = over_pool(rt, alloc, config, ends(rt, alloc, cuts));
+    let Ends {
+        client: _,
+        client_out,
+        dialer,
+        clock: _,
+        peer: _,
+    } = ends;
+    SharedSession {
         session,
+        taken: client_out.into_taken(),
         dialer,
         wanting,
-        history: _,
-    } = shared;
-    let replies = twice(rt, alloc, REPLY);
-    same(rt, ends.client_out.taken(), replies.as_bytes());
-    same(rt, session.end, SessionEnd::Ended);
-    same(rt, wanting, 0);
-    same(rt, dialer.links().len(), 1);
-    for link in dialer.links() {
-        was_asked_twice(rt, alloc, link);
     }
 }
 
@@ -107,47 +144,23 @@ fn was_asked_twice(rt: &impl Abort, alloc: Global, link: &LinkNote) {
 #[test]
 fn two_requests_of_a_client_share_a_link(rt: HostRuntime) {
     let alloc = rt.alloc();
-    let mut ends = lent(&rt, alloc);
-    let config = Arc::new(alloc, config(&rt, alloc)).expect(&rt, "memory");
-    let shared = serve_shared(
-        alloc,
-        &Way::AtOnce(&rt),
-        &mut FixedConfig::new(config),
-        &mut ends.client_in,
-        &mut ends.client_out,
-        dialer(&rt, alloc, &[40, 40]),
-        &mut ends.clock,
-        &ends.peer,
-        &[],
-    );
-    was_shared(&rt, alloc, &ends, shared);
+    let shared = shared(&rt, alloc, &[40, 40]);
+    let replies = twice(&rt, alloc, REPLY);
+    same(&rt, shared.taken.as_bytes(), replies.as_bytes());
+    same(&rt, shared.session.end, SessionEnd::Ended);
+    same(&rt, shared.wanting, 0);
+    same(&rt, shared.dialer.links().len(), 1);
+    for link in shared.dialer.links() {
+        was_asked_twice(&rt, alloc, link);
+    }
 }
 
 #[test]
 fn a_link_that_gave_too_much_is_not_shared(rt: HostRuntime) {
-    let alloc = rt.alloc();
-    let mut ends = lent(&rt, alloc);
-    let config = Arc::new(alloc, config(&rt, alloc)).expect(&rt, "memory");
-    let shared = serve_shared(
-        alloc,
-        &Way::AtOnce(&rt),
-        &mut FixedConfig::new(config),
-        &mut ends.client_in,
-        &mut ends.client_out,
-        dialer(&rt, alloc, &[80]),
-        &mut ends.clock,
-        &ends.peer,
-        &[],
-    );
-    let SharedSession {
-        session,
-        dialer,
-        wanting: _,
-        history: _,
-    } = shared;
-    same(&rt, session.end, SessionEnd::Closed);
-    begins_with_one_reply(&rt, ends.client_out.taken());
-    for link in dialer.links() {
+    let shared = shared(&rt, rt.alloc(), &[80]);
+    same(&rt, shared.session.end, SessionEnd::Closed);
+    begins_with_one_reply(&rt, shared.taken.as_bytes());
+    for link in shared.dialer.links() {
         same(&rt, link.heard.as_bytes().len(), 80);
     }
 }

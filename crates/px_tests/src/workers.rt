@@ -2,17 +2,20 @@
 //! change.
 ghost use Rattle.std.specs.Prelude.{◌≡◌, true, false, [], None, IfOk};
 ghost use Rattle.px_base.specs.Dials.{IsFresh};
-ghost use Rattle.px_doors.specs.Conns.{HasMark, IsFreshConn, conn_as, parted_as};
-ghost use Rattle.px_doors.specs.Doors.{DoorsGoesOn, Parts as TakesPart, untold_doors};
+ghost use Rattle.px_ends.specs.Ends.{IsFreshEnds};
+ghost use Rattle.px_ends.specs.Marks.{HasMark};
+ghost use Rattle.px_doors.specs.Doors.{untold_doors};
 
 use crate::common::same;
 use px_base::{
     Clock, DialFault, Dialer, Failed, FixedClock, List, Mem, MemFiles, Peer, Rests, Sink,
     SinkFault, Source, TapeIn, TapeOut, Text,
 };
-use px_doors::{AcceptFault, Conn, Doors, ListenAddress, Parted};
+use px_doors::{AcceptFault, Doors, ListenAddress, Parted};
+use px_ends::{Ends, Outside};
 use px_serve_command::{DeskParts, Proxied, ReloadCounts, run_proxy};
 use std::alloc::Global;
+use std::marker::PhantomData;
 use std::sync::Wait;
 use std::sync::atomic::{AtomicU64, Ordering};
 use std::test::Fail;
@@ -175,9 +178,25 @@ impl<'c> Dialer for Origin<'c> {
     }
 }
 
-type RowConn<'c> = Conn<TapeIn, Told<'c>, Origin<'c>, FixedClock>;
+/// The types of the ends of a connection.
+#[derive(Drop)]
+struct RowConn<'c> {
+    seen: PhantomData<&'c Seen>,
+}
 
-type RowParted<'c> = Parted<TapeIn, Told<'c>, Origin<'c>, FixedClock>;
+impl<'c> Outside for RowConn<'c> {
+    type In = TapeIn;
+
+    type Out = Told<'c>;
+
+    type Dial = Origin<'c>;
+
+    type Time = FixedClock;
+}
+
+type RowEnds<'c> = Ends<RowConn<'c>>;
+
+type RowParted<'c> = Parted<RowConn<'c>>;
 
 /// Three connections. The second is given once an origin was dialled.
 #[derive(Drop)]
@@ -208,9 +227,9 @@ impl<'c> WaitingDoors<'c> {
 }
 
 /// A connection with that mark. The origin of connection 0 answers once connection 1 was answered, and that of another at once.
-fn row_conn<'c>(alloc: Global, seen: &'c Seen, mark: u64) -> Result<RowConn<'c>, Mem>
-    ensures fresh { IfOk result (λ conn. IsFreshConn (conn_as ⟦<TapeIn as Source>⟧.state ⟦<Told<'c> as Sink>⟧.state ⟦<Origin<'c> as Dialer>⟧.state ⟦<FixedClock as Clock>⟧.state conn)) }
-    ensures mark { IfOk result (λ conn. HasMark mark (conn_as ⟦<TapeIn as Source>⟧.state ⟦<Told<'c> as Sink>⟧.state ⟦<Origin<'c> as Dialer>⟧.state ⟦<FixedClock as Clock>⟧.state conn)) }
+fn row_conn<'c>(alloc: Global, seen: &'c Seen, mark: u64) -> Result<RowEnds<'c>, Mem>
+    ensures fresh { IfOk result (λ ends. IsFreshEnds ends) }
+    ensures mark { IfOk result (λ ends. HasMark mark ends) }
 {
     let (requests, until) = match mark {
         0 => (TWO_REQUESTS, &seen.answered[1]),
@@ -221,34 +240,34 @@ fn row_conn<'c>(alloc: Global, seen: &'c Seen, mark: u64) -> Result<RowConn<'c>,
     client_in.set_mark(mark);
     let mut tape = TapeOut::new(alloc, &[], &[])?;
     tape.set_mark(mark);
-    Ok(Conn {
-        client_in,
-        client_out: Told { tape, taken },
-        dialer: Origin {
-            alloc,
-            dialled: &seen.dialled,
-            until,
-            link_reads: 0,
-            link_writes: 0,
-            opened: 0,
-            hung_up: 0,
-            mark,
-        },
-        clock: FixedClock::new(List::new(alloc)),
-        peer: Peer {
-            address: Text::from_bytes(alloc, b"127.0.0.1")?,
-        },
-    })
+    let client_out = Told { tape, taken };
+    let dialer = Origin {
+        alloc,
+        dialled: &seen.dialled,
+        until,
+        link_reads: 0,
+        link_writes: 0,
+        opened: 0,
+        hung_up: 0,
+        mark,
+    };
+    let clock = FixedClock::new(List::new(alloc));
+    let peer = Peer {
+        address: Text::from_bytes(alloc, b"127.0.0.1")?,
+    };
+    Ok(Ends::new(alloc, client_in, client_out, dialer, clock, peer))
+}
+
+/// Keeps a thing that there may be, or lets it go where memory is wanting for it. It says whether nothing was let go.
+fn keeps<T: Drop>(kept: &mut Vec<T>, thing: Option<T>) -> bool {
+    match thing {
+        Some(thing) => kept.push(thing).is_ok(),
+        None => true,
+    }
 }
 
 impl<'c> Doors for WaitingDoors<'c> {
-    type In = TapeIn;
-
-    type Out = Told<'c>;
-
-    type Dial = Origin<'c>;
-
-    type Time = FixedClock;
+    type Conn = RowConn<'c>;
 
     ghost state = { λ d. untold_doors d.listens_at d.accepted d.faults };
 
@@ -257,15 +276,15 @@ impl<'c> Doors for WaitingDoors<'c> {
         Ok(())
     }
 
-    fn accept(&mut self) -> Result<Option<RowConn<'c>>, AcceptFault> {
+    fn accept(&mut self) -> Result<Option<RowEnds<'c>>, AcceptFault> {
         if self.accepted == 1 && !has_risen(&self.seen.dialled) {
             self.faults = self.faults.saturating_add(1);
             return Err(AcceptFault::Failed);
         }
         match row_conn(self.alloc, self.seen, self.accepted) {
-            Ok(conn) => {
+            Ok(ends) => {
                 self.accepted += 1;
-                Ok(Some(conn))
+                Ok(Some(ends))
             }
             Err(Mem) => Err(AcceptFault::Mem),
         }
@@ -275,12 +294,8 @@ impl<'c> Doors for WaitingDoors<'c> {
 
     fn rest(_dialer: &mut Origin<'c>) {}
 
-    fn part(&mut self, parted: RowParted<'c>)
-        ensures parts { TakesPart (⟦<WaitingDoors<'c> as Doors>⟧.state self.old) (⟦<WaitingDoors<'c> as Doors>⟧.state self.new) (parted_as ⟦<TapeIn as Source>⟧.state ⟦<Told<'c> as Sink>⟧.state ⟦<Origin<'c> as Dialer>⟧.state ⟦<FixedClock as Clock>⟧.state parted.entry) }
-        ensures listens { (⟦<WaitingDoors<'c> as Doors>⟧.state self.new).listens_at ≡ (⟦<WaitingDoors<'c> as Doors>⟧.state self.old).listens_at }
-        ensures goes_on { DoorsGoesOn (⟦<WaitingDoors<'c> as Doors>⟧.state self.old) (⟦<WaitingDoors<'c> as Doors>⟧.state self.new) }
-    {
-        if self.parted.push(parted).is_err() {
+    fn part(&mut self, parted: &mut Option<RowParted<'c>>) {
+        if !keeps(&mut self.parted, parted.take()) {
             self.lost = self.lost.saturating_add(1);
         }
     }

@@ -7,7 +7,7 @@ use Rattle.px_base.specs.Causes.{Rose}
 use Rattle.px_base.specs.Sources.{SourceState, SourceGoesOn, Gives}
 use Rattle.px_base.specs.declared.faults.SinkFault.{SinkFault}
 use Rattle.px_base.specs.declared.faults.SinkFault.TheVariants as fault
-use Rattle.px_base.specs.Sinks.{SinkState, SinkGoesOn, AddsFront, RefusesBy}
+use Rattle.px_base.specs.Sinks.{SinkState, SinkGoesOn, AddsProperFront, RefusesBy}
 use Rattle.px_ways.specs.Directions.{AddsSome, Carries, CopiesSome, StopSinkCause, SourceCause, StopsIn, DirectionTakes, stop_of}
 use Rattle.px_ways.specs.declared.directions.TheConstants.{DIRECTION_LIMIT}
 use Rattle.px_ways.specs.declared.directions.DirectionStop.{DirectionStop}
@@ -139,7 +139,7 @@ pub fits : {X : Type 0} (xs : List X) (room left : ℕ) → room ≡ min left 81
 fits xs room left e = let count = length-take room xs in omega (arith, count, e)
 
 -- a front of the bytes of a piece
-front_of : (taken now bytes buf rest : List ℕ) (n room : ℕ) → bytes ≡ take n buf ++ rest → n ≤ room → AddsFront taken now (take n buf) → AddsSome room bytes taken now
+front_of : (taken now bytes buf rest : List ℕ) (n room : ℕ) → bytes ≡ take n buf ++ rest → n ≤ room → AddsProperFront taken now (take n buf) → AddsSome room bytes taken now
 front_of taken now bytes buf rest n room e within (k, shorter, added) = record {
   count = k;
   within = omega (arith, shorter, within, length-take n buf);
@@ -161,7 +161,7 @@ not_whole fault.Mem e = absurd (cc)
 
 -- a piece that wasn't written whole
 pub stops_in : (i i' : SourceState) (o o' : SinkState) (buf : List ℕ) (n size room : ℕ) (f : SinkFault) → length buf ≡ room → Gives i i' n buf → i'.faults ≡ i.faults
-    → (IsTrue o.tells → AddsFront o.taken o'.taken (take n buf)) → RefusesBy o o' size f → StopsIn i i' o o' room (stop_of f)
+    → (IsTrue o.tells → AddsProperFront o.taken o'.taken (take n buf)) → RefusesBy o o' size f → StopsIn i i' o o' room (stop_of f)
 stops_in i i' o o' buf n size room f same g calm added refused = record {
   taken = λ ti to. front_of o.taken o'.taken i.left buf i'.left n room (g.moved ti) (omega (arith, g.within, same)) (added to);
   source_cause = calm_source i i' f calm;
@@ -170,7 +170,7 @@ stops_in i i' o o' buf n size room f same g calm added refused = record {
 }
 
 -- a front of the bytes that were read ahead
-front_first : (taken now ahead left : List ℕ) → length ahead ≤ DIRECTION_LIMIT → AddsFront taken now ahead → AddsSome DIRECTION_LIMIT (ahead ++ left) taken now
+front_first : (taken now ahead left : List ℕ) → length ahead ≤ DIRECTION_LIMIT → AddsProperFront taken now ahead → AddsSome DIRECTION_LIMIT (ahead ++ left) taken now
 front_first taken now ahead left short (k, shorter, added) = record {
   count = k;
   within = omega (arith, shorter, short);
@@ -178,7 +178,7 @@ front_first taken now ahead left short (k, shorter, added) = record {
 }
 
 -- the bytes that were read ahead weren't written whole
-pub stops_first : (o o' : SinkState) (size : ℕ) (f : SinkFault) (ahead : List ℕ) (i : SourceState) → length ahead ≤ DIRECTION_LIMIT → (IsTrue o.tells → AddsFront o.taken o'.taken ahead) → RefusesBy o o' size f → SinkGoesOn o o'
+pub stops_first : (o o' : SinkState) (size : ℕ) (f : SinkFault) (ahead : List ℕ) (i : SourceState) → length ahead ≤ DIRECTION_LIMIT → (IsTrue o.tells → AddsProperFront o.taken o'.taken ahead) → RefusesBy o o' size f → SinkGoesOn o o'
     → Carries (ahead ++ i.left) i i o o' (stop_of f)
 stops_first o o' size f ahead i short added refused goes_on = record {
   takes = λ ti to. takes_some (ahead ++ i.left) o.taken o'.taken (stop_of f) (not_whole f) (front_first o.taken o'.taken ahead i.left short (added to));

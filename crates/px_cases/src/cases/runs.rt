@@ -7,12 +7,15 @@ use px_base::{
     Answer, Content, Dialer, Files, FixedClock, List, MemDialer, MemFiles, Peer, TapeIn, TapeOut,
     Text,
 };
-use px_commands::run_tool;
+use px_commands::{RanTool, ToolParts, run_tool};
 use px_config::{Config, load};
+use px_ends::{Ends, Joined, Outside};
 use px_leaf_rows::Fault;
+use px_link_pool::{Look, Sees};
+use px_notes::Session;
 use px_publish::StepConfig;
-use px_serve::{Session, serve_connection};
-use px_shared::{SharedSession, serve_shared};
+use px_serve::serve_cold;
+use px_shared::{with_pool, without_pool};
 use px_socks::SocksDialer;
 use px_ways::Way;
 use std::alloc::Global;
@@ -231,13 +234,14 @@ impl Run<'_, '_> {
         Ok(files.add((name, bytes))?)
     }
 
-    /// The streams and the clock of a command.
-    fn streams(&self) -> Result<Streams, Fault> {
+    /// What the command is run with.
+    fn parts(&self, files: MemFiles) -> Result<CaseParts, Fault> {
         let input = self.input()?;
         let out = self.output(Device::ClientWrite)?;
         let err = self.output(Device::ErrorWrite)?;
         let clock = self.clock()?;
-        Ok(Streams {
+        Ok(ToolParts {
+            files,
             input,
             out,
             err,
@@ -245,20 +249,18 @@ impl Run<'_, '_> {
         })
     }
 
-    /// The client of a session.
-    fn client(&self) -> Result<Client, Fault> {
+    /// The ends of a session, with a dialer through SOCKS servers.
+    fn ends(&self) -> Result<Ends<CaseConn>, Fault>
+        ensures none_dialled { IfOk result (λ ends. ends.dialer.dials ≡ []) }
+    {
         let input = self.input()?;
         let out = self.output(Device::ClientWrite)?;
-        let tags = self.tags()?;
+        let dialer = SocksDialer::new(self.alloc, self.dialer()?);
+        let clock = self.clock()?;
         let peer = Peer {
             address: self.text(b"127.0.0.1")?,
         };
-        Ok(Client {
-            input,
-            out,
-            tags,
-            peer,
-        })
+        Ok(Ends::new(self.alloc, input, out, dialer, clock, peer))
     }
 
     /// The words of the command.
@@ -308,14 +310,11 @@ fn sent_file(setup: &Setup<'_>, files: &mut MemFiles) -> Option<Text> {
     }
 }
 
-/// The streams and the clock of a command.
-#[derive(Drop)]
-struct Streams {
-    input: TapeIn,
-    out: TapeOut,
-    err: TapeOut,
-    clock: FixedClock,
-}
+/// What a command of a case is run with.
+type CaseParts = ToolParts<MemFiles, TapeIn, TapeOut, TapeOut, FixedClock>;
+
+/// The types of the ends of a case's session.
+type CaseConn = Joined<TapeIn, TapeOut, SocksDialer<MemDialer>, FixedClock>;
 
 /// Runs the command, the directions of a tunnel in turn.
 pub(crate) fn run_command<R: Threads + Sync>(
@@ -329,56 +328,37 @@ pub(crate) fn run_command<R: Threads + Sync>(
         return Err(Fault::Form("a command has files"));
     };
     let fails = run.fails(Device::Files, 0)?;
-    let mut files = run.files(named.as_slice(), fails.as_slice())?;
-    let mut streams = run.streams()?;
-    let status = run_over::<R>(&run, &mut files, &mut streams)?;
-    let sent = match sent_file(setup, &mut files) {
-        Some(sent) => sent,
-        None => run.text(UNTOUCHED)?,
-    };
-    command_seen(&run, status, streams, sent)
-}
-
-/// Runs the command over files and streams.
-fn run_over<R: Threads + Sync>(
-    run: &Run<'_, '_>,
-    files: &mut MemFiles,
-    streams: &mut Streams,
-) -> Result<u8, Fault> {
-    let words = run.words()?;
-    let way: Way<'_, R> = Way::InTurn;
-    Ok(run_tool(
-        run.alloc,
-        &way,
-        &words,
-        files,
-        &mut streams.input,
-        &mut streams.out,
-        &mut streams.err,
-        &mut streams.clock,
-    ))
-}
-
-/// What is seen behind a command.
-fn command_seen(
-    run: &Run<'_, '_>,
-    status: u8,
-    streams: Streams,
-    sent: Text,
-) -> Result<Seen, Fault> {
-    let Streams {
+    let files = run.files(named.as_slice(), fails.as_slice())?;
+    let parts = run.parts(files)?;
+    let RanTool { status, parts } = run_over::<R>(&run, parts)?;
+    let ToolParts {
+        mut files,
         input: _,
         out,
         err,
         clock: _,
-    } = streams;
-    let mut seen = Seen::new(run.alloc);
+    } = parts;
+    let sent = match sent_file(setup, &mut files) {
+        Some(sent) => sent,
+        None => run.text(UNTOUCHED)?,
+    };
+    let mut seen = Seen::new(alloc);
     seen.show(Key::Out, out.into_taken())?;
     seen.show(Key::Err, err.into_taken())?;
     seen.show(Key::Sent, sent)?;
-    let status = format!(in run.alloc; "{status}")?;
+    let status = format!(in alloc; "{status}")?;
     seen.show(Key::Status, run.text(status.as_bytes())?)?;
     Ok(seen)
+}
+
+/// Runs the command over its parts.
+fn run_over<R: Threads + Sync>(
+    run: &Run<'_, '_>,
+    parts: CaseParts,
+) -> Result<RanTool<MemFiles, TapeIn, TapeOut, TapeOut, FixedClock>, Fault> {
+    let words = run.words()?;
+    let way: Way<'_, R> = Way::InTurn;
+    Ok(run_tool(run.alloc, &way, &words, parts))
 }
 
 /// The configurations of the files of a case.
@@ -408,15 +388,6 @@ fn sent_over(alloc: Global, dialer: &MemDialer) -> Result<Text, Fault> {
     Ok(sent)
 }
 
-/// The client of a session by itself.
-#[derive(Drop)]
-struct Client {
-    input: TapeIn,
-    out: TapeOut,
-    tags: Vec<Text>,
-    peer: Peer,
-}
-
 /// Runs the session by itself, both directions of a tunnel at once.
 pub(crate) fn run_session<R: Threads + Sync>(
     rt: &R,
@@ -426,22 +397,27 @@ pub(crate) fn run_session<R: Threads + Sync>(
 ) -> Result<Seen, Fault> {
     let alloc = setup.alloc;
     let run = Run { alloc, setup, plan };
-    let mut client = run.client()?;
-    let Served { session, dialer } = serve(&run, rt, configs, &mut client)?;
-    let Client {
-        input: _,
-        out,
-        tags: _,
+    let Served { session, ends } = serve(&run, rt, configs)?;
+    let Ends {
+        client: _,
+        client_out,
+        dialer,
+        clock: _,
         peer: _,
-    } = client;
-    session_seen(&run, &session, out.into_taken(), &dialer.into_inner())
+    } = ends;
+    session_seen(
+        &run,
+        &session,
+        client_out.into_taken(),
+        &dialer.into_inner(),
+    )
 }
 
-/// A session that was served, and the dialer behind it.
+/// A session that was served, and the ends behind it.
 #[derive(Drop)]
 struct Served {
     session: Session,
-    dialer: SocksDialer<MemDialer>,
+    ends: Ends<CaseConn>,
 }
 
 /// Serves a client by configurations in turn: over shared links where the first one says so.
@@ -449,72 +425,40 @@ fn serve<R: Threads + Sync>(
     run: &Run<'_, '_>,
     rt: &R,
     configs: &[Arc<Config>],
-    client: &mut Client,
 ) -> Result<Served, Fault> {
     let sharing = match configs.first() {
         Some(first) => first.settings.sharing,
         None => false,
     };
-    let configs = run.configs(configs)?;
-    let dialer = SocksDialer::new(run.alloc, run.dialer()?);
+    let mut configs = run.configs(configs)?;
+    let tags = run.tags()?;
+    let mut ends = run.ends()?;
+    let way = Way::AtOnce(rt);
     if sharing {
-        share_links(run, rt, configs, client, dialer)
+        let (session, ends) = share_links(run.alloc, &way, &mut configs, tags.as_slice(), ends);
+        Ok(Served { session, ends })
     } else {
-        take_new_links(run, rt, configs, client, dialer)
+        let session = serve_cold(run.alloc, &way, &mut configs, tags.as_slice(), &mut ends);
+        Ok(Served { session, ends })
     }
 }
 
-/// Serves a client over a pool of links of a dialer.
-fn share_links<R: Threads + Sync>(
-    run: &Run<'_, '_>,
-    rt: &R,
-    configs: StepConfig<Config>,
-    client: &mut Client,
-    dialer: SocksDialer<MemDialer>,
-) -> Result<Served, Fault> {
-    let mut configs = configs;
-    let mut clock = run.clock()?;
-    let SharedSession {
-        session,
-        dialer,
-        wanting: _,
-        history: _,
-    } = serve_shared(
-        run.alloc,
-        &Way::AtOnce(rt),
-        &mut configs,
-        &mut client.input,
-        &mut client.out,
-        dialer,
-        &mut clock,
-        &client.peer,
-        client.tags.as_slice(),
-    );
-    Ok(Served { session, dialer })
-}
-
-/// Serves a client over a dialer, each dial a new link.
-fn take_new_links<R: Threads + Sync>(
-    run: &Run<'_, '_>,
-    rt: &R,
-    configs: StepConfig<Config>,
-    client: &mut Client,
-    dialer: SocksDialer<MemDialer>,
-) -> Result<Served, Fault> {
-    let (mut configs, mut dialer) = (configs, dialer);
-    let mut clock = run.clock()?;
-    let session = serve_connection(
-        run.alloc,
-        &Way::AtOnce(rt),
-        &mut configs,
-        &mut client.input,
-        &mut client.out,
-        &mut dialer,
-        &mut clock,
-        &client.peer,
-        client.tags.as_slice(),
-    );
-    Ok(Served { session, dialer })
+/// Serves a client over a pool of links of its ends' dialer.
+fn share_links<R: Threads + Sync, A: Outside>(
+    alloc: Global,
+    way: &Way<'_, R>,
+    configs: &mut StepConfig<Config>,
+    tags: &[Text],
+    ends: Ends<A>,
+) -> (Session, Ends<A>)
+where
+    Look: Sees<<A::Dial as Dialer>::In>,
+    requires undialled { ends.dialer.dials ≡ [] }
+{
+    let mut pooled = with_pool(alloc, ends);
+    let session = serve_cold(alloc, way, configs, tags, &mut pooled);
+    let (ends, _wanting) = without_pool(pooled);
+    (session, ends)
 }
 
 /// What is seen behind a session.

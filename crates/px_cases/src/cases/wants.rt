@@ -13,13 +13,29 @@ struct Want<'a> {
     bytes: Vec<u8>,
 }
 
-/// What is wanted of a run in which one more call failed: what it shows is one of the words.
+/// What is wanted of a run in which one more call failed: what it shows is one of the words, or the text.
 #[derive(Drop)]
 struct FailedWant<'a> {
     line: usize,
     what: &'a str,
     words: &'a str,
+    text: Vec<u8>,
 }
+
+impl FailedWant<'_> {
+    /// Whether its text stands behind a front of the case's own output.
+    fn is_behind(&self) -> bool {
+        self.words.starts_with("behind ")
+    }
+
+    /// How the last exchange ends in the runs whose output it speaks of.
+    fn ending(&self) -> &str {
+        self.words.strip_prefix("behind ").unwrap_or(self.words)
+    }
+}
+
+/// The most links that are compared.
+const LINK_LIMIT: usize = 1_000;
 
 /// A line of a case that a run doesn't meet: what it wants, and what came.
 #[derive(Drop)]
@@ -84,7 +100,7 @@ impl<'a> Wants<'a> {
             Key::Err => text_bytes(alloc, texts, "\n")?,
             Key::Status | Key::End | Key::Notes => decoded(alloc, field.words)?,
             Key::Sent => return self.add_sent(field),
-            Key::Failed => return self.add_failed(field),
+            Key::Failed => return self.add_failed(field, line_end),
             Key::File(_) | Key::Turn | Key::Words | Key::In | Key::Origin => return Ok(()),
             Key::Clock | Key::Cuts | Key::Fails => return Ok(()),
         };
@@ -111,7 +127,8 @@ impl<'a> Wants<'a> {
         }
     }
 
-    fn add_failed(&mut self, field: &CaseField<'a>) -> Result<(), Fault> {
+    fn add_failed(&mut self, field: &CaseField<'a>, line_end: &str) -> Result<(), Fault> {
+        let text = text_bytes(self.alloc, field.texts.as_slice(), line_end)?;
         match field.words.split_once(' ') {
             Some(("times", words)) => {
                 self.times = Some((field.line, number_of(words)?));
@@ -122,6 +139,7 @@ impl<'a> Wants<'a> {
                     line: field.line,
                     what,
                     words,
+                    text,
                 })?,
             ),
             None => Err(Fault::Form("`failed` is before what is shown and the words for it")),
@@ -144,12 +162,40 @@ impl<'a> Wants<'a> {
 
     /// The output that is wanted.
     pub(crate) fn out(&self) -> &[u8] {
+        self.wanted(Key::Out)
+    }
+
+    /// What is wanted under a key.
+    fn wanted(&self, key: Key<'_>) -> &[u8] {
         for want in &self.whole {
-            if want.key == Key::Out {
+            if want.key == key {
                 return want.bytes.as_slice();
             }
         }
         &[]
+    }
+
+    /// Whether a line `failed out` names how an exchange ended.
+    fn names_ending(&self, ending: Option<&[u8]>) -> bool {
+        self.failed.iter().any(|line| line.what == "out"
+            && Some(line.ending().as_bytes()) == ending)
+    }
+
+    /// Whether the output of a run is as that line `failed out` wants it, or another line speaks of it: that which names how the last
+    /// exchange ended, else that with `prefix`.
+    fn meets_out(&self, want: &FailedWant<'_>, seen: &Seen) -> bool {
+        let ending = seen.last_of_end();
+        if want.words == "prefix" {
+            return self.names_ending(ending) || self.out().starts_with(seen.out());
+        }
+        if Some(want.ending().as_bytes()) != ending {
+            return true;
+        }
+        match seen.out().strip_suffix(want.text.as_slice()) {
+            Some(front) if want.is_behind() => self.out().starts_with(front),
+            Some(front) => front.is_empty(),
+            None => false,
+        }
     }
 
     /// The first line that the case's own run doesn't meet.
@@ -172,7 +218,9 @@ impl<'a> Wants<'a> {
     pub(crate) fn failed_difference<'d>(&'d self, seen: &'d Seen) -> Option<CaseDifference<'d>> {
         for want in &self.failed {
             let (met, got) = match want.what {
-                "out" => (self.out().starts_with(seen.out()), seen.out()),
+                "out" => (self.meets_out(want, seen), seen.out()),
+                "err" => front_of(self.wanted(Key::Err), seen.shown(Key::Err)),
+                "sent" => fronts_of(self.wanted(Key::Sent), seen.shown(Key::Sent)),
                 "status" => one_of(want.words, seen.shown(Key::Status)),
                 "end" => one_of(want.words, seen.first_of_end()),
                 "ending" => one_of(want.words, seen.last_of_end()),
@@ -196,4 +244,60 @@ fn one_of<'d>(words: &str, shown: Option<&'d [u8]>) -> (bool, &'d [u8]) {
         Some(got) => (words.split(' ').any(|word| word.as_bytes() == got), got),
         None => (true, &[]),
     }
+}
+
+/// Whether a run shows a front of that, or nothing of the kind; and what it shows.
+fn front_of<'d>(whole: &[u8], shown: Option<&'d [u8]>) -> (bool, &'d [u8]) {
+    match shown {
+        Some(got) => (whole.starts_with(got), got),
+        None => (true, &[]),
+    }
+}
+
+/// Whether a run's links were the first ones of the whole, each sent a front, or there is nothing of the kind; and what they were
+/// sent.
+fn fronts_of<'d>(whole: &[u8], shown: Option<&'d [u8]>) -> (bool, &'d [u8]) {
+    match shown {
+        Some(got) => (got == UNTOUCHED || are_fronts(whole, got), got),
+        None => (true, &[]),
+    }
+}
+
+/// Whether the entries of SENT are the first ones of the whole, each with a front.
+fn are_fronts(whole: &[u8], sent: &[u8]) -> bool {
+    let (mut whole, mut sent) = (whole, sent);
+    for _ in 0..LINK_LIMIT {
+        let Some(entry) = first_entry(sent) else {
+            return sent.is_empty();
+        };
+        match first_entry(whole) {
+            Some(other) if other.host == entry.host && other.bytes.starts_with(entry.bytes) => {
+                whole = other.rest;
+                sent = entry.rest;
+            }
+            _ => return false,
+        }
+    }
+    false
+}
+
+/// An entry of SENT, and what is behind it.
+#[derive(Clone, Copy)]
+struct SentEntry<'d> {
+    host: &'d str,
+    bytes: &'d [u8],
+    rest: &'d [u8],
+}
+
+/// The first entry of a text of SENT.
+fn first_entry(text: &[u8]) -> Option<SentEntry<'_>> {
+    let line = text.split(|byte| *byte == b'\n').next()?;
+    let rest = text.strip_prefix(line)?.strip_prefix(b"\n")?;
+    let (host, length) = str::from_utf8(line).ok()?.rsplit_once(' ')?;
+    let length = number_of::<usize>(length).ok()?;
+    Some(SentEntry {
+        host,
+        bytes: rest.get(..length)?,
+        rest: rest.get(length..)?,
+    })
 }

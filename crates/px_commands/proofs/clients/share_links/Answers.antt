@@ -1,10 +1,14 @@
+use denote.Param.Send.{sendable}
+use Rattle.std.proofs.Crossing.{crosses}
+use Rattle.px_commands.proofs.ClientLemmas.{shares_links}
+use Rattle.px_commands.proofs.Crossing.{pool_send}
 use Rattle.px_commands.proofs.clients.share_links.Goals as goal
 
-pub returns-clause-shares : goal.returns-clause-shares
-returns-clause-shares g c = record {
-  looks_after = _;
-  notes = c.serve_shared-session.result.session.exchanges;
-  wanting = c.serve_shared-session.result.wanting;
-  history = c.serve_shared-session.result.history.value;
-  shares = rw c.as_slice.ensures at c.serve_shared-session.ensures.shares;
+pub returns : goal.returns
+returns g c = record {
+  serves = shares_links (record { ins = g.A.Dial.In.Source.state; outs = g.A.Dial.Out.Sink.state }) c.args.tags.now _ _ _ _ _ _ _ _
+      c.heard_is_enough.ensures c.pools_hear_fronts.ensures (rw c.with_pool-pooled.ensures at c.serve_cold-session.ensures) c.without_pool-ends.ensures;
 }
+
+pub serve_cold-session-requires-send-A-Dial : goal.serve_cold-session-requires-send-A-Dial
+serve_cold-session-requires-send-A-Dial g c κs within = search (sendable, crosses, pool_send) depth 60 fits 20000

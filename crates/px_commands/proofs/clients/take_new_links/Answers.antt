@@ -1,5 +1,5 @@
+use Rattle.px_commands.proofs.ClientLemmas.{takes_new_links}
 use Rattle.px_commands.proofs.clients.take_new_links.Goals as goal
 
-pub returns-clause-takes : goal.returns-clause-takes
-returns-clause-takes g c =
-    record { looks_after = _; notes = c.serve_connection-session.result.exchanges; serves = rw c.as_slice.ensures at c.serve_connection-session.ensures.serves }
+pub returns : goal.returns
+returns g c = record { serves = takes_new_links (record { ins = g.A.Dial.In.Source.state; outs = g.A.Dial.Out.Sink.state }) c.args.tags.now _ _ _ _ _ _ c.serve_cold-session.ensures }

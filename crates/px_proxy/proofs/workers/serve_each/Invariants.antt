@@ -1,7 +1,6 @@
 use Rattle.std.specs.Prelude.{IfNone, IfSome}
 use Rattle.std.proofs.Common.{◌≡◌, ◌<◌, length}
 use Rattle.px_publish.specs.Published.{reader_pair, seen_by}
-use Rattle.px_doors.specs.Conns.{conn_as}
 use Rattle.px_desk.specs.Sessions.{IsNth}
 use Rattle.px_proxy.proofs.workers.serve_each.Given as goal
 
@@ -11,6 +10,6 @@ invariant-more g l = record {
   counted : IfSome l.next (λ _. l.mine.out.amount ≡ 1);
   closed : IfNone l.next (l.mine.out.amount ≡ 0);
   told : IfNone l.next (0 < l.mine.told.amount);
-  nth : IfSome l.next (λ task. IsNth g.N.Making.made.doors.tells g.N.Making.made.doors.conns task.number (conn_as g.A.In.Source.state g.A.Out.Sink.state g.A.Dial.Dialer.state g.A.Time.Clock.state task.conn));
+  nth : IfSome l.next (λ task. IsNth g.N.Making.made.doors.tells g.N.Making.made.doors.conns task.number task.ends);
   learnt : IfSome l.next (λ task. task.handed < length (seen_by l.reader));
 }

@@ -1,6 +1,5 @@
 use Rattle.std.proofs.Common.{◌≡◌, ◌<◌, length}
 use Rattle.px_publish.specs.Published.{reader_pair, seen_by}
-use Rattle.px_doors.specs.Conns.{conn_as}
 use Rattle.px_desk.specs.Sessions.{IsNth}
 use Rattle.px_serve.specs.Keeping.{IsStored}
 use Rattle.px_proxy.proofs.workers.serve_while_stored.Given as goal
@@ -10,6 +9,6 @@ invariant-same g l = record {
   one : l.mine.out.amount ≡ 1;
   pair : reader_pair l.reader ≡ g.N.Making.made.pair;
   stored : IsStored (seen_by l.reader) l.store;
-  nth : IsNth g.N.Making.made.doors.tells g.N.Making.made.doors.conns l.task.number (conn_as g.A.In.Source.state g.A.Out.Sink.state g.A.Dial.Dialer.state g.A.Time.Clock.state l.task.conn);
+  nth : IsNth g.N.Making.made.doors.tells g.N.Making.made.doors.conns l.task.number l.task.ends;
   learnt : l.task.handed < length (seen_by l.reader);
 }

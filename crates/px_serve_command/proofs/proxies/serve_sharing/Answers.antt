@@ -1,6 +1,6 @@
 use denote.Param.Send.{sendable}
 use Rattle.std.proofs.Common.{sym}
-use Rattle.px_serve_command.proofs.Crossing.{pool_send}
+use Rattle.px_commands.proofs.Crossing.{pool_send}
 use Rattle.std.proofs.Crossing.{crosses}
 use Rattle.px_serve_command.proofs.proxies.serve_sharing.Goals as goal
 
@@ -14,5 +14,5 @@ returns-clause-goes_on g c = record {
   errors = c.serve_loaded-status.ensures.goes_on.errors;
 }
 
-pub serve_loaded-status-requires-send-A-Dial : goal.serve_loaded-status-requires-send-A-Dial
-serve_loaded-status-requires-send-A-Dial g c κs within = search (sendable, crosses, pool_send) depth 60 fits 20000
+pub serve_loaded-status-requires-send-A-Conn-Dial : goal.serve_loaded-status-requires-send-A-Conn-Dial
+serve_loaded-status-requires-send-A-Conn-Dial g c κs within = search (sendable, crosses, pool_send) depth 60 fits 20000

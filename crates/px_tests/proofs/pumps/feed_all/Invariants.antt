@@ -2,7 +2,4 @@ use Rattle.std.proofs.Common.{◌≡◌}
 use Rattle.px_tests.proofs.pumps.feed_all.Given as goal
 
 abbrev pub invariant-pieces : goal.invariant-pieces
-invariant-pieces g l = record {
-  sections : l.warm.sections ≡ l.pump.config.sections;
-  filters : l.warm.filters ≡ l.pump.config.filters;
-}
+invariant-pieces g l = l.running ≡ l.pump.config

@@ -1,0 +1,5 @@
+pub mod Stamps
+pub mod Readings
+pub mod Stores
+pub mod Lookings
+pub mod Contents

@@ -1,0 +1,7 @@
+use denote.Param.Send.{sendable}
+use Rattle.std.proofs.Crossing.{crosses}
+use Rattle.px_commands.proofs.Crossing.{pool_send}
+use Rattle.px_tests.proofs.sharing.over_pool.Goals as goal
+
+pub serve_cold-session-requires-send-A-Dial : goal.serve_cold-session-requires-send-A-Dial
+serve_cold-session-requires-send-A-Dial g c κs within = search (sendable, crosses, pool_send) depth 60 fits 20000
