@@ -7,7 +7,7 @@ Usage: links.py PROGRAM..  Says what failed and what was skipped, and ends with 
 """
 import collections
 import http.client
-import http.server
+import math
 import os
 import re
 import shutil
@@ -17,6 +17,7 @@ import sys
 import tempfile
 import threading
 import time
+import typing
 from concurrent.futures import ProcessPoolExecutor
 
 import origins
@@ -27,28 +28,28 @@ REQUESTS = 30
 # A client that rests has the time of a head, and not that of a link.
 PIECE_LEAST, PIECE_MOST = 12, 25
 
-# So many requests before each server, so many of them on a connection, and the seconds between them. Where a server does something at a
-# moment behind its answer (`origins`), no request is near to that moment: who is late by more than LATE waits for BEHIND first.
+# So many requests before each server, so many of them on a connection, and the seconds between them.
 MANY, EACH = 1000, 50
 ANY = (0, 0.06, 0.005, 0.03, 0.015, 0.01, 0.06, 0.02, 0.04, 0.008)
 SELDOM_AT_ONCE = ANY + ANY[1:]
-AROUND_REST = (0, 0.06, 0.005, 0.06, 0, 0.01, 0.06, 0.015, 0.06, 0.001)
+AROUND_REST = (0, 0.07, 0.005, 0.07, 0, 0.01, 0.07, 0.015, 0.07, 0.001)
 AROUND_LATE_ANSWER = (0, 0.06, 0, 0.045, 0, 0.002, 0.06, 0.05, 0.04, 0.001)
-LATE, BEHIND = 0.008, 0.06
-# nginx closes a link after a second, and haproxy after 0.2.
-AROUND_A_SECOND = (0, 0.02, 0.005, 0.01) * 10 + (1.2,)
-AROUND_A_FIFTH = ANY * 2 + (0.3,)
-# The servers: how each answers, the seconds between requests, how many pages for a lost link may come of 1,000 (a server that closes in the
-# very moment in which its link is lent), and how many links there are at least and at most.
+AROUND_A_SECOND = (0, 0.02, 0.005, 0.01) * 10 + (1.6,)
+AROUND_A_FIFTH = ANY * 2 + (0.6,)
+# What was done so long before a request has reached the proxy, however late this machine hands it on.
+KNOWN = 0.005
+# The servers: what each does behind an answer, the seconds between requests, and how many requests are to come behind a link that the
+# server has spoiled by then, and how many over one that rests well, at least.
 PLAIN = (
-    ("a server that keeps its links", origins.keeps, ANY, 0, MANY // EACH, MANY // EACH),
-    ("a server that closes behind each answer", origins.closes, SELDOM_AT_ONCE, 10, MANY - 10, MANY),
-    ("a server that closes links at rest", origins.closes_at_rest, AROUND_REST, 0, MANY // 3, 9 * MANY // 10),
-    ("a server that answers late and closes", origins.answers_late_and_closes, AROUND_LATE_ANSWER, 0, MANY // 3, 9 * MANY // 10),
-    ("a server that answers late and keeps the link", origins.answers_late_and_keeps, AROUND_LATE_ANSWER, 0, MANY // 3, 9 * MANY // 10),
-    ("a server that closes slowly", origins.closes_slowly, ANY, 0, MANY, MANY),
+    ("a server that keeps its links", origins.keeps, ANY, 0, MANY - MANY // EACH),
+    ("a server that closes behind each answer", origins.closes, SELDOM_AT_ONCE, MANY // 2, 0),
+    ("a server that closes links at rest", origins.closes_at_rest, AROUND_REST, MANY // 5, MANY // 50),
+    ("a server that answers late and closes", origins.answers_late_and_closes, AROUND_LATE_ANSWER, MANY // 5, 0),
+    ("a server that answers late and keeps the link", origins.answers_late_and_keeps, AROUND_LATE_ANSWER, MANY // 5, 0),
+    ("a server that closes slowly", origins.closes_slowly, ANY, MANY // 2, 0),
 )
-REAL = (("nginx", AROUND_A_SECOND, MANY // 7, MANY // 4), ("haproxy", AROUND_A_FIFTH, MANY // EACH, MANY // 4))
+# nginx closes a link after a second and behind seven answers, and haproxy after 0.2 seconds; by so much later that has come.
+REAL = (("nginx", AROUND_A_SECOND, 1, 0.4, 7), ("haproxy", AROUND_A_FIFTH, 0.2, 0.3, MANY))
 # The pages for a lost link: where nothing comes back, and where the rest of a request can't be sent.
 LOST = ("no-server-data", "send-failed")
 SHOWN = 3
@@ -73,9 +74,7 @@ class CountedOrigin(Origin):
 
 def counted_origin():
     handler = type("Counted", (CountedOrigin,), {"links": 0})
-    server = http.server.ThreadingHTTPServer(("127.0.0.1", 0), handler)
-    threading.Thread(target=server.serve_forever, daemon=True).start()
-    return handler, server.server_address[1]
+    return handler, origins.Server(handler).start()
 
 
 def asked(link, url):
@@ -130,79 +129,135 @@ def resting_client(program):
             check("it is let go in time", PIECE_LEAST <= time.monotonic() - began <= PIECE_MOST)
 
 
-def pause(seconds, asked_at):
-    """Lets so many seconds pass. Who comes to be late, since the request before was asked, waits until all moments are over."""
-    time.sleep(seconds)
-    if time.monotonic() - asked_at > seconds + LATE:
-        time.sleep(BEHIND)
+class Answer(typing.NamedTuple):
+    """The answer to a request: its status (0 where there is none) and body (then why), the moments before it was asked and behind it, and
+    whether it is the first one of a client."""
+
+    status: int
+    body: bytes
+    asked: float
+    came: float
+    is_first: bool
 
 
 def answer_of(link, origin, number):
-    """The status and the body of the answer to a numbered request, of which each third has no body; 0 and why where there is none."""
+    """The answer to a numbered request, of which each third has no body."""
     named = "/%d" % number
     method, body = ("GET", None) if number % 3 == 2 else ("POST", named.encode())
+    is_first, asked = number % EACH == 0, time.monotonic()
     try:
         link.request(method, "http://127.0.0.1:%d%s" % (origin, named), body)
         answer = link.getresponse()
-        return answer.status, answer.read()
+        return Answer(answer.status, answer.read(), asked, time.monotonic(), is_first)
     except (OSError, http.client.HTTPException) as fault:
         link.close()
-        return 0, repr(fault).encode()
+        return Answer(0, repr(fault).encode(), asked, time.monotonic(), is_first)
 
 
 def answers_of(port, origin, pauses):
     """The answers to numbered requests, one after another over a few connections."""
-    answers, asked_at = [], time.monotonic()
+    answers = []
     for first in range(0, MANY, EACH):
         link = http.client.HTTPConnection("127.0.0.1", port, timeout=WAIT)
         for number in range(first, first + EACH):
-            pause(pauses[number % len(pauses)], asked_at)
-            asked_at = time.monotonic()
+            time.sleep(pauses[number % len(pauses)])
             answers.append(answer_of(link, origin, number))
         link.close()
     return answers
 
 
-def what_it_is(number, status, body):
-    """What an answer is to a numbered request: its own, another one's, a page of the proxy, or something else."""
-    came = re.fullmatch(rb"/(\d+) over \d+", body)
-    page = re.fullmatch(rb"<html><body>(\S+)</body></html>\n", body)
-    if came and status == 200:
-        return "its own" if int(came[1]) == number else "another one's"
-    return page[1].decode() if page else "something else"
+def what_it_is(number, answer):
+    """What an answer is to a numbered request: its own, another one's, a late one, a page of the proxy, or something else; and the port of
+    the link over which it came, or None."""
+    came = re.fullmatch(rb"(/(\d+)|too late \d+) over (\d+)", answer.body)
+    page = re.fullmatch(rb"<html><body>(\S+)</body></html>\n", answer.body)
+    if came and came[2] and answer.status == 200:
+        return "its own" if int(came[2]) == number else "another one's", int(came[3])
+    if came and not came[2] and answer.status == 408:
+        return "late ones", int(came[3])
+    return (page[1].decode() if page else "something else"), None
 
 
-def judge(name, answers, lost, least, most):
-    """Counts what came, and holds it against what is expected."""
-    kinds = [what_it_is(number, *answer) for number, answer in enumerate(answers)]
-    counts = collections.Counter(kinds)
-    ports = [body.split()[-1] for kind, (_, body) in zip(kinds, answers) if kind == "its own"]
-    links = sum(it != before for it, before in zip(ports, [b"", *ports]))
-    told = ", ".join("%d are %s" % (count, kind) for kind, count in counts.most_common())
+def is_fault(kind, port, answer, before, origin):
+    """Whether an answer is no right one, by what its origin noted of it and of the link of the answer before, which is None where there is
+    none. What crosses the request on its way is none of the proxy's."""
+    known = answer.asked - KNOWN
+    if kind == "its own":
+        return before not in (None, port) and origin.disturbed.get(before, math.inf) > answer.came
+    if kind in ("another one's", "late ones"):
+        return origin.sent.get(answer.body, math.inf) < known
+    if kind in LOST:
+        return not (origin.disturbed.get(before, math.inf) <= answer.came and origin.ended.get(before, -math.inf) >= known)
+    return True
+
+
+def told_of(link, answer, origin):
+    """What the origin noted of a link, in milliseconds from the moment in which an answer was asked for."""
+    notes = ((name, getattr(origin, name).get(link)) for name in ("disturbed", "spoiled", "ended"))
+    return "link %s (%s)" % (link, ", ".join("%s %.1f" % (name, 1000 * (it - answer.asked)) for name, it in notes if it))
+
+
+def tell(name, kinds, ports):
+    """Says what came, and over how many links."""
+    links = sum(it != before for it, before in zip(ports, [None, *ports]))
+    told = ", ".join("%d are %s" % (count, kind) for kind, count in collections.Counter(kinds).most_common())
     print("%s: of %d answers %s, over %d links" % (name, MANY, told, links))
-    wrong = [(number, answers[number]) for number, kind in enumerate(kinds) if kind not in ("its own", *LOST)]
-    shown = ["%d got %d %r" % (number, *answer) for number, answer in wrong[:SHOWN]]
-    check("%s: each request its own answer is expected, and there is %s" % (name, ", ".join(shown)), not wrong)
-    came = sum(counts[it] for it in LOST)
-    check("%s: %d pages for a lost link are expected at most, and there are %d" % (name, lost, came), came <= lost)
-    check("%s: %d to %d links are expected, and there were %d" % (name, least, most, links), least <= links <= most)
+    return links
 
 
-def plain_server(program, name, answered, pauses, lost, least, most):
+def judge(name, answers, origin, least_spoiled, least_shared):
+    """Holds what came against what the origin did."""
+    found, faults, spoiled, shared, before = [], [], 0, 0, None
+    for number, answer in enumerate(answers):
+        before = None if answer.is_first else before
+        kind, port = what_it_is(number, answer)
+        found.append((kind, port))
+        if is_fault(kind, port, answer, before, origin):
+            faults.append("%d got %d %r behind %s" % (number, answer.status, answer.body, told_of(before, answer, origin)))
+        spoiled += before is not None and origin.spoiled.get(before, math.inf) < answer.asked - KNOWN
+        shared += port is not None and port == before
+        before = port
+    tell(name, [kind for kind, _ in found], [port for kind, port in found if kind == "its own"])
+    told = "%s: each request its own answer is expected, over the link before where that rests well, but for what crosses it" % name
+    check("%s; and of %d others, %s" % (told, len(faults), ", ".join(faults[:SHOWN])), not faults)
+    check("%s: %d spoiled links at least are expected, and there were %d" % (name, least_spoiled, spoiled), spoiled >= least_spoiled)
+    check("%s: %d shared links at least are expected, and there were %d" % (name, least_shared, shared), shared >= least_shared)
+
+
+def plain_server(program, name, behind, pauses, least_spoiled, least_shared):
     """Many requests before a server of this test."""
-    origin = origins.LinkOrigin(answered)
+    origin = origins.LinkOrigin(behind)
     with running(program, "link-reuse 1\n") as (port, _):
-        judge(name, answers_of(port, origin.port, pauses), lost, least, most)
+        judge(name, answers_of(port, origin.port, pauses), origin, least_spoiled, least_shared)
 
 
-def real_server(program, name, pauses, least, most):
+def judge_real(name, answers, closes, late, behind):
+    """Holds what came against a server that closes a link which rests for so many seconds, a little later, and behind so many answers."""
+    kinds, ports, faults, ends = [], [], [], MANY // EACH + MANY // behind
+    for number, (before, answer) in enumerate(zip([answers[0], *answers], answers)):
+        kind, port = what_it_is(number, answer)
+        kinds.append(kind)
+        ports += [port] if port else []
+        may_end = not answer.is_first and answer.came - before.asked >= closes
+        ends += may_end
+        crosses = may_end and answer.asked - before.came <= closes + late
+        if kind != "its own" and not (kind in LOST and crosses):
+            faults.append("%d got %d %r" % (number, answer.status, answer.body))
+    links = tell(name, kinds, ports)
+    told = "%s: each request its own answer is expected, but for links that are closed meanwhile" % name
+    check("%s; and of %d others, %s" % (told, len(faults), ", ".join(faults[:SHOWN])), not faults)
+    least = max(MANY // behind, MANY // EACH)
+    check("%s: %d to %d links are expected, and there were %d" % (name, least, ends, links), least <= links <= ends < MANY)
+
+
+def real_server(program, name, pauses, *closes):
     """Many requests before a real server, which closes its links soon."""
     with tempfile.TemporaryDirectory() as folder, origins.server(name, folder) as origin:
         if origin is None:
             print("skipped: %s isn't there, and can't be fetched" % name)
             return
         with running(program, "link-reuse 1\n") as (port, _):
-            judge(name, answers_of(port, origin, pauses), 0, least, most)
+            judge_real(name, answers_of(port, origin, pauses), *closes)
 
 
 def outlived(program):
@@ -324,10 +379,10 @@ def through_socks(program):
 
 
 def counted_apart(part, words):
-    """How much of a part passes and fails, in a process of its own."""
-    serve.passed = serve.failed = 0
+    """How many checks of a part pass, and which fail, in a process of its own."""
+    serve.passed, serve.failures = 0, []
     guarded(part, *words)
-    return serve.passed, serve.failed
+    return serve.passed, serve.failures
 
 
 def main():
@@ -341,9 +396,9 @@ def main():
             for part in (shared, closed_link, outlived, half_closed_tunnels, through_socks):
                 guarded(part, program)
         for it in counts:
-            passed, failed = it.result()
+            passed, failures = it.result()
             serve.passed += passed
-            serve.failed += failed
+            serve.failures += failures
     serve.finished()
 
 

@@ -1,14 +1,18 @@
-"""Servers for the tests of kept links: plain ones that do to a link, behind an answer, what real servers do, and nginx and haproxy.
+"""Servers for the tests: one for Python's handlers, whose clients may hang up; and for kept links plain ones that do to a link, behind an
+answer, what real servers do, and nginx and haproxy.
 
-Each answers with the path of the request (plain ones with its body, where it has one) and the port that the link came from:
+Those for kept links answer with the path of the request (plain ones with its body, where it has one) and the port that the link came from:
 `/17 over 40312`.
 """
 import contextlib
 import glob
+import http.server
 import os
+import random
 import select
 import shutil
 import socket
+import ssl
 import subprocess
 import sys
 import threading
@@ -16,22 +20,64 @@ import time
 
 WAIT = 20
 
-# When a server closes a link that rests, when a late answer comes, and how late it may wake for that.
-REST_SECONDS, LATE_ANSWER_SECONDS, LATE = 0.05, 0.02, 0.005
+# So long a program may take to listen.
+START = 60
+
+# Ports of this range are given to whoever asks for a named one alone: the system takes those of outgoing connections from above it.
+LEAST_PORT, PORTS_END = 10000, 32768
+given_ports = set()
+
+# When a server closes a link that rests, and when a late answer comes.
+REST_SECONDS, LATE_ANSWER_SECONDS = 0.05, 0.02
 # How long a server that is slow to close keeps its socket.
 SLOW_SECONDS = 2
-LATE_ANSWER = b"HTTP/1.1 408 Request Timeout\r\nContent-Type: text/plain\r\nContent-Length: 8\r\n\r\ntoo late"
+LATE_HEAD = b"HTTP/1.1 408 Request Timeout\r\nContent-Type: text/plain\r\nContent-Length: %d\r\n\r\n"
+
+
+def least_outgoing_port():
+    """The least port that the system gives to an outgoing connection."""
+    with contextlib.suppress(OSError, ValueError, IndexError):
+        with open("/proc/sys/net/ipv4/ip_local_port_range") as file:
+            return int(file.read().split()[0])
+    return PORTS_END
 
 
 def free_port():
-    with socket.create_server(("127.0.0.1", 0)) as listener:
-        return listener.getsockname()[1]
+    """A port at which nobody listens, and that no outgoing connection will take meanwhile; none is given twice."""
+    end = max(LEAST_PORT + 1000, min(PORTS_END, least_outgoing_port()))
+    for _ in range(1000):
+        port = random.SystemRandom().randrange(LEAST_PORT, end)
+        with contextlib.suppress(OSError):
+            if port not in given_ports:
+                socket.create_server(("127.0.0.1", port)).close()
+                given_ports.add(port)
+                return port
+    raise OSError("no port is free")
 
 
-def wait_for(port):
-    """Waits until somebody listens at a port. The connection that tells is one that the proxy serves."""
-    end = time.monotonic() + WAIT
-    while time.monotonic() < end:
+class Server(http.server.ThreadingHTTPServer):
+    """A server for Python's handlers at a port of its own. Clients that hang up in the midst of an answer are no fault of it."""
+
+    request_queue_size = 128
+
+    def __init__(self, handler, address=("127.0.0.1", 0)):
+        super().__init__(address, handler)
+
+    def handle_error(self, request, client_address):
+        if not isinstance(sys.exc_info()[1], (ConnectionError, TimeoutError, ssl.SSLError)):
+            super().handle_error(request, client_address)
+
+    def start(self):
+        """Serves from now on; gives its port."""
+        threading.Thread(target=self.serve_forever, daemon=True).start()
+        return self.server_address[1]
+
+
+def wait_for(port, process=None):
+    """Waits until somebody listens at a port, or the process that is to do so has ended. The connection that tells is one that the proxy
+    serves."""
+    end = time.monotonic() + START
+    while time.monotonic() < end and (process is None or process.poll() is None):
         try:
             socket.create_connection(("127.0.0.1", port), timeout=WAIT).close()
             return True
@@ -41,53 +87,44 @@ def wait_for(port):
 
 
 def rests(link, seconds):
-    """Whether nothing comes over a link for so many seconds. Who wakes late has missed the moment, and waits on."""
-    began = time.monotonic()
-    if select.select([link], [], [], seconds)[0]:
-        return False
-    if time.monotonic() - began <= seconds + LATE:
-        return True
-    select.select([link], [], [], WAIT)
-    return False
+    """Whether nothing comes over a link for so many seconds."""
+    return not select.select([link], [], [], seconds)[0]
 
 
-def keeps(link, answer):
+def keeps(link, notes):
     """Keeps its link for as long as its client does."""
-    link.sendall(answer)
     return True
 
 
-def closes(link, answer):
+def closes(link, notes):
     """Closes at once, without a word of it in the answer."""
-    link.sendall(answer)
     return False
 
 
-def closes_at_rest(link, answer):
+def closes_at_rest(link, notes):
     """Closes a link that rests."""
-    link.sendall(answer)
     return not rests(link, REST_SECONDS)
 
 
-def answers_late_and_closes(link, answer):
+def answers_late_and_closes(link, notes):
     """Sends an answer that nobody asked for over a link that rests, and closes."""
-    link.sendall(answer)
     is_late = rests(link, LATE_ANSWER_SECONDS)
     if is_late:
-        link.sendall(LATE_ANSWER)
+        with notes.late_answer() as late:
+            link.sendall(late)
     return not is_late
 
 
-def answers_late_and_keeps(link, answer):
+def answers_late_and_keeps(link, notes):
     """Sends an answer that nobody asked for over a link that rests, and keeps the link."""
-    answers_late_and_closes(link, answer)
+    answers_late_and_closes(link, notes)
     return True
 
 
-def closes_slowly(link, answer):
+def closes_slowly(link, notes):
     """Says its end together with its answer, and keeps the socket."""
-    link.sendall(answer, socket.MSG_MORE)
-    link.shutdown(socket.SHUT_WR)
+    with notes.end():
+        link.shutdown(socket.SHUT_WR)
     link.settimeout(SLOW_SECONDS)
     while link.recv(65536):
         pass
@@ -106,17 +143,54 @@ def read_request(lines):
     return body or words[1] if len(words) == 3 and len(body) == length else None
 
 
-class LinkOrigin(threading.Thread):
-    """An origin of many links, which answers as `answered` says, and goes on with a link where that says so. It knows how many links are
-    open, and how many there were."""
+class Notes:
+    """Notes when an origin did what it does to a link. What is said of the link was so from the moment that is noted, or before."""
 
-    def __init__(self, answered=keeps):
+    def __init__(self, origin, port):
+        self.origin, self.port = origin, port
+
+    @contextlib.contextmanager
+    def answer(self, body):
+        """An answer is sent."""
+        yield
+        self.origin.sent[body] = time.monotonic()
+
+    @contextlib.contextmanager
+    def unasked(self):
+        """Something is done to the link that rests."""
+        self.origin.disturbed.setdefault(self.port, time.monotonic())
+        yield
+        self.origin.spoiled.setdefault(self.port, time.monotonic())
+
+    @contextlib.contextmanager
+    def late_answer(self):
+        """An answer is sent that nobody asked for, which this gives."""
+        body = b"too late %d over %d" % (len(self.origin.sent), self.port)
+        with self.unasked(), self.answer(body):
+            yield LATE_HEAD % len(body) + body
+
+    @contextlib.contextmanager
+    def end(self):
+        """The link is ended."""
+        with self.unasked():
+            yield
+        self.origin.ended.setdefault(self.port, time.monotonic())
+
+
+class LinkOrigin(threading.Thread):
+    """An origin of many links, which does behind an answer what `behind` does, and goes on with a link where that says so. It knows how
+    many links are open, and how many there were. It notes the moments by which each answer was sent, by the answer's body; by which each
+    link was first disturbed, spoiled by that, and ended, by the link's port: `disturbed` is the moment before, the others are those behind.
+    """
+
+    def __init__(self, behind=keeps):
         super().__init__(daemon=True)
-        self.answered = answered
+        self.behind = behind
         self.listener = socket.create_server(("127.0.0.1", 0), backlog=128)
         self.port = self.listener.getsockname()[1]
         self.counting = threading.Lock()
         self.links = self.open = 0
+        self.sent, self.disturbed, self.spoiled, self.ended = {}, {}, {}, {}
         self.start()
 
     def run(self):
@@ -129,14 +203,29 @@ class LinkOrigin(threading.Thread):
             threading.Thread(target=self.serve, args=(link, peer[1]), daemon=True).start()
 
     def serve(self, link, port):
-        with link, link.makefile("rb") as lines, contextlib.suppress(OSError):
+        notes = Notes(self, port)
+        try:
+            with contextlib.suppress(OSError):
+                if self.answers(link, notes):
+                    with notes.end():
+                        link.close()
+        finally:
+            link.close()
+            with self.counting:
+                self.open -= 1
+
+    def answers(self, link, notes):
+        """Answers each request, until the link is to be closed, or its client has ended it; whether it is the former."""
+        flags = socket.MSG_MORE if self.behind is closes_slowly else 0
+        with link.makefile("rb") as lines:
             while named := read_request(lines):
-                body = b"%s over %d" % (named, port)
+                body = b"%s over %d" % (named, notes.port)
                 answer = b"HTTP/1.1 200 OK\r\nContent-Type: text/plain\r\nContent-Length: %d\r\n\r\n" % len(body) + body
-                if not self.answered(link, answer):
-                    break
-        with self.counting:
-            self.open -= 1
+                with notes.answer(body):
+                    link.sendall(answer, flags)
+                if not self.behind(link, notes):
+                    return True
+        return False
 
 
 # The servers' configurations, with a port to be put in, the words that run each, and the Debian packages that have them.
