@@ -18,8 +18,9 @@ import threading
 import time
 from concurrent.futures import ThreadPoolExecutor
 
+import origins
 import serve
-from serve import WAIT, check, free_port, guarded, raw, read_all, reset, running, wait_for
+from serve import WAIT, Lateness, check, comes, free_port, guarded, raw, read_all, read_until, reset, running, wait_for
 
 # The page: so many pictures, from so many hosts, which come one after another at each host.
 PICTURES, HOSTS = 40, 12
@@ -27,12 +28,12 @@ PICTURE = (
     b"\x89PNG\r\n\x1a\n\0\0\0\rIHDR\0\0\0\1\0\0\0\1\10\6\0\0\0\x1f\x15\xc4\x89"
     b"\0\0\0\rIDATx\xdac\xfc\xcf\xc0P\x0f\0\4\x85\1\x80\x84\xa9\x8c!\0\0\0\0IEND\xaeB`\x82"
 )
-PAGE_SECONDS = 20
+PAGE_SECONDS, ALONE_SECONDS = 20, 180
 
 # How long a client waits for a place that idle ones hold, and where there is one.
 IDLE_SECONDS, FREE_SECONDS = 20, 2
 
-SHORT, TUNNELS = 2000, 20
+SHORT, TUNNELS, ROUNDS = 2000, 20, 3
 CHANGE_SECONDS, EACH, RELOADERS = 20, 0.2, 32
 COUNTED = 200
 
@@ -66,13 +67,27 @@ def hosts_with_pictures(scheme, certificate):
     count = "<script>onload = () => document.title = [...document.images].filter(it => it.naturalWidth).length + ' came'</script>"
     handler = type("Page", (Pictures,), {"page": ("<!doctype html><body>" + images + count).encode()})
     for name in names:
-        server = http.server.ThreadingHTTPServer((name.split(":")[0], port), handler)
+        server = origins.Server(handler, (name.split(":")[0], port))
         if scheme == "https":
             context = ssl.SSLContext(ssl.PROTOCOL_TLS_SERVER)
             context.load_cert_chain(certificate)
             server.socket = context.wrap_socket(server.socket, server_side=True, do_handshake_on_connect=False)
-        threading.Thread(target=server.serve_forever, daemon=True).start()
+        server.start()
     return "%s://%s/" % (scheme, names[0])
+
+
+def opened(chromium, address, folder, words, seconds):
+    """What a page's title is in Chromium, and how many seconds that took."""
+    words = ["--headless", "--no-sandbox", "--disable-gpu", "--ignore-certificate-errors", "--dump-dom", *words]
+    began = time.monotonic()
+    try:
+        ran = subprocess.run(
+            [chromium, *words, "--user-data-dir=" + folder, address], stdout=subprocess.PIPE, stderr=subprocess.DEVNULL, timeout=seconds
+        )
+        title = re.search("<title>(.*?)</title>", ran.stdout.decode(errors="replace"))
+    except subprocess.TimeoutExpired:
+        title = None
+    return title[1] if title else "nothing", time.monotonic() - began
 
 
 def browser(program):
@@ -92,19 +107,16 @@ def browser(program):
                     file.write(given.read())
         for scheme in ("http", "https"):
             address = hosts_with_pictures(scheme, certificate)
-            words = ["--headless", "--no-sandbox", "--disable-gpu", "--ignore-certificate-errors", "--dump-dom"]
-            words += ["--proxy-server=127.0.0.1:%d" % port, "--proxy-bypass-list=<-loopback>"]
-            words += ["--user-data-dir=" + os.path.join(folder, scheme)]
-            began = time.monotonic()
-            try:
-                ran = subprocess.run([chromium, *words, address], stdout=subprocess.PIPE, stderr=subprocess.DEVNULL, timeout=3 * PAGE_SECONDS)
-                page = ran.stdout.decode(errors="replace")
-            except subprocess.TimeoutExpired:
-                page = ""
-            took = time.monotonic() - began
-            title = re.search("<title>(.*?)</title>", page)
-            came = title[1] if title else "nothing"
-            check("a page of %d pictures over %s: %s in %.1f s" % (PICTURES, scheme, came, took), came == "%d came" % PICTURES and took < PAGE_SECONDS)
+            # (what Chromium takes by itself on this machine)
+            came, alone = opened(chromium, address, os.path.join(folder, scheme + "-alone"), ["--no-proxy-server"], ALONE_SECONDS)
+            if came != "%d came" % PICTURES:
+                print("skipped: without a proxy Chromium has %s of a page over %s in %.1f s" % (came, scheme, alone))
+                continue
+            words = ["--proxy-server=127.0.0.1:%d" % port, "--proxy-bypass-list=<-loopback>"]
+            most = max(PAGE_SECONDS, 3 * alone)
+            came, took = opened(chromium, address, os.path.join(folder, scheme), words, 3 * most)
+            told = "a page of %d pictures over %s: %s in %.1f s, and in %.1f s without a proxy" % (PICTURES, scheme, came, took, alone)
+            check(told, came == "%d came" % PICTURES and took < most)
 
 
 def asked(port, at, wait=WAIT):
@@ -123,10 +135,11 @@ def idle_browsers(program, origin):
             link, status, body = asked(port, "127.0.0.1:%d/%d" % (origin, number))
             check("idle client %d is answered" % number, (status, body) == (200, b"/%d" % number))
             links.append(link)
-        began = time.monotonic()
-        link, status, body = asked(port, "127.0.0.1:%d/more" % origin, 3 * IDLE_SECONDS)
-        took = time.monotonic() - began
-        check("one client more than workers waits %.1f s" % took, body == b"/more" and took <= IDLE_SECONDS)
+        lateness = Lateness()
+        link, status, body = asked(port, "127.0.0.1:%d/more" % origin, 6 * IDLE_SECONDS)
+        took, lost = lateness.end()
+        told = "one client more than workers waits %.1f s, %.1f of them for the machine" % (took, lost)
+        check(told, body == b"/more" and took - lost <= IDLE_SECONDS)
         for it in [*links, link]:
             it.close()
 
@@ -152,11 +165,12 @@ def stalled(program, origin):
         links = stalling(port, origin)
         time.sleep(0.5)
         for number in range(20):
-            began = time.monotonic()
+            lateness = Lateness()
             link, status, body = asked(port, "127.0.0.1:%d/%d" % (origin, number))
             link.close()
-            took = time.monotonic() - began
-            check("beside clients that stall, request %d took %.1f s" % (number, took), body == b"/%d" % number and took < FREE_SECONDS)
+            took, lost = lateness.end()
+            told = "beside clients that stall, request %d took %.1f s, %.1f of them the machine's" % (number, took, lost)
+            check(told, body == b"/%d" % number and took - lost < FREE_SECONDS)
         for link in links:
             link.close()
 
@@ -175,15 +189,12 @@ def echoing(port, echo, until):
     with socket.create_connection(("127.0.0.1", port), timeout=WAIT) as link:
         link.sendall(b"CONNECT 127.0.0.1:%d HTTP/1.1\r\n\r\n" % echo)
         got = b""
-        while not got.endswith(b"\r\n\r\n"):
-            got += link.recv(1)
+        while not got.endswith(b"\r\n\r\n") and (byte := link.recv(1)):
+            got += byte
         while not until.is_set():
             piece = b"%08d" % count * 100
             link.sendall(piece)
-            back = b""
-            while len(back) < len(piece):
-                back += link.recv(len(piece) - len(back))
-            if back != piece:
+            if read_until(link, len(piece)) != piece:
                 return -1
             count += 1
             time.sleep(0.01)
@@ -196,7 +207,7 @@ class Echoes(threading.Thread):
 
     def __init__(self):
         super().__init__(daemon=True)
-        self.listener = socket.create_server(("127.0.0.1", 0))
+        self.listener = socket.create_server(("127.0.0.1", 0), backlog=128)
         self.port = self.listener.getsockname()[1]
 
     def run(self):
@@ -223,15 +234,26 @@ def short_clients(program, origin):
     with running(program, "", ("64",)) as (port, proxy), ThreadPoolExecutor(TUNNELS) as tunnels, ThreadPoolExecutor(16) as clients:
         until = threading.Event()
         echoed = [tunnels.submit(echoing, port, echoes.port, until) for _ in range(TUNNELS)]
-        right = sum(clients.map(one, range(SHORT // 4)))
-        before = held_by(proxy)
-        right += sum(clients.map(one, range(SHORT // 4, SHORT)))
-        after = held_by(proxy)
-        until.set()
-        check("%d of %d short connections" % (right, SHORT), right == SHORT)
+        try:
+            right = sum(clients.map(one, range(SHORT // 4)))
+            held = [held_by(proxy)]
+            right += sum(clients.map(one, range(SHORT // 4, SHORT)))
+            held.append(held_by(proxy))
+            check("%d of %d short connections" % (right, SHORT), right == SHORT)
+            # (workers may be warm one after another; what is held for longer grows each time)
+            while not is_level(*held[-2:], held[0][2]) and len(held) <= ROUNDS:
+                right = sum(clients.map(one, range(3 * SHORT // 4)))
+                check("%d of %d more short connections" % (right, 3 * SHORT // 4), right == 3 * SHORT // 4)
+                held.append(held_by(proxy))
+        finally:
+            until.set()
         check("tunnels beside them", all(it.result() > 10 for it in echoed))
-        level = abs(after[0] - before[0]) <= 64 and after[1] <= before[1] + 64 and after[2] <= 1.2 * before[2] + 1024
-        check("descriptors, threads and kilobytes before and after: %s %s" % (before, after), level)
+        check("descriptors, threads and kilobytes behind each turn: %s" % held, is_level(*held[-2:], held[0][2]))
+
+
+def is_level(before, after, kilobytes):
+    """Whether what is held hasn't grown by more than a fifth of so many kilobytes."""
+    return abs(after[0] - before[0]) <= 64 and after[1] <= before[1] + 64 and after[2] <= before[2] + 0.2 * kilobytes + 1024
 
 
 def written(folder, number, port):
@@ -263,48 +285,62 @@ class Marked(http.server.BaseHTTPRequestHandler):
         self.wfile.write(b"<p>MARK</p>\r\n")
 
 
-def numbers_of(port, origin, until):
+def numbers_of(port, origin, until, answered):
     """Connections one after another, each with a blocked page and a filtered one in turn: how many replies there were, or what
-    went wrong: a reply without a number, one of a faulty configuration, or one that is older than the reply before."""
+    went wrong: a reply without a number, one of a faulty configuration, or one that is older than the reply before. When a connection was
+    begun is put to those that were answered."""
     count = 0
-    while not until.is_set():
-        link = http.client.HTTPConnection("127.0.0.1", port, timeout=WAIT)
-        last = -1
-        for at in ("ad.test/", "127.0.0.1:%d/" % origin) * 3:
-            link.request("GET", "http://" + at)
-            answer = link.getresponse()
-            found = re.search(rb"number (\d+)\.", answer.read())
-            if found is None or int(found[1]) < last or int(found[1]) % 3 == 2:
-                return "%s behind %d" % (found, last)
-            last = int(found[1])
-            count += 1
-            if answer.getheader("Connection", "").lower() == "close":
-                break
-        link.close()
+    try:
+        while not until.is_set():
+            link = http.client.HTTPConnection("127.0.0.1", port, timeout=WAIT)
+            last, began = -1, time.monotonic()
+            for at in ("ad.test/", "127.0.0.1:%d/" % origin) * 3:
+                link.request("GET", "http://" + at)
+                answer = link.getresponse()
+                found = re.search(rb"number (\d+)\.", answer.read())
+                if found is None or int(found[1]) < last or int(found[1]) % 3 == 2:
+                    return "%s behind %d" % (found, last)
+                last = int(found[1])
+                count += 1
+                answered.append(began)
+                if answer.getheader("Connection", "").lower() == "close":
+                    break
+            link.close()
+    except (OSError, http.client.HTTPException) as fault:
+        return repr(fault)
     return count
+
+
+def change(folder, port, answered):
+    """Changes the configuration for a time, each set as soon as a connection that was begun under the one before is answered; gives the
+    lines of the faulty ones."""
+    faulty, number, end = [], 0, time.monotonic() + CHANGE_SECONDS
+    while time.monotonic() < end:
+        time.sleep(EACH)
+        number += 1
+        line = written(folder, number, port)
+        faulty += [line] if line else []
+        stands = time.monotonic()
+        check("a connection is answered under set %d" % number, comes(WAIT, lambda: max(answered[-RELOADERS:], default=0) > stands))
+    return faulty
 
 
 def reloads(program):
     """The configuration changes under load, a third of the sets faulty."""
-    server = http.server.ThreadingHTTPServer(("127.0.0.1", 0), Marked)
-    threading.Thread(target=server.serve_forever, daemon=True).start()
+    origin = origins.Server(Marked).start()
     with tempfile.TemporaryDirectory() as folder, open(os.path.join(folder, "said"), "wb") as said:
         port = free_port()
         written(folder, 0, port)
         proxy = subprocess.Popen([program, "serve", "config", "64"], cwd=folder, stderr=said)
         try:
-            check("the proxy whose configuration changes listens", wait_for(port))
-            until, faulty, number = threading.Event(), [], 0
+            check("the proxy whose configuration changes listens", wait_for(port, proxy))
+            until, answered = threading.Event(), []
             with ThreadPoolExecutor(RELOADERS) as pool:
-                clients = [pool.submit(numbers_of, port, server.server_address[1], until) for _ in range(RELOADERS)]
-                end = time.monotonic() + CHANGE_SECONDS
-                while time.monotonic() < end:
-                    time.sleep(EACH)
-                    number += 1
-                    line = written(folder, number, port)
-                    faulty += [line] if line else []
-                time.sleep(EACH)
-                until.set()
+                clients = [pool.submit(numbers_of, port, origin, until, answered) for _ in range(RELOADERS)]
+                try:
+                    faulty = change(folder, port, answered)
+                finally:
+                    until.set()
                 replies = [it.result() for it in clients]
             check("replies while the configuration changes: %s" % replies, all(type(it) is int and it > 10 for it in replies))
             with open(os.path.join(folder, "said"), "rb") as file:
@@ -324,7 +360,7 @@ def read_faults(program):
         written(folder, 0, port)
         proxy = subprocess.Popen([program, "serve", "config", "4"], cwd=folder, stderr=subprocess.PIPE)
         try:
-            check("the proxy whose file goes listens", wait_for(port))
+            check("the proxy whose file goes listens", wait_for(port, proxy))
             # (the connection that told that it listens was taken before this one)
             raw(port, b"GET http://ad.test/ HTTP/1.1\r\nConnection: close\r\n\r\n")
             os.remove(os.path.join(folder, "u0.action"))
@@ -357,9 +393,7 @@ def counted(program, origin):
 
 
 def main():
-    server = http.server.ThreadingHTTPServer(("127.0.0.1", 0), serve.Origin)
-    threading.Thread(target=server.serve_forever, daemon=True).start()
-    origin = server.server_address[1]
+    origin = origins.Server(serve.Origin).start()
     for program in [os.path.abspath(it) for it in sys.argv[1:]]:
         for part, words in (
             (browser, (program,)),
