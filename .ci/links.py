@@ -167,8 +167,8 @@ def answers_of(port, origin, pauses):
 
 
 def what_it_is(number, answer):
-    """What an answer is to a numbered request: its own, another one's, a late one, a page of the proxy, or something else; and the port of
-    the link over which it came, or None."""
+    """What an answer is to a numbered request: its own, another one's, a late one, a page of the proxy, or something else; and the link over
+    which it came, or None."""
     came = re.fullmatch(rb"(/(\d+)|too late \d+) over (\d+)", answer.body)
     page = re.fullmatch(rb"<html><body>(\S+)</body></html>\n", answer.body)
     if came and came[2] and answer.status == 200:
@@ -178,12 +178,12 @@ def what_it_is(number, answer):
     return (page[1].decode() if page else "something else"), None
 
 
-def is_fault(kind, port, answer, before, origin):
+def is_fault(kind, link, answer, before, origin):
     """Whether an answer is no right one, by what its origin noted of it and of the link of the answer before, which is None where there is
     none. What crosses the request on its way is none of the proxy's."""
     known = answer.asked - KNOWN
     if kind == "its own":
-        return before not in (None, port) and origin.disturbed.get(before, math.inf) > answer.came
+        return before not in (None, link) and origin.disturbed.get(before, math.inf) > answer.came
     if kind in ("another one's", "late ones"):
         return origin.sent.get(answer.body, math.inf) < known
     if kind in LOST:
@@ -197,9 +197,9 @@ def told_of(link, answer, origin):
     return "link %s (%s)" % (link, ", ".join("%s %.1f" % (name, 1000 * (it - answer.asked)) for name, it in notes if it))
 
 
-def tell(name, kinds, ports):
+def tell(name, kinds, over):
     """Says what came, and over how many links."""
-    links = sum(it != before for it, before in zip(ports, [None, *ports]))
+    links = sum(it != before for it, before in zip(over, [None, *over]))
     told = ", ".join("%d are %s" % (count, kind) for kind, count in collections.Counter(kinds).most_common())
     print("%s: of %d answers %s, over %d links" % (name, MANY, told, links))
     return links
@@ -210,14 +210,14 @@ def judge(name, answers, origin, least_spoiled, least_shared):
     found, faults, spoiled, shared, before = [], [], 0, 0, None
     for number, answer in enumerate(answers):
         before = None if answer.is_first else before
-        kind, port = what_it_is(number, answer)
-        found.append((kind, port))
-        if is_fault(kind, port, answer, before, origin):
+        kind, link = what_it_is(number, answer)
+        found.append((kind, link))
+        if is_fault(kind, link, answer, before, origin):
             faults.append("%d got %d %r behind %s" % (number, answer.status, answer.body, told_of(before, answer, origin)))
         spoiled += before is not None and origin.spoiled.get(before, math.inf) < answer.asked - KNOWN
-        shared += port is not None and port == before
-        before = port
-    tell(name, [kind for kind, _ in found], [port for kind, port in found if kind == "its own"])
+        shared += link is not None and link == before
+        before = link
+    tell(name, [kind for kind, _ in found], [link for kind, link in found if kind == "its own"])
     told = "%s: each request its own answer is expected, over the link before where that rests well, but for what crosses it" % name
     check("%s; and of %d others, %s" % (told, len(faults), ", ".join(faults[:SHOWN])), not faults)
     check("%s: %d spoiled links at least are expected, and there were %d" % (name, least_spoiled, spoiled), spoiled >= least_spoiled)
@@ -233,17 +233,17 @@ def plain_server(program, name, behind, pauses, least_spoiled, least_shared):
 
 def judge_real(name, answers, closes, late, behind):
     """Holds what came against a server that closes a link which rests for so many seconds, a little later, and behind so many answers."""
-    kinds, ports, faults, ends = [], [], [], MANY // EACH + MANY // behind
+    kinds, over, faults, ends = [], [], [], MANY // EACH + MANY // behind
     for number, (before, answer) in enumerate(zip([answers[0], *answers], answers)):
-        kind, port = what_it_is(number, answer)
+        kind, link = what_it_is(number, answer)
         kinds.append(kind)
-        ports += [port] if port else []
+        over += [link] if link else []
         may_end = not answer.is_first and answer.came - before.asked >= closes
         ends += may_end
         crosses = may_end and answer.asked - before.came <= closes + late
         if kind != "its own" and not (kind in LOST and crosses):
             faults.append("%d got %d %r" % (number, answer.status, answer.body))
-    links = tell(name, kinds, ports)
+    links = tell(name, kinds, over)
     told = "%s: each request its own answer is expected, but for links that are closed meanwhile" % name
     check("%s; and of %d others, %s" % (told, len(faults), ", ".join(faults[:SHOWN])), not faults)
     least = max(MANY // behind, MANY // EACH)

@@ -1,8 +1,8 @@
 """Servers for the tests: one for Python's handlers, whose clients may hang up; and for kept links plain ones that do to a link, behind an
 answer, what real servers do, and nginx and haproxy.
 
-Those for kept links answer with the path of the request (plain ones with its body, where it has one) and the port that the link came from:
-`/17 over 40312`.
+Those for kept links answer with the path of the request (plain ones with its body, where it has one), and with the number of the link
+(nginx and haproxy with the port that it came from): `/17 over 40312`.
 """
 import contextlib
 import glob
@@ -71,6 +71,15 @@ class Server(http.server.ThreadingHTTPServer):
         """Serves from now on; gives its port."""
         threading.Thread(target=self.serve_forever, daemon=True).start()
         return self.server_address[1]
+
+
+def comes(seconds, holds):
+    """Whether something comes to hold within so many seconds; those in which this thread would have gone on and couldn't aren't counted."""
+    for _ in range(int(100 * seconds) + 1):
+        if holds():
+            return True
+        time.sleep(0.01)
+    return False
 
 
 def wait_for(port, process=None):
@@ -146,8 +155,8 @@ def read_request(lines):
 class Notes:
     """Notes when an origin did what it does to a link. What is said of the link was so from the moment that is noted, or before."""
 
-    def __init__(self, origin, port):
-        self.origin, self.port = origin, port
+    def __init__(self, origin, number):
+        self.origin, self.number = origin, number
 
     @contextlib.contextmanager
     def answer(self, body):
@@ -158,14 +167,14 @@ class Notes:
     @contextlib.contextmanager
     def unasked(self):
         """Something is done to the link that rests."""
-        self.origin.disturbed.setdefault(self.port, time.monotonic())
+        self.origin.disturbed.setdefault(self.number, time.monotonic())
         yield
-        self.origin.spoiled.setdefault(self.port, time.monotonic())
+        self.origin.spoiled.setdefault(self.number, time.monotonic())
 
     @contextlib.contextmanager
     def late_answer(self):
         """An answer is sent that nobody asked for, which this gives."""
-        body = b"too late %d over %d" % (len(self.origin.sent), self.port)
+        body = b"too late %d over %d" % (len(self.origin.sent), self.number)
         with self.unasked(), self.answer(body):
             yield LATE_HEAD % len(body) + body
 
@@ -174,13 +183,13 @@ class Notes:
         """The link is ended."""
         with self.unasked():
             yield
-        self.origin.ended.setdefault(self.port, time.monotonic())
+        self.origin.ended.setdefault(self.number, time.monotonic())
 
 
 class LinkOrigin(threading.Thread):
     """An origin of many links, which does behind an answer what `behind` does, and goes on with a link where that says so. It knows how
     many links are open, and how many there were. It notes the moments by which each answer was sent, by the answer's body; by which each
-    link was first disturbed, spoiled by that, and ended, by the link's port: `disturbed` is the moment before, the others are those behind.
+    link was first disturbed, spoiled by that, and ended, by the link's number: `disturbed` is the moment before, the others are those behind.
     """
 
     def __init__(self, behind=keeps):
@@ -195,15 +204,14 @@ class LinkOrigin(threading.Thread):
 
     def run(self):
         while True:
-            link, peer = self.listener.accept()
+            link, _ = self.listener.accept()
             link.setsockopt(socket.IPPROTO_TCP, socket.TCP_NODELAY, 1)
             with self.counting:
                 self.links += 1
                 self.open += 1
-            threading.Thread(target=self.serve, args=(link, peer[1]), daemon=True).start()
+            threading.Thread(target=self.serve, args=(link, Notes(self, self.links)), daemon=True).start()
 
-    def serve(self, link, port):
-        notes = Notes(self, port)
+    def serve(self, link, notes):
         try:
             with contextlib.suppress(OSError):
                 if self.answers(link, notes):
@@ -219,7 +227,7 @@ class LinkOrigin(threading.Thread):
         flags = socket.MSG_MORE if self.behind is closes_slowly else 0
         with link.makefile("rb") as lines:
             while named := read_request(lines):
-                body = b"%s over %d" % (named, notes.port)
+                body = b"%s over %d" % (named, notes.number)
                 answer = b"HTTP/1.1 200 OK\r\nContent-Type: text/plain\r\nContent-Length: %d\r\n\r\n" % len(body) + body
                 with notes.answer(body):
                     link.sendall(answer, flags)

@@ -22,6 +22,8 @@ import tempfile
 import threading
 import time
 
+from origins import WAIT, Server, comes, free_port, wait_for
+
 HERE = os.path.dirname(os.path.abspath(__file__))
 PACKAGING = os.path.join(HERE, "..", "packaging")
 UNITS = ("helmthread.service", "helmthread@.service")
@@ -30,7 +32,11 @@ MOST_EXPOSED = 2.5
 NAMED = ("--maintainer", "Test of the package <test@example.org>")
 PAGE = b'<html><body>a<img src="/t.gif" width="1" height="1">b</body></html>'
 CLEAN = b"<html><body>a<!-- tiny image taken out -->b</body></html>"
-failed = 0
+# So often two instances behind haproxy are tried where haproxy's own look at an instance comes too late on this machine.
+TRIES = 3
+# So many pages come before one of them is stopped, and behind that, and for so many seconds.
+PAGES, SECONDS = 40, 3
+failures = []
 
 
 class Net(http.server.BaseHTTPRequestHandler):
@@ -46,26 +52,9 @@ class Net(http.server.BaseHTTPRequestHandler):
 
 
 def check(what, right, said=""):
-    global failed
     if not right:
-        failed += 1
+        failures.append(what)
         print("package.py: %s %s" % (what, said))
-
-
-def free_port():
-    with socket.socket() as it:
-        it.bind(("127.0.0.1", 0))
-        return it.getsockname()[1]
-
-
-def wait_for(port):
-    for _ in range(300):
-        try:
-            socket.create_connection(("127.0.0.1", port), 1).close()
-            return True
-        except OSError:
-            time.sleep(0.1)
-    return False
 
 
 def page(port):
@@ -151,7 +140,7 @@ def exposure(root):
             ["systemd-analyze", "security", "--offline=true", path],
             capture_output=True,
             text=True,
-            timeout=60,
+            timeout=600,
         )
         found = re.search(r"exposure level for \S+: (\d+\.\d)", ran.stdout)
         check(
@@ -169,7 +158,7 @@ def installed(root, net):
         command(root, "helmthread.service", "ExecStartPre"),
         capture_output=True,
         text=True,
-        timeout=60,
+        timeout=600,
     )
     check(
         "ExecStartPre",
@@ -180,7 +169,7 @@ def installed(root, net):
         command(root, "helmthread.service", "ExecStart"), stderr=subprocess.DEVNULL
     )
     try:
-        check("the installed program listens", wait_for(port))
+        check("the installed program listens", wait_for(port, proxy))
         got = page(port)
         check("the installed program filters a page", got.endswith(CLEAN), repr(got[-200:]))
     finally:
@@ -191,7 +180,7 @@ def installed(root, net):
             [os.path.join(root, "usr/bin", name), "--help"],
             capture_output=True,
             text=True,
-            timeout=60,
+            timeout=600,
         )
         check(name + " --help", ran.returncode == 0 and "usage: " + name in ran.stdout, ran.stderr)
     linted = subprocess.run(
@@ -201,7 +190,7 @@ def installed(root, net):
         ],
         capture_output=True,
         text=True,
-        timeout=60,
+        timeout=600,
     )
     check(
         "helmthread-lint over the installed files",
@@ -231,12 +220,46 @@ def links(root):
         check("the manual has links", found or name != "MANUAL.md.gz")
 
 
-def behind_haproxy(root, net, folder):
-    """Two instances; one is stopped under load, and no request of a connection made from then on is lost."""
-    haproxy = shutil.which("haproxy", path="/usr/sbin:/usr/bin")
-    if not haproxy:
-        print("package.py: haproxy is skipped, since it can't be had")
-        return
+def ask_always(port, results, until):
+    """Asks for the page over and over: when each request was begun and ended, and whether the page was right."""
+    while not until.is_set():
+        began = time.monotonic()
+        try:
+            right = page(port).endswith(CLEAN)
+        except OSError:
+            right = False
+        results.append((began, time.monotonic(), right))
+
+
+def pages_come(results, many):
+    """Waits until so many pages more have come, and some seconds at least."""
+    time.sleep(SECONDS)
+    return comes(WAIT, lambda: len(results) >= many)
+
+
+def stopped_under_load(port, instance):
+    """The pages that came before an instance was stopped, and those that were asked for behind that, as whether each was right."""
+    results, until = [], threading.Event()
+    clients = [threading.Thread(target=ask_always, args=(port, results, until)) for _ in range(8)]
+    for it in clients:
+        it.start()
+    try:
+        pages_come(results, PAGES)
+        stops = time.monotonic()
+        instance.send_signal(signal.SIGTERM)
+        instance.wait()
+        stopped = time.monotonic()
+        pages_come(results, len(results) + PAGES)
+    finally:
+        until.set()
+        for it in clients:
+            it.join()
+    before = [right for _, ended, right in results if ended < stops]
+    return before, [right for began, _, right in results if began >= stopped]
+
+
+def two_instances(haproxy, root, net, folder):
+    """Two instances behind haproxy, of which one is stopped under load: the pages before and behind that, and what haproxy said."""
     ports = {"8118": free_port(), "8121": free_port(), "8122": free_port()}
     with open(
         os.path.join(root, "usr/share/doc/helmthread/examples/haproxy.cfg"), encoding="utf-8"
@@ -246,61 +269,45 @@ def behind_haproxy(root, net, folder):
     with open(config, "w", encoding="utf-8") as file:
         file.write(text)
     running = []
-    for name, port in (("a", ports["8121"]), ("b", ports["8122"])):
-        main_file(root, name + ".config", port, net)
-        running.append(
-            subprocess.Popen(
-                command(root, "helmthread@.service", "ExecStart", name), stderr=subprocess.DEVNULL
-            )
-        )
-        check("instance %s listens" % name, wait_for(port))
-    running.append(
-        subprocess.Popen(
-            [haproxy, "-db", "-f", config], stdout=subprocess.DEVNULL, stderr=subprocess.DEVNULL
-        )
+    with tempfile.TemporaryFile() as said:
+        try:
+            for name, port in (("a", ports["8121"]), ("b", ports["8122"])):
+                main_file(root, name + ".config", port, net)
+                words = command(root, "helmthread@.service", "ExecStart", name)
+                running.append(subprocess.Popen(words, stderr=subprocess.DEVNULL))
+                check("instance %s listens" % name, wait_for(port, running[-1]))
+            running.append(subprocess.Popen([haproxy, "-db", "-f", config], stdout=said, stderr=said))
+            check("haproxy listens", wait_for(ports["8118"], running[-1]))
+            before, after = stopped_under_load(ports["8118"], running[0])
+        finally:
+            for it in running:
+                it.kill()
+                it.wait()
+        said.seek(0)
+        return before, after, said.read().decode(errors="replace")
+
+
+def behind_haproxy(root, net, folder):
+    """Two instances; one is stopped under load, and no request of a connection made from then on is lost."""
+    haproxy = shutil.which("haproxy", path="/usr/sbin:/usr/bin")
+    if not haproxy:
+        print("package.py: haproxy is skipped, since it can't be had")
+        return
+    for attempt in range(1, TRIES + 1):
+        before, after, said = two_instances(haproxy, root, net, folder)
+        # (an instance that runs is looked at each second; a look that takes longer has haproxy pass it over)
+        late = re.search(r"Server helmthread/\w is DOWN, reason: Layer4 timeout", said)
+        if not late or all(before + after) or attempt == TRIES:
+            break
+        print("package.py: haproxy's look at an instance came too late, so this is tried once more")
+    lost = "%d of %d lost\n%s" % (before.count(False), len(before), said)
+    check("pages before the stop", len(before) > 20 and all(before), lost)
+    lost = "%d of %d lost\n%s" % (after.count(False), len(after), said)
+    check("pages of connections made after it", len(after) > 20 and all(after), lost)
+    print(
+        "package.py: %d pages before the stop of one instance, %d after it, %d lost"
+        % (len(before), len(after), after.count(False))
     )
-    try:
-        check("haproxy listens", wait_for(ports["8118"]))
-        results, stopped, end = [], [None], time.time() + 8
-
-        def client():
-            while time.time() < end:
-                began = time.time()
-                try:
-                    right = page(ports["8118"]).endswith(CLEAN)
-                except OSError:
-                    right = False
-                results.append((began, right))
-
-        clients = [threading.Thread(target=client) for _ in range(8)]
-        for it in clients:
-            it.start()
-        time.sleep(3)
-        running[0].send_signal(signal.SIGTERM)
-        running[0].wait()
-        stopped[0] = time.time()
-        for it in clients:
-            it.join()
-        before = [right for began, right in results if began < stopped[0] - 1]
-        after = [right for began, right in results if began >= stopped[0]]
-        check(
-            "pages before the stop",
-            len(before) > 20 and all(before),
-            "%d of %d" % (before.count(False), len(before)),
-        )
-        check(
-            "pages of connections made after it",
-            len(after) > 20 and all(after),
-            "%d of %d lost" % (after.count(False), len(after)),
-        )
-        print(
-            "package.py: %d pages before the stop of one instance, %d after it, %d lost"
-            % (len(before), len(after), after.count(False))
-        )
-    finally:
-        for it in running:
-            it.kill()
-            it.wait()
 
 
 def main():
@@ -310,15 +317,13 @@ def main():
     with tempfile.TemporaryDirectory() as folder:
         root = made(os.path.abspath(sys.argv[1]), folder)
         if root is not None:
-            server = http.server.ThreadingHTTPServer(("127.0.0.1", 0), Net)
-            threading.Thread(target=server.serve_forever, daemon=True).start()
+            net = Server(Net).start()
             exposure(root)
-            installed(root, server.server_address[1])
+            installed(root, net)
             links(root)
-            behind_haproxy(root, server.server_address[1], folder)
-            server.shutdown()
-    print("package.py: %d failed" % failed)
-    return 1 if failed else 0
+            behind_haproxy(root, net, folder)
+    print("package.py: %d failed%s" % (len(failures), "".join("\nfailed: " + it for it in failures)))
+    return 1 if failures else 0
 
 
 if __name__ == "__main__":

@@ -19,7 +19,7 @@ import threading
 import time
 
 import origins
-from origins import WAIT, free_port, wait_for
+from origins import WAIT, comes, free_port, wait_for
 
 LARGE = bytes(range(256)) * 40960
 
@@ -208,15 +208,6 @@ class Lateness(threading.Thread):
         took = time.monotonic() - self.began
         self.goes_on = False
         return took, max(0, took - 0.01 * (self.steps + 1))
-
-
-def comes(seconds, holds):
-    """Whether something comes to hold within so many seconds; those in which this thread would have gone on and couldn't aren't counted."""
-    for _ in range(int(100 * seconds) + 1):
-        if holds():
-            return True
-        time.sleep(0.01)
-    return False
 
 
 def reset(link):
