@@ -14,8 +14,8 @@ import socket
 import subprocess
 import sys
 import tempfile
-import threading
-import time
+
+from origins import Server, free_port, wait_for
 
 HERE = os.path.dirname(os.path.abspath(__file__))
 CONF = os.path.join(HERE, "..", "conf")
@@ -53,18 +53,13 @@ class Net(http.server.BaseHTTPRequestHandler):
         pass
 
 
-def free_port():
-    with socket.socket() as it:
-        it.bind(("127.0.0.1", 0))
-        return it.getsockname()[1]
-
-
 def is_served_side_by_side(port):
     """Whether a second connection is answered while a first one says nothing."""
     with socket.create_connection(("127.0.0.1", port), 5), socket.create_connection(
         ("127.0.0.1", port), 5
     ) as second:
-        second.settimeout(5)
+        # (one that waits for the first is served when that has said nothing for 15 seconds)
+        second.settimeout(10)
         second.sendall(b"GET http://ads.example.net/ HTTP/1.1\r\nConnection: close\r\n\r\n")
         try:
             return second.recv(12) == b"HTTP/1.1 403"
@@ -89,12 +84,7 @@ def start(program, folder, net):
     proxy = subprocess.Popen(
         [program, "serve", os.path.join(conf, "config"), "64"], stderr=subprocess.DEVNULL
     )
-    for _ in range(200):
-        try:
-            socket.create_connection(("127.0.0.1", port), 1).close()
-            break
-        except OSError:
-            time.sleep(0.1)
+    wait_for(port, proxy)
     return proxy, port
 
 
@@ -107,10 +97,9 @@ def main():
         print("browser.py: skipped, since Chromium can't be had")
         return 0
     failed = []
-    server = http.server.ThreadingHTTPServer(("127.0.0.1", 0), Net)
-    threading.Thread(target=server.serve_forever, daemon=True).start()
+    net = Server(Net).start()
     with tempfile.TemporaryDirectory() as folder:
-        proxy, port = start(os.path.abspath(sys.argv[1]), folder, server.server_address[1])
+        proxy, port = start(os.path.abspath(sys.argv[1]), folder, net)
         try:
             if not is_served_side_by_side(port):
                 print("browser.py: skipped, since the program serves one connection after another")
@@ -126,7 +115,7 @@ def main():
                 "http://www.dailythread.example/",
             ]
             page = subprocess.run(
-                [browser, *words], capture_output=True, text=True, timeout=180
+                [browser, *words], capture_output=True, text=True, timeout=600
             ).stdout
         finally:
             proxy.kill()
@@ -141,7 +130,6 @@ def main():
     with open(os.path.join(CONF, "templates", "head"), encoding="utf-8") as file:
         if not FRAME.search(file.read()):
             failed.append("the blocked page isn't made for frames")
-    server.shutdown()
     for text in failed:
         print("browser.py: " + text)
     print(

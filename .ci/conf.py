@@ -98,17 +98,16 @@ def actions(more, lacking):
 
 
 def run(program, words):
-    done = subprocess.run([program, *words], cwd=CONF, stdin=subprocess.DEVNULL, capture_output=True, timeout=60)
+    done = subprocess.run([program, *words], cwd=CONF, stdin=subprocess.DEVNULL, capture_output=True, timeout=600)
     return done.returncode, done.stdout.decode("utf-8", "replace"), done.stderr.decode("utf-8", "replace")
 
 
 def try_program(program):
-    """Gives the number of rows that failed."""
-    failed = 0
+    """Gives the rows that failed."""
+    failed = []
 
     def fail(row, *lines):
-        nonlocal failed
-        failed += 1
+        failed.append(row)
         print("%s: %s" % (program, row))
         for line in lines:
             print("    " + line)
@@ -144,10 +143,11 @@ def main():
     if not programs:
         print(__doc__.split("\n\n")[1], file=sys.stderr)
         return 2
-    failed = subprocess.run([sys.executable, os.path.join(CONF, "tools", "make-images.py"), "--check"]).returncode
+    images = subprocess.run([sys.executable, os.path.join(CONF, "tools", "make-images.py"), "--check"]).returncode
+    failed = ["make-images.py"] if images else []
     for program in programs:
         failed += try_program(program)
-    print("conf.py: %d rows, %s" % ((len(ROWS) + len(IN_THE_MANUAL) + 2) * len(programs), "%d failed" % failed if failed else "all as expected"))
+    print("conf.py: %d rows, %s" % ((len(ROWS) + len(IN_THE_MANUAL) + 2) * len(programs), "%d failed: %s" % (len(failed), "; ".join(failed)) if failed else "all as expected"))
     return 1 if failed else 0
 
 

@@ -133,7 +133,7 @@ def folder_row(folder, fail):
     old, new = os.path.join(folder, "old"), os.path.join(folder, "new")
     os.makedirs(os.path.join(old, "templates"))
     put(old, FOLDER)
-    ran = subprocess.run([sys.executable, SCRIPT, old, new], capture_output=True, text=True, timeout=60)
+    ran = subprocess.run([sys.executable, SCRIPT, old, new], capture_output=True, text=True, timeout=600)
     if ran.returncode:
         fail("the folder", ran.stderr)
         return
@@ -148,7 +148,7 @@ def folder_row(folder, fail):
     if lines.index(".a.test/x/") > lines.index(r".b.test/z(?:\z|[^Ww])"):
         fail("the folder", "the pair doesn't stand in front")
     report_row(ran.stdout, fail)
-    again = subprocess.run([sys.executable, SCRIPT, old, new], capture_output=True, text=True, timeout=60)
+    again = subprocess.run([sys.executable, SCRIPT, old, new], capture_output=True, text=True, timeout=600)
     if again.returncode != 1 or "isn't empty" not in again.stderr:
         fail("a folder that is there", again.stderr)
 
@@ -159,7 +159,7 @@ def loaded(program, folder, made, fail):
         file.write("filterfile f\n")
     with open(os.path.join(folder, "f"), "w", encoding="utf-8") as file:
         file.write("FILTER: a\n" + "".join(job.replace("#", "\\#") + "\n" for job in made))
-    ran = subprocess.run([program, "check", "c"], cwd=folder, capture_output=True, text=True, timeout=60)
+    ran = subprocess.run([program, "check", "c"], cwd=folder, capture_output=True, text=True, timeout=600)
     if ran.stdout != "ok: 0 action files, 0 sections, 0 patterns, 1 filter files, 1 filters\n":
         fail(program, ran.stdout + ran.stderr)
 
@@ -169,7 +169,7 @@ def converted(folder, files, fail, row):
     old, new = os.path.join(folder, row), os.path.join(folder, row + ".new")
     os.mkdir(old)
     put(old, files)
-    ran = subprocess.run([sys.executable, SCRIPT, old, new], capture_output=True, text=True, timeout=300)
+    ran = subprocess.run([sys.executable, SCRIPT, old, new], capture_output=True, text=True, timeout=600)
     if ran.returncode:
         fail(row, "status %d, %s" % (ran.returncode, ran.stderr))
         return None
@@ -203,7 +203,7 @@ def hosts_file(many):
 def asked(program, folder, host):
     """Whether a host is blocked for the alias's reason, or what went wrong."""
     url = "http://%s/" % host
-    ran = subprocess.run([program, "show", "config", url], cwd=folder, capture_output=True, text=True, timeout=300)
+    ran = subprocess.run([program, "show", "config", url], cwd=folder, capture_output=True, text=True, timeout=600)
     return "+block{In the list.}" in ran.stdout if ran.returncode == 0 else ran.stderr
 
 
@@ -236,7 +236,7 @@ def limit_rows(folder, programs, fail):
         fail("many files", "the report's first part doesn't say it\n" + files[2])
     for program in programs:
         for row, made, patterns in (("a long list", many, 30004), ("too many patterns", too_many, 40000), ("a broken file", broken, 2)):
-            ran = subprocess.run([program, "check", "config"], cwd=made[0], capture_output=True, text=True, timeout=300)
+            ran = subprocess.run([program, "check", "config"], cwd=made[0], capture_output=True, text=True, timeout=600)
             if ran.returncode or " %d patterns," % patterns not in ran.stdout:
                 fail(row, "check: " + ran.stdout + ran.stderr)
         for at, blocked in ((1, False), (29999, True)):
@@ -278,10 +278,10 @@ def service_row(folder, program, fail):
     lines = [line.replace("sudo ", "") for line in found[1].splitlines() if "systemctl" not in line]
     told = "\n".join(lines).replace("/etc/privoxy", old).replace("/etc/helmthread", etc)
     paths = {**os.environ, "PATH": programs + ":" + os.environ["PATH"]}
-    ran = subprocess.run(["bash", "-euc", "umask 077\n" + told], env=paths, capture_output=True, text=True, timeout=300)
+    ran = subprocess.run(["bash", "-euc", "umask 077\n" + told], env=paths, capture_output=True, text=True, timeout=600)
     main = unit[1].replace("%i", "px").replace("/etc/helmthread", etc)
     words = [os.path.join(programs, "helmthread"), "check", main]
-    checked = subprocess.run(words, cwd="/", preexec_fn=without_rights, capture_output=True, text=True, timeout=300)
+    checked = subprocess.run(words, cwd="/", preexec_fn=without_rights, capture_output=True, text=True, timeout=600)
     if ran.returncode or checked.returncode or not checked.stdout.startswith("ok: 2 action files"):
         fail("the service", "%s\n%s%s%s" % (told, ran.stderr, checked.stdout, checked.stderr))
     shutil.rmtree(etc)
@@ -306,7 +306,7 @@ def main():
         for program in programs:
             loaded(program, folder, made, fail)
             service_row(folder, program, fail)
-    print("converted.py: %d jobs and some folders, %s" % (len(JOBS), "%d failed" % len(failures) if failures else "all as expected"))
+    print("converted.py: %d jobs and some folders, %s" % (len(JOBS), "%d failed: %s" % (len(failures), "; ".join(failures)) if failures else "all as expected"))
     return 1 if failures else 0
 
 

@@ -66,7 +66,7 @@ def run(program, action, request, answer):
         ):
             with open(os.path.join(folder, name), "w", newline="", encoding="latin-1") as file:
                 file.write(content)
-        ran = subprocess.run([program, "pass", "c", "o", "s"], cwd=folder, input=request.encode("latin-1"), capture_output=True, timeout=60)
+        ran = subprocess.run([program, "pass", "c", "o", "s"], cwd=folder, input=request.encode("latin-1"), capture_output=True, timeout=600)
         with open(os.path.join(folder, "s"), newline="", encoding="latin-1") as file:
             return ran.stdout.decode("latin-1"), file.read()
 
@@ -105,20 +105,19 @@ def names(kind):
         return {line.split()[1] for line in file if line.startswith(kind + ":")}
 
 
-failed = 0
+failed = []
 pages = sorted(names("FILTER"))
 headers = {(kind, name) for kind, name, _, _ in HEADERS}
 if headers != {(CLIENT, n) for n in names("CLIENT-HEADER-FILTER")} | {(SERVER, n) for n in names("SERVER-HEADER-FILTER")}:
-    failed += 1
-    print("filters.py: a header filter has no row, or a row no filter")
+    failed.append("a header filter has no row, or a row no filter")
 for program in map(os.path.abspath, sys.argv[1:]):
     for name in pages:
         if not content(program, name):
-            failed += 1
-            print(f"filters.py: {program}: {name}")
+            failed.append(f"{program}: {name}")
     for row in HEADERS:
         if not header(program, *row):
-            failed += 1
-            print(f"filters.py: {program}: {row[1]}")
-print(f"filters.py: {len(pages)} pages and {len(HEADERS)} header filters, {failed} failed")
+            failed.append(f"{program}: {row[1]}")
+print(f"filters.py: {len(pages)} pages and {len(HEADERS)} header filters, {len(failed)} failed")
+for it in failed:
+    print("filters.py: " + it)
 sys.exit(1 if failed else 0)

@@ -147,7 +147,7 @@ def convert(folder, data, words, to="made.action"):
         cwd=folder,
         capture_output=True,
         text=True,
-        timeout=120,
+        timeout=600,
     )
 
 
@@ -306,7 +306,7 @@ def main():
         "from_hosts.py: %d rows, %s"
         % (
             len(LISTS) + len(NO_LISTS) + 12 + (5 + len(ASKED)) * len(programs),
-            "%d failed" % len(failures) if failures else "all as expected",
+            "%d failed: %s" % (len(failures), "; ".join(failures)) if failures else "all as expected",
         )
     )
     return 1 if failures else 0

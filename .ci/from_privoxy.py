@@ -12,13 +12,12 @@ import http.server
 import os
 import re
 import shutil
-import socket
 import subprocess
 import sys
 import tempfile
-import threading
-import time
 import urllib.request
+
+from origins import Server, free_port, wait_for
 
 HERE = os.path.dirname(os.path.abspath(__file__))
 SCRIPT = os.path.join(HERE, "..", "tools", "helmthread-from-privoxy")
@@ -88,12 +87,6 @@ def privoxy_files(folder):
     return program
 
 
-def free_port():
-    with socket.socket() as it:
-        it.bind(("127.0.0.1", 0))
-        return it.getsockname()[1]
-
-
 def all_on(folder):
     """Switches all content filters on for the test's hosts."""
     with open(os.path.join(folder, "default.filter"), encoding="latin-1") as file:
@@ -123,24 +116,18 @@ def ask_privoxy(program, folder, origin):
         [program, "--no-daemon", run], stdout=subprocess.DEVNULL, stderr=subprocess.DEVNULL
     )
     try:
-        for _ in range(300):
-            if process.poll() is not None:
-                raise SystemExit("from_privoxy.py: privoxy ended with %d" % process.returncode)
-            try:
-                socket.create_connection(("127.0.0.1", port), 1).close()
-                break
-            except OSError:
-                time.sleep(0.1)
+        if not wait_for(port, process):
+            raise SystemExit("from_privoxy.py: privoxy doesn't listen, or ended: %s" % process.poll())
         opener = urllib.request.build_opener(
             urllib.request.ProxyHandler({"http": "http://127.0.0.1:%d" % port})
         )
         return {
-            name: opener.open("http://www.example.test/" + name, timeout=60).read()
+            name: opener.open("http://www.example.test/" + name, timeout=600).read()
             for name in NAMES
         }
     finally:
         process.terminate()
-        process.wait(10)
+        process.wait(60)
 
 
 def ask_ours(program, folder):
@@ -202,13 +189,12 @@ def main():
         if privoxy is None:
             print("from_privoxy.py: skipped, since Debian's package privoxy can't be had")
             return 0
-        server = http.server.ThreadingHTTPServer(("127.0.0.1", 0), Origin)
-        threading.Thread(target=server.serve_forever, daemon=True).start()
+        net = Server(Origin).start()
         for way in ("as Debian has it", "all content filters"):
             stock = os.path.join(work, "stock")
             if way != "as Debian has it":
                 all_on(stock)
-            theirs = ask_privoxy(privoxy, stock, server.server_address[1])
+            theirs = ask_privoxy(privoxy, stock, net)
             made = os.path.join(work, "made-" + way.split()[0])
             told = subprocess.run(
                 [sys.executable, SCRIPT, stock, made], capture_output=True, text=True
@@ -218,7 +204,6 @@ def main():
                 return 1
             for program in programs:
                 failed += try_program(program, way, made, theirs)
-        server.shutdown()
     print(
         "from_privoxy.py: %d pages twice, %s"
         % (len(NAMES), "%d failed" % failed if failed else "all as Privoxy makes them")

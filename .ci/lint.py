@@ -296,7 +296,7 @@ from helmthread_tools.linting import Linter  # noqa: E402
 
 def lint(config):
     ran = subprocess.run(
-        [sys.executable, LINT, config], capture_output=True, text=True, timeout=120
+        [sys.executable, LINT, config], capture_output=True, text=True, timeout=600
     )
     return ran.returncode, ran.stdout
 
@@ -344,11 +344,10 @@ def quiet(fail):
 
 
 def main():
-    failed = 0
+    failed = []
 
     def fail(text):
-        nonlocal failed
-        failed += 1
+        failed.append(text.splitlines()[0])
         print("lint.py: " + text)
 
     for row in MISTAKES:
@@ -361,8 +360,7 @@ def main():
         with open(os.path.join(folder, "config"), "w", encoding="utf-8") as file:
             file.write("toggle on\n")
         if lint(os.path.join(folder, "config")) != (1, "config:1: `on`: it is 0 or 1. toggle 1\n"):
-            failed += 1
-            print("lint.py: the program prints something else than its parts say")
+            fail("the program prints something else than its parts say")
     clean = [os.path.join(CONF, "config"), os.path.join(CONF, "sample", "config")]
     with tempfile.TemporaryDirectory() as work:
         sys.path.insert(0, HERE)
@@ -385,11 +383,10 @@ def main():
         for config in clean:
             status, said = lint(config)
             if status or said != "nothing found\n":
-                failed += 1
-                print("lint.py: a complaint of %s:\n%s" % (config, said.rstrip()))
+                fail("a complaint of %s:\n%s" % (config, said.rstrip()))
     print(
         "lint.py: %d mistakes, %d configurations without one, %s"
-        % (len(MISTAKES), len(clean), "%d failed" % failed if failed else "all as expected")
+        % (len(MISTAKES), len(clean), "%d failed: %s" % (len(failed), "; ".join(failed)) if failed else "all as expected")
     )
     return 1 if failed else 0
 

@@ -12,12 +12,11 @@ import os
 import re
 import shutil
 import signal
-import socket
 import subprocess
 import sys
 import tempfile
-import threading
-import time
+
+from origins import Server, free_port, wait_for
 
 HERE = os.path.dirname(os.path.abspath(__file__))
 TOP = os.path.join(HERE, "..")
@@ -40,12 +39,6 @@ class Net(http.server.BaseHTTPRequestHandler):
 
     def log_message(self, *_):
         pass
-
-
-def free_port():
-    with socket.socket() as it:
-        it.bind(("127.0.0.1", 0))
-        return it.getsockname()[1]
 
 
 class Sandbox:
@@ -137,15 +130,9 @@ class Sandbox:
             stdout=subprocess.DEVNULL,
             stderr=subprocess.DEVNULL,
         )
-        for _ in range(600):
-            try:
-                socket.create_connection(("127.0.0.1", self.port), 1).close()
-                return None
-            except OSError:
-                if self.proxy.poll() is not None:
-                    return "it ended with %d" % self.proxy.returncode
-                time.sleep(0.1)
-        return "it doesn't listen"
+        if wait_for(self.port, self.proxy):
+            return None
+        return "it doesn't listen, or has ended: %s" % self.proxy.poll()
 
     def stop(self):
         if self.proxy is not None:
@@ -204,12 +191,11 @@ def main():
     program = os.path.abspath(sys.argv[1])
     with open(MANUAL, encoding="utf-8") as file:
         text = file.read()
-    failed, counts = 0, [0, 0]
-    server = http.server.ThreadingHTTPServer(("127.0.0.1", 0), Net)
-    threading.Thread(target=server.serve_forever, daemon=True).start()
+    failed, counts = [], [0, 0]
+    net = Server(Net).start()
     with tempfile.TemporaryDirectory() as folder:
         os.chmod(folder, 0o755)
-        sandbox = Sandbox(folder, program, server.server_address[1])
+        sandbox = Sandbox(folder, program, net)
         blocks = BLOCK.findall(text)
         work = os.path.join(folder, "work")
         os.makedirs(work)
@@ -232,7 +218,7 @@ def main():
             else:
                 continue
             if wrong:
-                failed += 1
+                failed.append(block.splitlines()[0])
                 print("manual.py: %s\n%s" % (block.rstrip(), wrong.rstrip()))
         for told in (
             "curl -s -x http://127.0.0.1:8118 http://www.travel.example/ | grep 'walks in the wood'",
@@ -241,16 +227,15 @@ def main():
             counts[0] += 1
             wrong = sandbox.run("helmthread serve ~/helmthread/config 64\n" + told)
             if wrong:
-                failed += 1
+                failed.append(told)
                 print("manual.py: what the manual tells of its tasks isn't so: " + wrong.rstrip())
         sandbox.stop()
-    server.shutdown()
     if counts[0] < 10 or counts[1] < 10:
-        failed += 1
+        failed.append("too few are found")
         print("manual.py: only %d commands and %d pieces were found" % tuple(counts))
     print(
         "manual.py: %d blocks of commands and %d pieces of files, %s"
-        % (*counts, "%d failed" % failed if failed else "all as the manual says")
+        % (*counts, "%d failed: %s" % (len(failed), "; ".join(failed)) if failed else "all as the manual says")
     )
     return 1 if failed else 0
 

@@ -16,7 +16,7 @@ REPLY = b"HTTP/1.1 200 OK\r\nContent-Length: 2\r\nConnection: keep-alive\r\n\r\n
 SENT = b"GET /x HTTP/1.1\r\nHost: a.test\r\nConnection: close\r\n\r\n"
 LARGE = bytes(range(256)) * 4096
 
-failed = 0
+failures = []
 
 
 def entry(answer):
@@ -81,7 +81,7 @@ class Run:
         writer.start()
         got = drain(out_read, read, wait)
         writer.join()
-        return process.wait(timeout=60), got
+        return process.wait(timeout=600), got
 
     def sent(self):
         try:
@@ -92,9 +92,8 @@ class Run:
 
 
 def expect(what, got, wanted):
-    global failed
     if got != wanted:
-        failed += 1
+        failures.append(what)
         short = lambda it: it if len(repr(it)) < 300 else repr(it)[:300] + " .."
         print(f"pipes: {what}: got {short(got)}, wanted {short(wanted)}")
 
@@ -128,17 +127,17 @@ def try_closed(program):
         os.close(out_read)
         process = run.start(("pass", "config", "origin", "sent"), subprocess.PIPE, out_write, subprocess.DEVNULL)
         os.close(out_write)
-        process.communicate(REQUEST, timeout=60)
+        process.communicate(REQUEST, timeout=600)
         expect(f"an output closed before {name}", (process.returncode, run.sent()), (4, sent_file(SENT)))
     run = Run(program)
     with open("/dev/full", "wb") as full:
         process = run.start(("pass", "config", "origin", "sent"), subprocess.PIPE, full, subprocess.DEVNULL)
-        process.communicate(REQUEST, timeout=60)
+        process.communicate(REQUEST, timeout=600)
     expect("an output that takes nothing", (process.returncode, run.sent()), (4, sent_file(SENT)))
     run = Run(program, config=None)
     with open("/dev/full", "wb") as full:
         process = run.start(("pass", "config", "origin", "sent"), subprocess.DEVNULL, subprocess.DEVNULL, full)
-    expect("an error output that takes nothing", process.wait(timeout=60), 4)
+    expect("an error output that takes nothing", process.wait(timeout=600), 4)
 
 
 def try_faults(program):
@@ -146,7 +145,7 @@ def try_faults(program):
     run = Run(program)
     at = os.open(run.folder.name, os.O_RDONLY)
     process = run.start(("pass", "config", "origin", "sent"), at, subprocess.PIPE, subprocess.DEVNULL)
-    got, _ = process.communicate(timeout=60)
+    got, _ = process.communicate(timeout=600)
     os.close(at)
     expect("an input that can't be read", (process.returncode, got, run.sent()), (3, b"", b""))
     run = Run(program, origin=None)
@@ -160,8 +159,8 @@ def main():
     for program in map(os.path.abspath, sys.argv[1:]):
         for attempt in (try_cuts, try_full, try_closed, try_faults):
             attempt(program)
-    print(f"pipes: {len(sys.argv) - 1} programs, {failed} failed")
-    return 1 if failed else 0
+    print(f"pipes: {len(sys.argv) - 1} programs, {len(failures)} failed" + "".join("\nfailed: " + it for it in failures))
+    return 1 if failures else 0
 
 
 if __name__ == "__main__":

@@ -24,6 +24,7 @@ HERE = os.path.dirname(os.path.abspath(__file__))
 SCRIPT = os.path.join(HERE, "..", "tools", "helmthread-from-privoxy")
 INSIDE = "--inside"
 PORT = 8118
+WAIT = 60
 HOSTS = ("shop.onion", "www.hidden.test")
 TOR = "127.0.0.1:9050"
 # Privoxy's files that send these hosts another way than directly, and the place and the number of the fault by which `check` refuses
@@ -139,7 +140,7 @@ def begin_loopback(folder):
         up, running = 0x1, 0x40
         fcntl.ioctl(it, 0x8914, struct.pack("16sH14x", b"lo", up | running))
     texts = {
-        "/etc/resolv.conf": "nameserver 127.0.0.1\noptions timeout:1 attempts:1\n",
+        "/etc/resolv.conf": "nameserver 127.0.0.1\noptions timeout:30 attempts:1\n",
         "/etc/nsswitch.conf": "hosts: files dns\n",
     }
     for place, text in texts.items():
@@ -157,16 +158,15 @@ def convert(folder, files):
     for name, text in {**files, "config": main}.items():
         with open(os.path.join(old, name), "w", encoding="ascii") as file:
             file.write(text)
-    ran = subprocess.run([sys.executable, SCRIPT, old, new], capture_output=True, text=True, timeout=60)
+    ran = subprocess.run([sys.executable, SCRIPT, old, new], capture_output=True, text=True, timeout=600)
     return new, ran.stdout + ran.stderr
 
 
 def ask(host):
     """Asks the proxy for a host; gives what came, or the fault."""
     try:
-        with socket.create_connection(("127.0.0.1", PORT), 5) as it:
+        with socket.create_connection(("127.0.0.1", PORT), WAIT) as it:
             it.sendall(b"GET http://%s/ HTTP/1.1\r\nHost: %s\r\nConnection: close\r\n\r\n" % ((host.encode(),) * 2))
-            it.settimeout(10)
             return it.recv(4096)
     except OSError as error:
         return error
@@ -195,7 +195,7 @@ def serving(program, folder):
 def try_row(program, net, files, fault, say):
     with tempfile.TemporaryDirectory() as folder:
         made, report = convert(folder, files)
-        checked = subprocess.run([program, "check", "config"], cwd=made, capture_output=True, text=True, timeout=60)
+        checked = subprocess.run([program, "check", "config"], cwd=made, capture_output=True, text=True, timeout=600)
         net.taken()
         with serving(program, made):
             answers = [ask(host) for host in HOSTS]
@@ -225,7 +225,7 @@ def inside(programs):
                     print("ways.py: %s: %s" % (row, text))
 
                 try_row(program, net, files, fault, say)
-    told = "%d failed" % len(failures) if failures else "no request went another way"
+    told = "%d failed: %s" % (len(failures), "; ".join(failures)) if failures else "no request went another way"
     print("ways.py: %d rows, %s" % (len(ROWS) * len(programs), told))
     return 1 if failures else 0
 
@@ -238,12 +238,13 @@ def main():
     if INSIDE in sys.argv[1:]:
         return inside(programs)
     apart = ["unshare", "--map-root-user", "--net", "--mount"]
+    binds = "for it in /etc/resolv.conf /etc/nsswitch.conf; do mount --bind /etc/hosts $it || exit 1; done"
     try:
-        is_had = subprocess.run([*apart, "true"], stderr=subprocess.DEVNULL).returncode == 0
+        is_had = subprocess.run([*apart, "sh", "-c", binds], stderr=subprocess.DEVNULL).returncode == 0
     except OSError:
         is_had = False
     if not is_had:
-        print("ways.py: skipped, since `unshare` gives no network of its own here")
+        print("ways.py: skipped, since `unshare` gives no network and no mounts of its own here")
         return 0
     return subprocess.run([*apart, sys.executable, os.path.abspath(__file__), INSIDE, *programs]).returncode
 
