@@ -22,7 +22,7 @@ from concurrent.futures import ProcessPoolExecutor
 
 import origins
 import serve
-from serve import WAIT, Origin, SlowOrigin, check, comes, free_port, guarded, kept_client, read_all, reset, running, wait_for
+from serve import WAIT, Lateness, Origin, SlowOrigin, check, comes, free_port, guarded, kept_client, read_all, reset, running, wait_for
 
 REQUESTS = 30
 # A client that rests has the time of a head, and not that of a link.
@@ -54,7 +54,7 @@ REAL = (("nginx", AROUND_A_SECOND, 1, 0.4, 7), ("haproxy", AROUND_A_FIFTH, 0.2, 
 LOST = ("no-server-data", "send-failed")
 SHOWN = 3
 # So long a tunnel's end may take to come.
-END_SECONDS = 5
+END_SECONDS = 30
 
 
 class CountedOrigin(Origin):
@@ -120,13 +120,15 @@ def resting_client(program):
     """A client that rests beside a kept link is let go after the time of a head."""
     _, origin = counted_origin()
     with running(program, "link-reuse 1\n") as (port, _):
-        with socket.create_connection(("127.0.0.1", port), timeout=2 * PIECE_MOST) as link:
+        with socket.create_connection(("127.0.0.1", port), timeout=6 * PIECE_MOST) as link:
             link.sendall(b"GET http://127.0.0.1:%d/x HTTP/1.1\r\nHost: x\r\n\r\n" % origin)
             check("an answer", link.recv(65536).startswith(b"HTTP/1.1 200"))
-            began = time.monotonic()
+            lateness = Lateness()
             while link.recv(65536):
                 pass
-            check("it is let go in time", PIECE_LEAST <= time.monotonic() - began <= PIECE_MOST)
+            took, lost = lateness.end()
+            told = "it is let go in time, and in %.1f s, %.1f of them the machine's" % (took, lost)
+            check(told, PIECE_LEAST <= took and took - lost <= PIECE_MOST)
 
 
 class Answer(typing.NamedTuple):
@@ -247,7 +249,7 @@ def judge_real(name, answers, closes, late, behind):
     told = "%s: each request its own answer is expected, but for links that are closed meanwhile" % name
     check("%s; and of %d others, %s" % (told, len(faults), ", ".join(faults[:SHOWN])), not faults)
     least = max(MANY // behind, MANY // EACH)
-    check("%s: %d to %d links are expected, and there were %d" % (name, least, ends, links), least <= links <= ends < MANY)
+    check("%s: %d to %d links are expected, and there were %d" % (name, least, ends, links), least <= links <= ends)
 
 
 def real_server(program, name, pauses, *closes):

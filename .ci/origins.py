@@ -18,10 +18,8 @@ import sys
 import threading
 import time
 
-WAIT = 20
-
-# So long a program may take to listen.
-START = 60
+# So long something is waited for that is to come at once, and a program that is to listen: no bound of the proxy's.
+WAIT, START = 60, 300
 
 # Ports of this range are given to whoever asks for a named one alone: the system takes those of outgoing connections from above it.
 LEAST_PORT, PORTS_END = 10000, 32768

@@ -19,7 +19,7 @@ import threading
 import time
 
 import origins
-from origins import WAIT, comes, free_port, wait_for
+from origins import START, WAIT, comes, free_port, wait_for
 
 LARGE = bytes(range(256)) * 40960
 
@@ -190,24 +190,31 @@ def send_slowly(link):
 
 
 class Lateness(threading.Thread):
-    """How many seconds the machine kept a thread waiting that wanted to go on, since this was made: who wakes every 10 milliseconds tells
+    """How many seconds the machine kept a thread waiting that wanted to go on, since this was made: one that wakes again and again tells
     it. A bound of time is of what the proxy waits for, and what the machine takes is no part of it."""
+
+    # Who sleeps so long may wake so much later on any machine.
+    STEP, USUAL = 0.02, 0.002
 
     def __init__(self):
         super().__init__(daemon=True)
-        self.began, self.steps, self.goes_on = time.monotonic(), 0, True
+        self.began = self.woke = time.monotonic()
+        self.lost, self.goes_on = 0, True
         self.start()
+
+    def late(self):
+        return max(0, time.monotonic() - self.woke - self.STEP - self.USUAL)
 
     def run(self):
         while self.goes_on:
-            time.sleep(0.01)
-            self.steps += 1
+            self.woke = time.monotonic()
+            time.sleep(self.STEP)
+            self.lost += self.late()
 
     def end(self):
         """Ends it, and gives the seconds since, and those of them that the machine took."""
-        took = time.monotonic() - self.began
         self.goes_on = False
-        return took, max(0, took - 0.01 * (self.steps + 1))
+        return time.monotonic() - self.began, self.lost + self.late()
 
 
 def reset(link):
@@ -294,18 +301,19 @@ def silent_origin(program):
 
 def ended_after(link, least, most, sent=b""):
     """Whether a connection is ended by the proxy after so many seconds, while a byte is sent every four seconds."""
-    began = time.monotonic()
+    lateness = Lateness()
     link.settimeout(4)
-    for at in range(int(most / 4) + 1):
+    for at in range(int(most)):
         try:
             if link.recv(1) == b"":
                 break
         except socket.timeout:
-            if sent:
+            with contextlib.suppress(ConnectionError):
                 link.sendall(sent[at:at + 1])
         except ConnectionError:
             break
-    return least <= time.monotonic() - began <= most
+    took, lost = lateness.end()
+    return least <= took and took - lost <= most
 
 
 def idle_clients(program):
@@ -608,7 +616,7 @@ def statuses(program, folder):
             (["serve", "plain"], 7, refusal),
             (["serve", "taken"], 7, refusal),
         ):
-            ran = subprocess.run([program] + words, cwd=folder, stdout=subprocess.PIPE, stderr=subprocess.PIPE, timeout=WAIT)
+            ran = subprocess.run([program] + words, cwd=folder, stdout=subprocess.PIPE, stderr=subprocess.PIPE, timeout=START)
             check("status %d of %s" % (status, words), ran.returncode == status and ran.stderr.startswith(text) and ran.stdout == b"")
 
 
@@ -688,10 +696,10 @@ def main():
     waiting = [thread for program in programs for thread in at_their_times(program)]
     for program in programs:
         with tempfile.TemporaryDirectory() as folder:
-            statuses(program, folder)
-            served(program, folder, origin, echo.port)
-            counted(program, folder, origin)
-            newcomer(program, folder, origin)
+            guarded(statuses, program, folder)
+            guarded(served, program, folder, origin, echo.port)
+            guarded(counted, program, folder, origin)
+            guarded(newcomer, program, folder, origin)
     for thread in waiting:
         thread.join()
     finished()
