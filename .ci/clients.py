@@ -129,13 +129,13 @@ def asked(port, at, wait=WAIT):
 
 def idle_browsers(program, origin):
     """As many idle clients as there are workers keep one more from its answer for a while only."""
-    with running(program, "", ("64",)) as (port, _):
+    with running(program, "", ("64",)) as (port, proxy):
         links = []
         for number in range(64):
             link, status, body = asked(port, "127.0.0.1:%d/%d" % (origin, number))
             check("idle client %d is answered" % number, (status, body) == (200, b"/%d" % number))
             links.append(link)
-        lateness = Lateness()
+        lateness = Lateness(proxy)
         link, status, body = asked(port, "127.0.0.1:%d/more" % origin, 6 * IDLE_SECONDS)
         took, lost = lateness.end()
         told = "one client more than workers waits %.1f s, %.1f of them for the machine" % (took, lost)
@@ -161,11 +161,11 @@ def stalling(port, origin):
 
 def stalled(program, origin):
     """Clients that stall hold no worker but their own: with one more than there are such clients, others are served at once."""
-    with running(program, "", ("8",)) as (port, _):
+    with running(program, "", ("8",)) as (port, proxy):
         links = stalling(port, origin)
         time.sleep(0.5)
         for number in range(20):
-            lateness = Lateness()
+            lateness = Lateness(proxy)
             link, status, body = asked(port, "127.0.0.1:%d/%d" % (origin, number))
             link.close()
             took, lost = lateness.end()

@@ -266,13 +266,13 @@ def outlived(program):
     """No link outlives its clients by a second, who all go at once, and nobody comes: one, as many as there are workers but one, and as many
     as these."""
     origin = origins.LinkOrigin()
-    with running(program, "link-reuse 1\n", ("8",)) as (port, _):
+    with running(program, "link-reuse 1\n", ("8",)) as (port, proxy):
         for count, leave in ((1, socket.socket.close), (1, reset), (7, reset), (8, socket.socket.close)):
             clients = [kept_client(port, origin.port) for _ in range(count)]
             before = origin.open
             for client in clients:
                 leave(client)
-            comes(1, lambda: origin.open == 0)
+            comes(1, lambda: origin.open == 0, proxy)
             told = "clients that go, by %s: %d" % (leave.__name__, count)
             check("%s; no link is expected a second later, and of %d there are %d" % (told, before, origin.open), origin.open == 0)
 

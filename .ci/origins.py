@@ -71,13 +71,31 @@ class Server(http.server.ThreadingHTTPServer):
         return self.server_address[1]
 
 
-def comes(seconds, holds):
-    """Whether something comes to hold within so many seconds; those in which this thread would have gone on and couldn't aren't counted."""
-    for _ in range(int(100 * seconds) + 1):
-        if holds():
-            return True
+def waits_of(process):
+    """For each thread of a process, how many seconds it waited for a processor so far."""
+    waits = {}
+    for path in glob.glob("/proc/%d/task/*/schedstat" % process.pid) if process else []:
+        with contextlib.suppress(OSError, ValueError, IndexError):
+            with open(path) as file:
+                waits[path] = int(file.read().split()[1]) / 1e9
+    return waits
+
+
+def waited(process, before):
+    """How many seconds more the thread waited for a processor that waited longest."""
+    return max((seconds - before.get(path, 0) for path, seconds in waits_of(process).items()), default=0)
+
+
+def comes(seconds, holds, process=None):
+    """Whether something comes to hold within so many seconds. Those in which this thread would have gone on and couldn't aren't counted,
+    and those in which a process waited for a processor."""
+    before, steps = waits_of(process), 0
+    while not holds():
+        if 0.01 * steps > seconds and 0.01 * steps > seconds + waited(process, before):
+            return False
         time.sleep(0.01)
-    return False
+        steps += 1
+    return True
 
 
 def wait_for(port, process=None):

@@ -190,14 +190,15 @@ def send_slowly(link):
 
 
 class Lateness(threading.Thread):
-    """How many seconds the machine kept a thread waiting that wanted to go on, since this was made: one that wakes again and again tells
-    it. A bound of time is of what the proxy waits for, and what the machine takes is no part of it."""
+    """How many seconds the machine took since this was made: in which it kept a thread here waiting that wanted to go on (one that wakes
+    again and again tells it), or a thread of the proxy. A bound of time is of what the proxy does or waits for, and that is no part of it."""
 
     # Who sleeps so long may wake so much later on any machine.
     STEP, USUAL = 0.02, 0.002
 
-    def __init__(self):
+    def __init__(self, process=None):
         super().__init__(daemon=True)
+        self.process, self.before = process, origins.waits_of(process)
         self.began = self.woke = time.monotonic()
         self.lost, self.goes_on = 0, True
         self.start()
@@ -214,7 +215,7 @@ class Lateness(threading.Thread):
     def end(self):
         """Ends it, and gives the seconds since, and those of them that the machine took."""
         self.goes_on = False
-        return time.monotonic() - self.began, self.lost + self.late()
+        return time.monotonic() - self.began, self.lost + self.late() + origins.waited(self.process, self.before)
 
 
 def reset(link):
@@ -388,7 +389,7 @@ def given_back(program):
                 # (where none asks, the one that told that it listens has gone)
                 if leave:
                     leave(kept_client(port, origin.port))
-                comes(1, lambda: sockets_of(proxy) == 0)
+                comes(1, lambda: sockets_of(proxy) == 0, proxy)
                 left = sockets_of(proxy)
                 told = "%s, %s" % (main.strip(), "a client goes by " + leave.__name__ if leave else "a client that said nothing goes")
                 check("%s: no socket is expected a second later, and there are %d" % (told, left), left == 0)
@@ -407,7 +408,7 @@ def few_descriptors(program):
         check("with %d descriptors, some of 60 clients have a kept link, and there are %d" % (FEW, origin.open), 5 < origin.open < FEW)
         for client in clients:
             client.close()
-        lateness = Lateness()
+        lateness = Lateness(proxy)
         try:
             kept_client(port, origin.port).close()
         except OSError as fault:
