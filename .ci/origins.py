@@ -21,6 +21,9 @@ import time
 # So long something is waited for that is to come at once, and a program that is to listen: no bound of the proxy's.
 WAIT, START = 60, 300
 
+# No more than this part of a time is taken for the machine's.
+MOST_TAKEN = 0.9
+
 # Ports of this range are given to whoever asks for a named one alone: the system takes those of outgoing connections from above it.
 LEAST_PORT, PORTS_END = 10000, 32768
 given_ports = set()
@@ -91,7 +94,7 @@ def comes(seconds, holds, process=None):
     and those in which a process waited for a processor."""
     before, steps = waits_of(process), 0
     while not holds():
-        if 0.01 * steps > seconds and 0.01 * steps > seconds + waited(process, before):
+        if 0.01 * steps > seconds + min(waited(process, before), MOST_TAKEN * steps * 0.01):
             return False
         time.sleep(0.01)
         steps += 1

@@ -215,7 +215,8 @@ class Lateness(threading.Thread):
     def end(self):
         """Ends it, and gives the seconds since, and those of them that the machine took."""
         self.goes_on = False
-        return time.monotonic() - self.began, self.lost + self.late() + origins.waited(self.process, self.before)
+        took = time.monotonic() - self.began
+        return took, min(self.lost + self.late() + origins.waited(self.process, self.before), origins.MOST_TAKEN * took)
 
 
 def reset(link):
