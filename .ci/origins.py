@@ -94,7 +94,7 @@ def comes(seconds, holds, process=None):
     and those in which a process waited for a processor."""
     before, steps = waits_of(process), 0
     while not holds():
-        if 0.01 * steps > seconds + min(waited(process, before), MOST_TAKEN * steps * 0.01):
+        if 0.01 * steps > seconds and 0.01 * steps > seconds + min(waited(process, before), MOST_TAKEN * steps * 0.01):
             return False
         time.sleep(0.01)
         steps += 1
