@@ -85,8 +85,8 @@ def waits_of(process):
 
 
 def waited(process, before):
-    """How many seconds more the thread waited for a processor that waited longest."""
-    return max((seconds - before.get(path, 0) for path, seconds in waits_of(process).items()), default=0)
+    """How many seconds more the threads of a process waited for a processor, which may be one behind another."""
+    return sum(seconds - before.get(path, 0) for path, seconds in waits_of(process).items())
 
 
 def comes(seconds, holds, process=None):
