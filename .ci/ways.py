@@ -179,7 +179,7 @@ def serving(program, folder):
         [program, "serve", "config"], cwd=folder, stdout=subprocess.DEVNULL, stderr=subprocess.DEVNULL
     )
     try:
-        for _ in range(600):
+        for _ in range(6000):
             if running.poll() is not None:
                 break
             with contextlib.suppress(OSError):
