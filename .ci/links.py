@@ -346,7 +346,7 @@ def half_closed_tunnels(program):
 
 def fetched(port, words):
     ran = subprocess.run(
-        ["curl", "-s", "--max-time", "30", "-x", "http://127.0.0.1:%d" % port] + words,
+        ["curl", "-s", "--max-time", "600", "-x", "http://127.0.0.1:%d" % port] + words,
         stdout=subprocess.PIPE,
         env={"PATH": os.environ["PATH"]},
     )

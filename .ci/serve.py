@@ -586,7 +586,7 @@ def curl(port, origin, folder):
         ("tunnel", ["--proxytunnel", url + "/t", url + "/u"], b"/t/u"),
     ):
         ran = subprocess.run(
-            ["curl", "-s", "--max-time", "60", "-x", "http://127.0.0.1:%d" % port] + words,
+            ["curl", "-s", "--max-time", "600", "-x", "http://127.0.0.1:%d" % port] + words,
             stdout=subprocess.PIPE,
             env={"PATH": os.environ["PATH"]},
         )
