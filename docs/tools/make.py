@@ -1,7 +1,7 @@
 #!/usr/bin/env python3
 """Makes the parts of the documents that the sources say already, between the comments `<!-- made: NAME -->` and `<!-- end: NAME -->`:
 the calls of each crate (docs/PROOFS.md), the floors of the crates (docs/ARCHITECTURE.md), and the directives of the main file
-(docs/MANUAL.md). It also holds the version and the kit to the files VERSION and KIT.
+(docs/MANUAL.md). It makes docs/HEADLINE.md (headline.py), and holds the version and the kit to the files VERSION and KIT.
 
 Run: docs/tools/make.py            writes what is stale
      docs/tools/make.py --check    writes nothing, names what is stale, and ends with 1 where something is
@@ -10,6 +10,9 @@ import glob
 import os
 import re
 import sys
+
+sys.dont_write_bytecode = True
+import headline
 
 ROOT = os.path.dirname(os.path.dirname(os.path.dirname(os.path.abspath(__file__))))
 DIRECTIVES = "crates/px_config/src/directives.rt"
@@ -306,6 +309,7 @@ def main():
         version = f'VERSION: &[u8] = b"helmthread {read("VERSION").strip()}\n";'
         stale |= write(PROGRAM, re.sub(r'VERSION: &\[u8\] = b"[^"]*";', lambda _: version, read(PROGRAM)), checks)
         kit = f"`{read('KIT').strip()}`"
+        stale |= write(headline.PATH, headline.headline(), checks)
         stale |= write("README.md", re.sub(r"`rattle-kit-[^`]*`", lambda _: kit, read("README.md")), checks)
     except Stale as why:
         print(why)

@@ -11,7 +11,8 @@ use Rattle.px_notes.specs.declared.sessions.ExchangeNote.{ExchangeNote}
 use Rattle.px_notes.specs.declared.sessions.SessionEnd.{SessionEnd}
 use Rattle.px_notes.specs.declared.sessions.SessionEnd.TheVariants as end
 use Rattle.px_serve.specs.Histories.{Begun, Looks}
-use Rattle.px_serve.specs.Sessions.{Caller, IsSession, Serves, session_caller}
+use Rattle.px_pages.specs.Pages.{FitsPages}
+use Rattle.px_serve.specs.Sessions.{IsSession, Serves}
 use Rattle.px_shared.specs.Links.{EachAnswered, EachHeardFront, NoTunnel, with_heard}
 use Rattle.px_shared.specs.Sharing.{PoolTells, Unpools, pooled, pooled_ends}
 use Rattle.px_commands.specs.Clients.{IsAlone, LeftOf, ServesClient, ServesEnds, StreamsGoOn, StreamsState, begun_over, client_ends}
@@ -23,10 +24,10 @@ tells_left v false d own left same h = ap (λ (x : DialerState). x.tells) h ∙ 
 
 -- a session over a pool, by the laws on such sessions
 pub shares_links : {S T : Type 0} (v : Views S T) (tags : List (List ℕ)) (looks looks' : Looks) (old own new : EndsState) (notes : List ExchangeNote) (e : SessionEnd) (wanting : ℕ)
-    → ((caller : Caller) (stream left : List ℕ) (d d' : DialerState) (taken taken' : List ℕ) (begun : List Begun) (f : SessionEnd) → IsSession caller stream left d d' taken taken' begun f
-    → EachHeardFront d'.dials → EachAnswered d'.dials → NoTunnel begun → f ≢ end.NoMemory → IsSession caller stream left (with_heard d) (with_heard d') taken taken' begun f)
+    → ((peer stream left : List ℕ) (d d' : DialerState) (taken taken' : List ℕ) (begun : List Begun) (f : SessionEnd) → IsSession peer stream left d d' taken taken' begun f
+    → EachHeardFront d'.dials → EachAnswered d'.dials → NoTunnel begun → f ≢ end.NoMemory → IsSession peer stream left (with_heard d) (with_heard d') taken taken' begun f)
     → ((w : Views S T) (before pool_dials inner_dials : List Dial) (history : History Hearing Sending S T) → PoolTells w before pool_dials inner_dials history → EachHeardFront pool_dials)
-    → Serves tags looks looks' (pooled_ends old) own notes e → Unpools v own new wanting → ServesEnds v true tags looks old new e
+    → Serves (FitsPages tags) looks looks' (pooled_ends old) own notes e → Unpools v own new wanting → ServesEnds v true tags looks old new e
 shares_links v tags looks looks' old own new notes e wanting enough fronts serves unpools = record {
   looks_after = looks';
   notes = notes;
@@ -35,13 +36,13 @@ shares_links v tags looks looks' old own new notes e wanting enough fronts serve
   left = (wanting, unpools.leaves);
   rest = unpools.rest;
   alone = λ s tells begun session each none memory.
-      enough (session_caller tags (pooled_ends old)) (client_stream (pooled_ends old)) own.client.source.left (pooled old.dialer) own.dialer old.client_out.taken own.client_out.taken begun e session
+      enough old.peer (client_stream (pooled_ends old)) own.client.source.left (pooled old.dialer) own.dialer old.client_out.taken own.client_out.taken begun e session
       (fronts v [] own.dialer.dials new.dialer.dials unpools.leaves.history (unpools.leaves.told (serves.goes_on.dialer.tells_same ∙ tells))) each none memory;
 }
 
 -- a session whose dials are new links
 pub takes_new_links : {S T : Type 0} (v : Views S T) (tags : List (List ℕ)) (looks looks' : Looks) (old new : EndsState) (notes : List ExchangeNote) (e : SessionEnd)
-    → Serves tags looks looks' old new notes e → ServesEnds v false tags looks old new e
+    → Serves (FitsPages tags) looks looks' old new notes e → ServesEnds v false tags looks old new e
 takes_new_links v tags looks looks' old new notes e serves = record {
   looks_after = looks';
   notes = notes;
@@ -72,9 +73,9 @@ client_served v sharing tags looks old new ends left d d' e served begins stream
       notes = h.notes;
       dialer = h.own.dialer;
       ahead = h.own.client.ahead;
-      serves = subst (λ (x : EndsState). Serves tags looks h.looks_after (client_ends old [] (begun_over sharing d)) x h.notes e) own_is h.serves;
+      serves = subst (λ (x : EndsState). Serves (FitsPages tags) looks h.looks_after (client_ends old [] (begun_over sharing d)) x h.notes e) own_is h.serves;
       left = subst (LeftOf v sharing h.own.dialer) (sym dialer) h.left;
-      alone = λ s t. subst (λ (x : EndsState). IsAlone tags (client_ends old [] (begun_over sharing d)) x e) own_is (h.alone s t);
+      alone = λ s t. subst (λ (x : EndsState). IsAlone (client_ends old [] (begun_over sharing d)) x e) own_is (h.alone s t);
     }
 
 pub streams_go_on : {S T : Type 0} {v : Views S T} {sharing : Bool} {tags : List (List ℕ)} {looks : Looks} {old new : StreamsState} {d d' : DialerState} {e : SessionEnd} → ServesClient v sharing tags looks old new d d' e → StreamsGoOn old new

@@ -14,6 +14,7 @@ use Rattle.px_link_pool.specs.Histories.{Views}
 use Rattle.px_notes.specs.declared.sessions.ExchangeNote.{ExchangeNote}
 use Rattle.px_notes.specs.declared.sessions.SessionEnd.{SessionEnd}
 use Rattle.px_notes.specs.declared.sessions.SessionEnd.TheVariants as end
+use Rattle.px_pages.specs.Pages.{FitsPages}
 use Rattle.px_serve.specs.Histories.{Begun, Looks}
 use Rattle.px_serve.specs.Sessions.{IsSessionOf, Serves}
 use Rattle.px_shared.specs.Links.{EachAnswered, NoTunnel, with_heard}
@@ -63,20 +64,20 @@ heard_ends e = record { client = e.client; client_out = e.client_out; dialer = w
 
 -- where one whole answer was heard over each link, no tunnel was carried and memory wasn't wanting, a session is the one over new
 -- links each of which offers just its answer
-abbrev pub IsAlone : List (List ℕ) → EndsState → EndsState → SessionEnd → Type 0
-IsAlone tags old new e = (begun : List Begun) → IsSessionOf tags old new begun e → EachAnswered new.dialer.dials → NoTunnel begun → e ≢ end.NoMemory
-    → IsSessionOf tags (heard_ends old) (heard_ends new) begun e
+abbrev pub IsAlone : EndsState → EndsState → SessionEnd → Type 0
+IsAlone old new e = (begun : List Begun) → IsSessionOf old new begun e → EachAnswered new.dialer.dials → NoTunnel begun → e ≢ end.NoMemory
+    → IsSessionOf (heard_ends old) (heard_ends new) begun e
 
--- a session between ends, by whether its requests share links; what is left of the ends is those behind it, but for the dialer
+-- a session between ends, whose client has these tags, by whether its requests share links; what is left of the ends is those behind it, but for the dialer
 pub record ServesEnds {S T : Type 0} (v : Views S T) (sharing : Bool) (tags : List (List ℕ)) (looks : Looks) (old new : EndsState) (e : SessionEnd) : Type 0 where
   pub looks_after : Looks
   pub notes : List ExchangeNote
   -- the ends behind the session
   pub own : EndsState
-  pub serves : Serves tags looks looks_after (record old { dialer = begun_over sharing old.dialer }) own notes e
+  pub serves : Serves (FitsPages tags) looks looks_after (record old { dialer = begun_over sharing old.dialer }) own notes e
   pub left : LeftOf v sharing own.dialer new.dialer
   pub rest : new ≡ record own { dialer = new.dialer }
-  pub alone : IsTrue sharing → IsTrue old.dialer.tells → IsAlone tags (record old { dialer = begun_over sharing old.dialer }) own e
+  pub alone : IsTrue sharing → IsTrue old.dialer.tells → IsAlone (record old { dialer = begun_over sharing old.dialer }) own e
 
 -- the session of the one client over a dialer that is in the one state before it and in the other behind it, by whether its requests
 -- share links
@@ -87,6 +88,6 @@ pub record ServesClient {S T : Type 0} (v : Views S T) (sharing : Bool) (tags : 
   pub dialer : DialerState
   -- what was read ahead of the input, and isn't used
   pub ahead : List ℕ
-  pub serves : Serves tags looks looks_after (client_ends old [] (begun_over sharing d)) (client_ends new ahead dialer) notes e
+  pub serves : Serves (FitsPages tags) looks looks_after (client_ends old [] (begun_over sharing d)) (client_ends new ahead dialer) notes e
   pub left : LeftOf v sharing dialer d'
-  pub alone : IsTrue sharing → IsTrue d.tells → IsAlone tags (client_ends old [] (begun_over sharing d)) (client_ends new ahead dialer) e
+  pub alone : IsTrue sharing → IsTrue d.tells → IsAlone (client_ends old [] (begun_over sharing d)) (client_ends new ahead dialer) e

@@ -9,6 +9,7 @@ use px_config::Config;
 use px_ends::{Ends, Joined, Outside};
 use px_link_pool::{Look, Sees};
 use px_notes::SessionEnd;
+use px_pages::Pages;
 use px_publish::{Configs, FixedConfig};
 use px_serve::serve_cold;
 use px_shared::{heard_is_enough, pools_hear_fronts, with_pool, without_pool};
@@ -107,7 +108,8 @@ where
     } = client;
     let Streams { input, out, clock } = streams;
     let ends: Ends<Joined<S, O, D, T>> = Ends::new(alloc, input, out, dialer, clock, peer);
-    let EndedEnds { end, ends } = serve_ends(alloc, way, sharing, configs, tags.as_slice(), ends);
+    let pages = Pages::new(tags);
+    let EndedEnds { end, ends } = serve_ends(alloc, way, sharing, configs, pages, ends);
     let (dialer, streams) = opened(ends);
     Ended {
         end,
@@ -145,20 +147,20 @@ fn serve_ends<R: Threads + Sync, A: Outside>(
     way: &Way<'_, R>,
     sharing: bool,
     configs: FixedConfig<Config>,
-    tags: &[Text],
+    pages: Pages,
     ends: Ends<A>,
 ) -> EndedEnds<A>
 where
     Look: Sees<<A::Dial as Dialer>::In>,
     requires undialled { ends.dialer.dials ≡ [] }
-    ensures serves { ServesEnds (record { ins = A.Dial.In.state; outs = A.Dial.Out.state }) sharing tags.now
+    ensures serves { ServesEnds (record { ins = A.Dial.In.state; outs = A.Dial.Out.state }) sharing pages.tags
         (looks_of ⟦<FixedConfig<Config> as Configs>⟧.tells ⟦<FixedConfig<Config> as Configs>⟧.view ⟦<FixedConfig<Config> as Configs>⟧.pair ⟦<FixedConfig<Config> as Configs>⟧.coming configs)
         ends result.ends result.end }
 {
     if sharing {
-        share_links(alloc, way, configs, tags, ends)
+        share_links(alloc, way, configs, pages, ends)
     } else {
-        take_new_links(alloc, way, configs, tags, ends)
+        take_new_links(alloc, way, configs, pages, ends)
     }
 }
 
@@ -167,21 +169,22 @@ fn share_links<R: Threads + Sync, A: Outside>(
     alloc: Global,
     way: &Way<'_, R>,
     configs: FixedConfig<Config>,
-    tags: &[Text],
+    pages: Pages,
     ends: Ends<A>,
 ) -> EndedEnds<A>
 where
     Look: Sees<<A::Dial as Dialer>::In>,
     requires undialled { ends.dialer.dials ≡ [] }
-    ensures serves { ServesEnds (record { ins = A.Dial.In.state; outs = A.Dial.Out.state }) true tags.now
+    ensures serves { ServesEnds (record { ins = A.Dial.In.state; outs = A.Dial.Out.state }) true pages.tags
         (looks_of ⟦<FixedConfig<Config> as Configs>⟧.tells ⟦<FixedConfig<Config> as Configs>⟧.view ⟦<FixedConfig<Config> as Configs>⟧.pair ⟦<FixedConfig<Config> as Configs>⟧.coming configs)
         ends result.ends result.end }
 {
     heard_is_enough();
     pools_hear_fronts::<<A::Dial as Dialer>::In, <A::Dial as Dialer>::Out>();
     let mut configs = configs;
+    let mut pages = pages;
     let mut pooled = with_pool(alloc, ends);
-    let session = serve_cold(alloc, way, &mut configs, tags, &mut pooled);
+    let session = serve_cold(alloc, way, &mut configs, &mut pages, &mut pooled);
     let (ends, _wanting) = without_pool(pooled);
     EndedEnds {
         end: session.end,
@@ -194,16 +197,17 @@ fn take_new_links<R: Threads + Sync, A: Outside>(
     alloc: Global,
     way: &Way<'_, R>,
     configs: FixedConfig<Config>,
-    tags: &[Text],
+    pages: Pages,
     ends: Ends<A>,
 ) -> EndedEnds<A>
-    ensures serves { ServesEnds (record { ins = A.Dial.In.state; outs = A.Dial.Out.state }) false tags.now
+    ensures serves { ServesEnds (record { ins = A.Dial.In.state; outs = A.Dial.Out.state }) false pages.tags
         (looks_of ⟦<FixedConfig<Config> as Configs>⟧.tells ⟦<FixedConfig<Config> as Configs>⟧.view ⟦<FixedConfig<Config> as Configs>⟧.pair ⟦<FixedConfig<Config> as Configs>⟧.coming configs)
         ends result.ends result.end }
 {
     let mut configs = configs;
+    let mut pages = pages;
     let mut ends = ends;
-    let session = serve_cold(alloc, way, &mut configs, tags, &mut ends);
+    let session = serve_cold(alloc, way, &mut configs, &mut pages, &mut ends);
     EndedEnds {
         end: session.end,
         ends,

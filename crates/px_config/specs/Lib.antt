@@ -2,6 +2,7 @@ pub mod Directives
 pub mod Names
 pub mod Sets
 pub mod Indexes
+pub mod Insides
 pub mod Gathering
 pub mod Faults
 pub mod Parts

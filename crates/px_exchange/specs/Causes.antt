@@ -34,6 +34,7 @@ EndingCause old new (ending.Page p) = PageCause old new p
 EndingCause old new ending.Image = Unit {0}
 EndingCause old new ending.Empty = Unit {0}
 EndingCause old new ending.Redirect = Unit {0}
+EndingCause old new ending.Inside = Unit {0}
 EndingCause old new ending.Passed = Unit {0}
 EndingCause old new ending.Filtered = Unit {0}
 EndingCause old new ending.Bodiless = Unit {0}

@@ -1,5 +1,5 @@
--- One exchange, joined from its parts: judging, dialling, sending and answering.
-use Rattle.std.specs.Prelude.{◌≡◌, ℕ, ◌⊎◌, false, List, Option, None, Some}
+-- One exchange, joined from its parts: dialling, sending and answering.
+use Rattle.std.specs.Prelude.{◌≡◌, ℕ, ◌⊎◌, false, List}
 use Rattle.px_base.specs.Sinks.{AddsFront}
 use Rattle.px_base.specs.Dials.{DialerState}
 use Rattle.px_decide.specs.declared.routes.Route.{Route}
@@ -9,8 +9,6 @@ use Rattle.px_notes.specs.declared.endings.After.TheVariants as after
 use Rattle.px_notes.specs.declared.endings.Conclusion.{Conclusion}
 use Rattle.px_config.specs.declared.configs.Config.{Config}
 use Rattle.px_templates.specs.declared.pages.Page.{Page}
-use Rattle.px_judging.specs.Given.{Given}
-use Rattle.px_judging.specs.Judging.{Judged}
 use Rattle.px_judging.specs.declared.replies.LocalReply.{LocalReply}
 use Rattle.px_judging.specs.declared.judgements.Judgement.{Judgement}
 use Rattle.px_judging.specs.declared.judgements.Judgement.TheVariants as judgement
@@ -48,12 +46,6 @@ Does config (judgement.Forward plan) c old new taken taken' x =
 Does config (judgement.Tunnel t) c old new taken taken' x =
     DialsOnce t.route (Tunnels (tunnel_page_due config t) t c (concluded taken' x) taken) old new
 
--- one exchange, memory being there
-pub record Exchanges (g : Given) (c : Client) (old new : DialerState) (taken taken' : List ℕ) (x : Conclusion) : Type 0 where
-  pub judgement : Judgement
-  pub judged : Judged g judgement
-  pub does : Does g.config judgement c old new taken taken' x
-
 -- memory was wanting in a dial, or behind it
 abbrev pub WantsForward : Config → Plan → Client → DialerState → DialerState → List ℕ → List ℕ → Type 0
 WantsForward config plan c old new taken taken' =
@@ -64,29 +56,19 @@ WantsForward config plan c old new taken taken' =
 abbrev pub WantsReply : Config → LocalReply → Client → DialerState → DialerState → List ℕ → List ℕ → Type 0
 WantsReply config reply c old new taken taken' = (new ≡ old) × (c.behind ≡ c.stream) × AddsFront taken taken' (local_due config reply).bytes
 
--- what was dialled and returned where memory was wanting: in judging, in a reply without a dial, for a request that is sent on or in
--- a tunnel
-abbrev pub WantsJudged : Config → Option Judgement → Client → DialerState → DialerState → List ℕ → List ℕ → Type 0
-WantsJudged config None c old new taken taken' = (new ≡ old) × (c.behind ≡ c.stream) × (taken' ≡ taken)
-WantsJudged config (Some (judgement.Local reply)) c old new taken taken' = WantsReply config reply c old new taken taken'
-WantsJudged config (Some (judgement.Forward plan)) c old new taken taken' = WantsForward config plan c old new taken taken'
-WantsJudged config (Some (judgement.Tunnel t)) c old new taken taken' = tunnel.WantsTunnelDial (tunnel_page_due config t) t c old new taken taken'
-
--- what was judged, if memory was there for that
-abbrev pub JudgedMaybe : Given → Option Judgement → Type 0
-JudgedMaybe g None = Unit {0}
-JudgedMaybe g (Some j) = Judged g j
+-- what was dialled and returned where memory was wanting: in a reply without a dial, for a request that is sent on or in a tunnel
+abbrev pub WantsJudged : Config → Judgement → Client → DialerState → DialerState → List ℕ → List ℕ → Type 0
+WantsJudged config (judgement.Local reply) c old new taken taken' = WantsReply config reply c old new taken taken'
+WantsJudged config (judgement.Forward plan) c old new taken taken' = WantsForward config plan c old new taken taken'
+WantsJudged config (judgement.Tunnel t) c old new taken taken' = tunnel.WantsTunnelDial (tunnel_page_due config t) t c old new taken taken'
 
 -- an exchange in which memory was wanting
-pub record GivesUpExchange (g : Given) (c : Client) (old new : DialerState) (taken taken' : List ℕ) (x : Conclusion) : Type 0 where
-  pub judgement : Option Judgement
-  pub judged : JudgedMaybe g judgement
-  pub wants : WantsJudged g.config judgement c old new taken taken'
-  pub concluded : x ≡ broken after.NoMemory
+abbrev pub GivesUpExchange : Config → Judgement → Client → DialerState → DialerState → List ℕ → List ℕ → Conclusion → Type 0
+GivesUpExchange config j c old new taken taken' x = (x ≡ broken after.NoMemory) × WantsJudged config j c old new taken taken'
 
--- one exchange, or one in which memory was wanting
-abbrev pub Answers : Given → Client → DialerState → DialerState → List ℕ → List ℕ → Conclusion → Type 0
-Answers g c old new taken taken' x = Exchanges g c old new taken taken' x ⊎ GivesUpExchange g c old new taken taken' x
+-- one exchange by what was judged, or one in which memory was wanting
+abbrev pub Answers : Config → Judgement → Client → DialerState → DialerState → List ℕ → List ℕ → Conclusion → Type 0
+Answers config j c old new taken taken' x = Does config j c old new taken taken' x ⊎ GivesUpExchange config j c old new taken taken' x
 
 -- what came of a request that is sent on, before a page is returned in place of an answer
 abbrev pub TalksOn : Ask → Route → Message → Client → DialerState → DialerState → List ℕ → List ℕ → Talked → Type 0

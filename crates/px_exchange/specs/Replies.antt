@@ -26,6 +26,7 @@ reply_ending kind.BlankImage = ending.Image
 reply_ending kind.PatternImage = ending.Image
 reply_ending kind.EmptyDocument = ending.Empty
 reply_ending (kind.Redirect target) = ending.Redirect
+reply_ending (kind.Inside own) = ending.Inside
 
 -- a reply as what is due
 abbrev pub local_due : Config → LocalReply → Due

@@ -1,8 +1,9 @@
 // Dialling: the one dial of a request that is sent on.
-ghost use Rattle.std.specs.Prelude.{◌≡◌, ◌++◌, IsTrue};
+ghost use Rattle.std.specs.Prelude.{◌≡◌, IsTrue};
 ghost use Rattle.px_base.specs.Dials.{DialerGoesOn};
 ghost use Rattle.px_base.specs.Sinks.{SinkGoesOn};
 ghost use Rattle.px_base.specs.Sources.{SourceGoesOn};
+ghost use Rattle.px_streams.specs.Feeds.{bytes_behind};
 ghost use Rattle.px_templates.specs.declared.pages.Page as page;
 ghost use Rattle.px_pumps.specs.declared.dues.Due as due;
 ghost use Rattle.px_pumps.specs.Asking.{ask_of};
@@ -17,7 +18,7 @@ use px_config::Running;
 use px_decide::Route;
 use px_notes::{After, Asked, Message, broken};
 use px_pumps::Talked;
-use px_streams::Ahead;
+use px_streams::Feed;
 use px_templates::Page;
 use std::alloc::Global;
 
@@ -50,21 +51,20 @@ pub fn dial_and_send<S: Source, D: Dialer, O: Sink>(
     route: &Route,
     message: &Message,
     asked: Asked,
-    client_in: &mut S,
-    ahead: &mut Ahead,
+    client: &mut Feed<S>,
     client_out: &mut O,
     dialer: &mut D,
 ) -> Talked
-    ensures talks { IsTrue (S.state client_in.old).tells → IsTrue (O.state client_out.old).tells → IsTrue (D.state dialer.old).tells
+    ensures talks { IsTrue client.old.source.tells → IsTrue (O.state client_out.old).tells → IsTrue (D.state dialer.old).tells
         → (page_due : page.Page → due.Due)
         → TalksOn (ask_of running.old asked page_due) route.now message.now
-        (record { stream = ahead.old ++ (S.state client_in.old).left; behind = ahead.new ++ (S.state client_in.new).left })
+        (record { stream = bytes_behind client.old; behind = bytes_behind client.new })
         (D.state dialer.old) (D.state dialer.new) (O.state client_out.old).taken (O.state client_out.new).taken result }
-    ensures read_cause { TalkReadCause (S.state client_in.old) (S.state client_in.new) result }
+    ensures read_cause { TalkReadCause client.old.source client.new.source result }
     ensures write_cause { TalkCause (O.state client_out.old) (O.state client_out.new) result }
     ensures page_cause { TalkPageCause (D.state dialer.old) (D.state dialer.new) result }
     ensures open { (O.state client_out.new).finished ≡ (O.state client_out.old).finished }
-    ensures in_goes_on { SourceGoesOn (S.state client_in.old) (S.state client_in.new) }
+    ensures in_goes_on { SourceGoesOn client.old.source client.new.source }
     ensures out_goes_on { SinkGoesOn (O.state client_out.old) (O.state client_out.new) }
     ensures goes_on { DialerGoesOn (D.state dialer.old) (D.state dialer.new) }
     ensures same { running.new ≡ running.old }
@@ -76,8 +76,7 @@ pub fn dial_and_send<S: Source, D: Dialer, O: Sink>(
                 running,
                 message,
                 asked,
-                client_in,
-                ahead,
+                client,
                 &mut link_in,
                 &mut link_out,
                 client_out,

@@ -1,8 +1,9 @@
 // Forwarding: sends a request over a link, and returns its answer.
-ghost use Rattle.std.specs.Prelude.{◌≡◌, ◌++◌, IsTrue};
+ghost use Rattle.std.specs.Prelude.{◌≡◌, IsTrue};
 ghost use Rattle.px_base.specs.Dials.{IsFresh};
 ghost use Rattle.px_base.specs.Sinks.{SinkGoesOn};
 ghost use Rattle.px_base.specs.Sources.{SourceGoesOn};
+ghost use Rattle.px_streams.specs.Feeds.{bytes_behind};
 ghost use Rattle.px_templates.specs.declared.pages.Page as page;
 ghost use Rattle.px_pumps.specs.declared.dues.Due as due;
 ghost use Rattle.px_pumps.specs.Asking.{ask_of};
@@ -15,7 +16,7 @@ use px_config::Running;
 use px_notes::{After, Asked, Message, Sent, broken};
 use px_pumps::{Talked, return_answer};
 use px_sending::send;
-use px_streams::Ahead;
+use px_streams::Feed;
 use px_templates::Page;
 use std::alloc::Global;
 
@@ -40,30 +41,36 @@ pub fn talk_over<S: Source, I: Source, P: Sink, O: Sink>(
     running: &mut Running<'_>,
     message: &Message,
     asked: Asked,
-    client_in: &mut S,
-    ahead: &mut Ahead,
+    client: &mut Feed<S>,
     link_in: &mut I,
     link_out: &mut P,
     client_out: &mut O,
 ) -> Talked
-    ensures talks { IsTrue (S.state client_in.old).tells → IsTrue (I.state link_in.old).tells → IsTrue (P.state link_out.old).tells → IsTrue (O.state client_out.old).tells
+    ensures talks { IsTrue client.old.source.tells → IsTrue (I.state link_in.old).tells → IsTrue (P.state link_out.old).tells → IsTrue (O.state client_out.old).tells
         → IsFresh (record { link_in = I.state link_in.old; link_out = P.state link_out.old })
         → (page_due : page.Page → due.Due)
         → TalksOverLink (ask_of running.old asked page_due) message.now
-        (record { stream = ahead.old ++ (S.state client_in.old).left; behind = ahead.new ++ (S.state client_in.new).left })
+        (record { stream = bytes_behind client.old; behind = bytes_behind client.new })
         (O.state client_out.old).taken (O.state client_out.new).taken result (link_seen (I.state link_in.new) (P.state link_out.new)) }
-    ensures read_cause { TalkReadCause (S.state client_in.old) (S.state client_in.new) result }
+    ensures read_cause { TalkReadCause client.old.source client.new.source result }
     ensures write_cause { TalkCause (O.state client_out.old) (O.state client_out.new) result }
     ensures page_cause { TalkLinkCause (P.state link_out.old) (P.state link_out.new) result }
     ensures link_open { (P.state link_out.new).finished ≡ (P.state link_out.old).finished }
     ensures open { (O.state client_out.new).finished ≡ (O.state client_out.old).finished }
-    ensures client_goes_on { SourceGoesOn (S.state client_in.old) (S.state client_in.new) }
+    ensures client_goes_on { SourceGoesOn client.old.source client.new.source }
     ensures in_goes_on { SourceGoesOn (I.state link_in.old) (I.state link_in.new) }
     ensures out_goes_on { SinkGoesOn (P.state link_out.old) (P.state link_out.new) }
     ensures goes_on { SinkGoesOn (O.state client_out.old) (O.state client_out.new) }
     ensures same { running.new ≡ running.old }
 {
-    let sent = send(alloc, message, client_in, ahead, link_out, client_out);
+    let sent = send(
+        alloc,
+        message,
+        &mut client.source,
+        &mut client.ahead,
+        link_out,
+        client_out,
+    );
     match stopped(sent) {
         Some(talked) => talked,
         None => return_answer(alloc, running, asked, link_in, client_out),

@@ -24,6 +24,7 @@ fn ending_of(kind: &ReplyKind) -> Ending
         ReplyKind::PatternImage => Ending::Image,
         ReplyKind::EmptyDocument => Ending::Empty,
         ReplyKind::Redirect(_) => Ending::Redirect,
+        ReplyKind::Inside(_) => Ending::Inside,
     }
 }
 

@@ -3,6 +3,7 @@ ghost use Rattle.std.specs.Prelude.{◌≡◌, ◌++◌, IsTrue, false};
 ghost use Rattle.px_base.specs.Dials.{DialerGoesOn, IsFresh};
 ghost use Rattle.px_base.specs.Sinks.{SinkGoesOn};
 ghost use Rattle.px_base.specs.Sources.{SourceGoesOn};
+ghost use Rattle.px_streams.specs.Feeds.{bytes_behind};
 ghost use Rattle.px_templates.specs.declared.pages.Page as page;
 ghost use Rattle.px_pumps.specs.declared.dues.Due as due;
 ghost use Rattle.px_exchange.specs.Causes.{TalkReadCause, TalkStaysOpen, TalkWriteCause, TunnelLinkCause, TunnelPageCause};
@@ -14,7 +15,7 @@ use px_base::{DialFault, Dialer, Sink, SinkFault, Source, write_all};
 use px_judging::TunnelPlan;
 use px_notes::{After, Conclusion, Ending, broken};
 use px_pumps::Talked;
-use px_streams::Ahead;
+use px_streams::{Ahead, Feed};
 use px_templates::Page;
 use px_ways::{Carried, Way, carry};
 use std::thread::Threads;
@@ -99,21 +100,20 @@ fn tunnel_over<R: Threads + Sync, S: Source, I: Source, P: Sink, O: Sink>(
 pub fn dial_tunnel<R: Threads + Sync, S: Source, D: Dialer, O: Sink>(
     way: &Way<'_, R>,
     plan: &TunnelPlan,
-    client_in: &mut S,
-    ahead: &mut Ahead,
+    client: &mut Feed<S>,
     client_out: &mut O,
     dialer: &mut D,
 ) -> Talked
-    ensures talks { IsTrue (S.state client_in.old).tells → IsTrue (O.state client_out.old).tells → IsTrue (D.state dialer.old).tells
+    ensures talks { IsTrue client.old.source.tells → IsTrue (O.state client_out.old).tells → IsTrue (D.state dialer.old).tells
         → (page_due : page.Page → due.Due)
         → TunnelsOn page_due plan.now
-        (record { stream = ahead.old ++ (S.state client_in.old).left; behind = ahead.new ++ (S.state client_in.new).left })
+        (record { stream = bytes_behind client.old; behind = bytes_behind client.new })
         (D.state dialer.old) (D.state dialer.new) (O.state client_out.old).taken (O.state client_out.new).taken result }
-    ensures read_cause { TalkReadCause (S.state client_in.old) (S.state client_in.new) result }
+    ensures read_cause { TalkReadCause client.old.source client.new.source result }
     ensures write_cause { TalkWriteCause (O.state client_out.old) (O.state client_out.new) result }
     ensures page_cause { TunnelPageCause (D.state dialer.old) (D.state dialer.new) result }
     ensures open { TalkStaysOpen (O.state client_out.old) (O.state client_out.new) result }
-    ensures in_goes_on { SourceGoesOn (S.state client_in.old) (S.state client_in.new) }
+    ensures in_goes_on { SourceGoesOn client.old.source client.new.source }
     ensures out_goes_on { SinkGoesOn (O.state client_out.old) (O.state client_out.new) }
     ensures goes_on { DialerGoesOn (D.state dialer.old) (D.state dialer.new) }
 {
@@ -122,8 +122,8 @@ pub fn dial_tunnel<R: Threads + Sync, S: Source, D: Dialer, O: Sink>(
             let talked = tunnel_over(
                 way,
                 plan,
-                client_in,
-                ahead,
+                &mut client.source,
+                &mut client.ahead,
                 &mut link_in,
                 &mut link_out,
                 client_out,

@@ -16,6 +16,8 @@ use Rattle.px_publish.specs.Views.{Entry}
 use Rattle.px_notes.specs.declared.sessions.ExchangeNote.{ExchangeNote}
 use Rattle.px_notes.specs.declared.sessions.SessionEnd.{SessionEnd}
 use Rattle.px_notes.specs.declared.sessions.SessionEnd.TheVariants as end
+use Rattle.px_config.specs.Insides.{Law}
+use Rattle.px_pages.specs.Pages.{BareLaw}
 use Rattle.px_serve.specs.Ends.{EndCause, faults_of}
 use Rattle.px_serve.specs.Histories.{Begun, Looks, Take, entry_used, moment_of}
 use Rattle.px_serve.specs.Sessions.{Serves}
@@ -78,7 +80,7 @@ no_write_failed old new e before behind cause is =
 
 -- a session that was served over memory
 pub is_run : {config : Config} {session : JobSession} {looks looks' : Looks} {old new : EndsState} {notes : List ExchangeNote} {e : SessionEnd}
-    → Serves [] looks looks' old new notes e → IsTrue looks.tells → GivesOnly config looks.coming → old.peer ≡ codes "127.0.0.1" → old.client ≡ record { source = fresh_source session.input true; ahead = [] }
+    → Serves BareLaw looks looks' old new notes e → IsTrue looks.tells → GivesOnly config looks.coming → old.peer ≡ codes "127.0.0.1" → old.client ≡ record { source = fresh_source session.input true; ahead = [] }
     → IsTrue old.client_out.tells → old.client_out.taken ≡ [] → old.dialer ≡ fresh_dialer session.answers → IsTrue old.clock.tells → old.clock.coming ≡ 0 ∷ [] → e ≢ end.NoMemory
     → old.client_out.faults ≡ 0 → new.client_out.faults ≡ 0 → IsRun config session (record { notes = notes; taken = new.client_out.taken })
 is_run {config = config} {looks = looks} {looks' = looks'} {old = old} {new = new} {e = e} serves looks_tell only called client_is out_tells none dialer_is clock_tells zeros memory before behind = record {
@@ -88,6 +90,7 @@ is_run {config = config} {looks = looks} {looks' = looks'} {old = old} {new = ne
   left = new.client.source.left;
   dialer = new.dialer;
   ended = e;
+  lawful = rw called at serves.lawful;
   served = rw (called, none, dialer_is, client_is) at (serves.session (record { client = ap (λ (f : FeedState). f.source.tells) client_is; client_out = out_tells; dialer = ap (λ (x : DialerState). x.tells) dialer_is }));
   memory = memory;
   no_read_failed = no_read_failed old new e (ap (λ (f : FeedState). f.source.steady) client_is) (ap (λ (f : FeedState). f.source.faults) client_is) serves.goes_on.client serves.cause;
@@ -95,8 +98,8 @@ is_run {config = config} {looks = looks} {looks' = looks'} {old = old} {new = ne
 }
 
 -- behind a session each look still gives that configuration
-pub fixed_behind : {config : Config} {tags : List (List ℕ)} {looks looks' : Looks} {old new : EndsState} {notes : List ExchangeNote} {e : SessionEnd}
-    → Serves tags looks looks' old new notes e → IsTrue looks.tells → GivesOnly config looks.coming → GivesOnly config looks'.coming
+pub fixed_behind : {config : Config} {law : Law} {looks looks' : Looks} {old new : EndsState} {notes : List ExchangeNote} {e : SessionEnd}
+    → Serves law looks looks' old new notes e → IsTrue looks.tells → GivesOnly config looks.coming → GivesOnly config looks'.coming
 fixed_behind {config = config} {looks = looks} {looks' = looks'} serves tell only = left_gives config (record { number = 0; config = config }) looks.coming looks'.coming serves.begun only (serves.noted.entries tell (record { number = 0; config = config }))
 
 -- what came of one session more

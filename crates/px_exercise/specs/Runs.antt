@@ -7,7 +7,9 @@ use Rattle.px_publish.specs.Views.{Entry}
 use Rattle.px_notes.specs.declared.sessions.SessionEnd.{SessionEnd}
 use Rattle.px_notes.specs.declared.sessions.SessionEnd.TheVariants as end
 use Rattle.px_serve.specs.Histories.{Begun, note_of}
-use Rattle.px_serve.specs.Sessions.{Caller, IsSession}
+use Rattle.px_pages.specs.Pages.{BareLaw}
+use Rattle.px_serve.specs.Sessions.{IsSession}
+use Rattle.px_serve.specs.Takings.{SuitsBegun}
 use Rattle.px_generated.specs.Jobs.{draws_before, first_sessions, job_sessions}
 use Rattle.px_generated.specs.declared.sessions.JobSession.{JobSession}
 use Rattle.px_exercise.specs.declared.runs.SessionRun.{SessionRun}
@@ -23,9 +25,9 @@ pub record UsesOnly (config : Config) (b : Begun) : Type 0 where
   pub config_is : b.config ≡ config
   pub moment_is : b.moment ≡ 0
 
--- the client of each session, which has no tags
-abbrev pub client : Caller
-client = record { tags = []; peer = codes "127.0.0.1" }
+-- the address of each session's client
+abbrev pub client : List ℕ
+client = codes "127.0.0.1"
 
 -- a session over what its client sends, whose dials give its answers, with one configuration, and what came of it; memory sufficed,
 -- and neither the client's source nor its sink failed
@@ -36,6 +38,8 @@ pub record IsRun (config : Config) (session : JobSession) (run : SessionRun) : T
   pub left : List ℕ
   pub dialer : DialerState
   pub ended : SessionEnd
+  -- no client has tags
+  pub lawful : All (SuitsBegun BareLaw client) begun
   pub served : IsSession client session.input left (fresh_dialer session.answers) dialer [] run.taken begun ended
   pub memory : ended ≢ end.NoMemory
   pub no_read_failed : ended ≢ end.ReadFailed

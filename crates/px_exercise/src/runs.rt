@@ -9,6 +9,7 @@ use px_config::Config;
 use px_ends::{Ends, Joined};
 use px_generated::{Draws, JobSession, SESSIONS, job_session, sessions_in_order};
 use px_notes::{ExchangeNote, SessionEnd};
+use px_pages::BarePages;
 use px_publish::{Configs, FixedConfig};
 use px_serve::serve_cold;
 use px_ways::Way;
@@ -109,7 +110,7 @@ fn run_session<R: Threads + Sync>(
     let dialer = MemDialer::new(alloc, answers)?;
     let clock = fixed_clock(alloc, MOMENT)?;
     let mut ends: Ends<JobConn> = Ends::new(alloc, client_in, client_out, dialer, clock, peer);
-    let served = serve_cold(alloc, way, configs, &[], &mut ends);
+    let served = serve_cold(alloc, way, configs, &mut BarePages::new(), &mut ends);
     if served.end == SessionEnd::NoMemory {
         return Err(Mem);
     }

@@ -1,8 +1,7 @@
 -- Judging: what is done for a request, before any dial. Each step is a function of its own: it refuses, or goes on to the next.
-use Rattle.std.specs.Prelude.{◌≡◌, ℕ, Bool, true, false, not, ◌&&◌, if◌then◌else◌, List, [], Option, Some, None, Result, Ok, Err, unwrap_or}
+use Rattle.std.specs.Prelude.{ℕ, Bool, true, false, not, ◌&&◌, if◌then◌else◌, List, [], Option, Some, None, Result, Ok, Err, unwrap_or}
 use Rattle.px_head.specs.declared.requests.RequestHead.{RequestHead}
 use Rattle.px_patterns.specs.Faults.{url_fault_name}
-use Rattle.px_patterns.specs.declared.faults.UrlFault.{UrlFault}
 use Rattle.px_patterns.specs.declared.urls.Url.{Url}
 use Rattle.px_head.specs.Faults.{head_fault_name}
 use Rattle.px_head.specs.declared.faults.HeadFault.TheVariants as head_fault
@@ -19,22 +18,22 @@ use Rattle.px_decide.specs.Routes.{route_of}
 use Rattle.px_decide.specs.declared.decisions.Decision.{Decision}
 use Rattle.px_decide.specs.declared.decisions.Decision.TheVariants as decision
 use Rattle.px_decide.specs.declared.routes.Route.{Route}
-use Rattle.px_notes.specs.declared.messages.Message.{Message}
 use Rattle.px_sending.specs.Heads.{request_has_body, expects_continue}
 use Rattle.px_headers.specs.ClientRows.{client_out}
 use Rattle.px_headers.specs.Faults.{header_fault_name}
 use Rattle.px_headers.specs.declared.client.ClientOut.{ClientOut}
 use Rattle.px_headers.specs.declared.faults.HeaderFault.TheVariants as header_fault
 use Rattle.px_config.specs.declared.configs.Config.{Config}
-use Rattle.px_judging.specs.Given.{Given}
-use Rattle.px_judging.specs.Readings.{ReadsAs}
-use Rattle.px_judging.specs.Requests.{target_read, body_read, is_connect, is_head, keeps_behind_request, tagged_request, vars_of}
+use Rattle.px_config.specs.declared.insides.InsidePage.{InsidePage}
+use Rattle.px_judging.specs.Given.{Given, given_for, handing_of}
+use Rattle.px_judging.specs.declared.handed.Handed.{Handed}
+use Rattle.px_judging.specs.Requests.{is_connect, is_head, keeps_behind_request, tagged_request, vars_of}
 use Rattle.px_judging.specs.declared.requests.Request.{Request}
 use Rattle.px_judging.specs.declared.requests.RequestTags.{RequestTags}
 use Rattle.px_judging.specs.Replies.{bare_symbols, job_symbols, url_symbols}
 use Rattle.px_judging.specs.Sending.{sent_head, tunnel_greeting, tunnel_head}
 use Rattle.px_judging.specs.declared.readings.HeadReading.{HeadReading}
-use Rattle.px_judging.specs.declared.readings.HeadReading.TheVariants.{Overlong, Malformed, TooManyFields, Head}
+use Rattle.px_judging.specs.declared.readings.HeadReading.TheVariants as reading
 use Rattle.px_judging.specs.declared.judgements.Judgement.{Judgement}
 use Rattle.px_judging.specs.declared.judgements.Judgement.TheVariants.{Local, Forward, Tunnel}
 use Rattle.px_judging.specs.declared.judgements.Plan.{Plan}
@@ -57,6 +56,10 @@ invalid error bodiless = closing_page page.InvalidRequest (bare_symbols error) b
 -- a reply to a request, which is a connection's last or not; the connection is kept where the request lets it and has no body
 abbrev pub reply_to : Bool → Request → ReplyKind → Judgement
 reply_to last r k = Local (record { kind = k; close = not (keeps_behind_request last r.head && not (request_has_body r.rule)); bodiless = is_head r.head })
+
+-- a page of the proxy's own, as the answer to a request without a body
+abbrev pub inside_reply : Bool → RequestHead → InsidePage → Judgement
+inside_reply last head own = Local (record { kind = kind.Inside own; close = not (keeps_behind_request last head); bodiless = is_head head })
 
 -- the page of a blocked request
 abbrev pub blocked_reply : Bool → Request → List ℕ → Judgement
@@ -153,20 +156,49 @@ abbrev pub by_rule : Given → RequestHead → Url → Result BodyRule BodyFault
 by_rule g head url (Ok rule) = by_request g (record { head = head; url = url; rule = rule; vars = vars_of g.peer url })
 by_rule g head url (Err fault) = body_refused head url fault
 
--- by the target
-abbrev pub by_url : Given → RequestHead → Result Url UrlFault → Judgement
-by_url g head (Ok url) = by_rule g head url (body_read head)
-by_url g head (Err fault) = invalid (url_fault_name fault) (is_head head)
+-- by the page of the proxy's own that answers it, if one does
+abbrev pub by_page : Given → RequestHead → Url → Result BodyRule BodyFault → Option InsidePage → Judgement
+by_page g head url rule (Some own) = inside_reply g.last head own
+by_page g head url rule None = by_rule g head url rule
 
--- what is done for a request that reads so
-abbrev pub judged : Given → HeadReading → Judgement
-judged g Overlong = closing_page page.HeadTooLong (bare_symbols []) false
-judged g Malformed = invalid (head_fault_name head_fault.Malformed) false
-judged g TooManyFields = invalid (head_fault_name head_fault.TooManyFields) false
-judged g (Head head) = by_url g head (target_read head)
+-- by what its head reads as
+abbrev pub by_reading : Given → HeadReading → Option InsidePage → Judgement
+by_reading g reading.Overlong own = closing_page page.HeadTooLong (bare_symbols []) false
+by_reading g reading.Malformed own = invalid (head_fault_name head_fault.Malformed) false
+by_reading g reading.TooManyFields own = invalid (head_fault_name head_fault.TooManyFields) false
+by_reading g (reading.NoTarget head fault) own = invalid (url_fault_name fault) (is_head head)
+by_reading g (reading.Request head url rule) own = by_page g head url rule own
 
--- what was seen reads as something, by which that is done
-pub record Judged (g : Given) (j : Judgement) : Type 0 where
-  pub reading : HeadReading
-  pub reads : ReadsAs g.seen reading
-  pub is : j ≡ judged g reading
+-- what is done for a request, by a configuration and for a client
+abbrev pub judged : Config → Handed → List ℕ → Judgement
+judged config h peer = by_reading (given_for config (handing_of h) peer) h.reading h.page
+
+-- ---- what is answered before any dial
+
+-- pages that speak of no dial and of no link
+abbrev pub IsBeforeDials : Page → Type 0
+IsBeforeDials page.Blocked = Unit {0}
+IsBeforeDials page.ConnectFailed = ⊥
+IsBeforeDials page.NoSuchDomain = ⊥
+IsBeforeDials page.ForwardingFailed = ⊥
+IsBeforeDials page.NoServerData = ⊥
+IsBeforeDials page.InvalidRequest = Unit {0}
+IsBeforeDials page.HeadTooLong = Unit {0}
+IsBeforeDials page.BadReply = ⊥
+IsBeforeDials page.SendFailed = ⊥
+IsBeforeDials page.ConnectDenied = Unit {0}
+IsBeforeDials page.BadRewrite = Unit {0}
+
+abbrev pub NamesNoDial : ReplyKind → Type 0
+NamesNoDial (kind.Page p symbols) = IsBeforeDials p
+NamesNoDial kind.BlankImage = Unit {0}
+NamesNoDial kind.PatternImage = Unit {0}
+NamesNoDial kind.EmptyDocument = Unit {0}
+NamesNoDial (kind.Redirect target) = Unit {0}
+NamesNoDial (kind.Inside own) = Unit {0}
+
+-- no reply that is returned without a dial is a page that speaks of one
+abbrev pub SpeaksOfNoDial : Judgement → Type 0
+SpeaksOfNoDial (Local reply) = NamesNoDial reply.kind
+SpeaksOfNoDial (Forward plan) = Unit {0}
+SpeaksOfNoDial (Tunnel plan) = Unit {0}

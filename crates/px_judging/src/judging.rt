@@ -1,23 +1,22 @@
 // Judging: what is done for a request, before any dial. Each step refuses, or goes on to the next.
 ghost use Rattle.std.specs.Prelude.{◌≡◌, IfOk};
-ghost use Rattle.px_judging.specs.Judging.{judged, body_refused, by_url, by_rule, by_request, by_tags, by_decision, by_method, by_headers, front_of, closing_page, invalid, reply_to, blocked_reply, image_or_page};
+ghost use Rattle.px_judging.specs.Judging.{judged, body_refused, by_reading, by_page, by_rule, inside_reply, SpeaksOfNoDial, by_request, by_tags, by_decision, by_method, by_headers, front_of, closing_page, invalid, reply_to, blocked_reply, image_or_page};
 ghost use Rattle.px_judging.specs.Given.{given_for};
-ghost use Rattle.px_judging.specs.Requests.{body_read, target_read};
 ghost use Rattle.px_judging.specs.Replies.{job_symbols};
 ghost use Rattle.px_headers.specs.ClientRows.{client_out};
 ghost use Rattle.px_headers.specs.Faults.{header_fault_name};
 
-use crate::handed::Handed;
+use crate::handed::{Handed, Terms};
 use crate::judgements::Judgement;
 use crate::plans::{RequestFront, plan_by, tunnel_of};
 use crate::readings::HeadReading;
 use crate::replies::{LocalReply, ReplyKind, bare_symbols, job_symbols, url_symbols};
-use crate::requests::{Request, RequestTags};
+use crate::requests::{Asked, Request, RequestTags};
 use crate::tagging::{tag_request, vars_of};
-use crate::targets::{is_connect, is_head, keeps, read_body, read_target};
+use crate::targets::{is_connect, is_head, keeps};
 use px_actions::Kind;
 use px_base::{Mem, Peer, Text};
-use px_config::Running;
+use px_config::{InsidePage, Running};
 use px_decide::{Decision, decide};
 use px_framing::{BodyFault, BodyRule};
 use px_head::{HeadFault, RequestHead};
@@ -115,17 +114,17 @@ fn bad_rewrite(alloc: Global, vars: &Vars, port: u16, bodiless: bool) -> Result<
 /// By what the header actions make of the head.
 fn judge_headers(
     alloc: Global,
-    handed: &Handed<'_>,
+    terms: &Terms<'_>,
     peer: &Peer,
     running: &mut Running<'_>,
     request: Request,
     tags: RequestTags,
 ) -> Result<Judgement, Mem>
-    ensures value { IfOk result (λ j. j ≡ by_headers (given_for running.old handed.now peer.now.address) request tags (client_out tags.set running.old.filters request.vars request.url peer.now.address request.head)) }
+    ensures value { IfOk result (λ j. j ≡ by_headers (given_for running.old terms.now peer.now.address) request tags (client_out tags.set running.old.filters request.vars request.url peer.now.address request.head)) }
     ensures same { running.new ≡ running.old }
 {
     let config = running.config();
-    let front = front_of(alloc, handed.last, &request)?;
+    let front = front_of(alloc, terms.last, &request)?;
     let Request {
         mut head,
         url,
@@ -146,7 +145,7 @@ fn judge_headers(
         Ok(out) => Ok(Judgement::Forward(plan_by(
             alloc,
             config,
-            handed.moment,
+            terms.moment,
             front,
             tags,
             vars,
@@ -160,39 +159,39 @@ fn judge_headers(
 /// A request that passes.
 fn judge_method(
     alloc: Global,
-    handed: &Handed<'_>,
+    terms: &Terms<'_>,
     peer: &Peer,
     running: &mut Running<'_>,
     request: Request,
     tags: RequestTags,
 ) -> Result<Judgement, Mem>
-    ensures value { IfOk result (λ j. j ≡ by_method (given_for running.old handed.now peer.now.address) request tags) }
+    ensures value { IfOk result (λ j. j ≡ by_method (given_for running.old terms.now peer.now.address) request tags) }
     ensures same { running.new ≡ running.old }
 {
     if is_connect(&request.head) {
         Ok(Judgement::Tunnel(tunnel_of(alloc, running.config(), request, tags)?))
     } else {
-        judge_headers(alloc, handed, peer, running, request, tags)
+        judge_headers(alloc, terms, peer, running, request, tags)
     }
 }
 
 /// By what the actions decide.
 fn judge_decision(
     alloc: Global,
-    handed: &Handed<'_>,
+    terms: &Terms<'_>,
     peer: &Peer,
     running: &mut Running<'_>,
     request: Request,
     tags: RequestTags,
     decision: Decision,
 ) -> Result<Judgement, Mem>
-    ensures value { IfOk result (λ j. j ≡ by_decision (given_for running.old handed.now peer.now.address) request tags decision) }
+    ensures value { IfOk result (λ j. j ≡ by_decision (given_for running.old terms.now peer.now.address) request tags decision) }
     ensures same { running.new ≡ running.old }
 {
     let config = running.config();
-    let last = handed.last;
+    let last = terms.last;
     match decision {
-        Decision::Pass => judge_method(alloc, handed, peer, running, request, tags),
+        Decision::Pass => judge_method(alloc, terms, peer, running, request, tags),
         Decision::Blocked(reason) => blocked(alloc, last, &request, reason.as_bytes()),
         Decision::ImageBlank => image_or_page(
             alloc,
@@ -222,33 +221,33 @@ fn judge_decision(
 /// By the actions that are set for the request.
 fn judge_tags(
     alloc: Global,
-    handed: &Handed<'_>,
+    terms: &Terms<'_>,
     peer: &Peer,
     running: &mut Running<'_>,
     request: Request,
     tags: RequestTags,
 ) -> Result<Judgement, Mem>
-    ensures value { IfOk result (λ j. j ≡ by_tags (given_for running.old handed.now peer.now.address) request tags) }
+    ensures value { IfOk result (λ j. j ≡ by_tags (given_for running.old terms.now peer.now.address) request tags) }
     ensures same { running.new ≡ running.old }
 {
     let connect = is_connect(&request.head);
     let decision = decide(alloc, &request.url, connect, &tags.set, &request.vars)?;
-    judge_decision(alloc, handed, peer, running, request, tags, decision)
+    judge_decision(alloc, terms, peer, running, request, tags, decision)
 }
 
 /// A request whose target and body rule are read.
 fn judge_request(
     alloc: Global,
-    handed: &Handed<'_>,
+    terms: &Terms<'_>,
     peer: &Peer,
     running: &mut Running<'_>,
     request: Request,
 ) -> Result<Judgement, Mem>
-    ensures value { IfOk result (λ j. j ≡ by_request (given_for running.old handed.now peer.now.address) request) }
+    ensures value { IfOk result (λ j. j ≡ by_request (given_for running.old terms.now peer.now.address) request) }
     ensures same { running.new ≡ running.old }
 {
-    let tags = tag_request(alloc, running, handed.tags, &request)?;
-    judge_tags(alloc, handed, peer, running, request, tags)
+    let tags = tag_request(alloc, running, terms.tags, &request)?;
+    judge_tags(alloc, terms, peer, running, request, tags)
 }
 
 /// The page of a request whose body can't be read.
@@ -267,16 +266,16 @@ fn refuse_body(
 /// By the rule of the body.
 fn judge_body(
     alloc: Global,
-    handed: &Handed<'_>,
+    terms: &Terms<'_>,
     peer: &Peer,
     running: &mut Running<'_>,
-    head: RequestHead,
-    url: Url,
+    asked: Asked,
 ) -> Result<Judgement, Mem>
-    ensures value { IfOk result (λ j. j ≡ by_rule (given_for running.old handed.now peer.now.address) head url (body_read head)) }
+    ensures value { IfOk result (λ j. j ≡ by_rule (given_for running.old terms.now peer.now.address) asked.head asked.url asked.rule) }
     ensures same { running.new ≡ running.old }
 {
-    match read_body(&head) {
+    let Asked { head, url, rule } = asked;
+    match rule {
         Ok(rule) => {
             let vars = vars_of(alloc, peer, &url)?;
             let request = Request {
@@ -285,40 +284,51 @@ fn judge_body(
                 rule,
                 vars,
             };
-            judge_request(alloc, handed, peer, running, request)
+            judge_request(alloc, terms, peer, running, request)
         }
         Err(fault) => refuse_body(alloc, &head, &url, fault),
     }
 }
 
-/// By the target.
-fn judge_head(
+/// A page of the proxy's own, as the answer to a request without a body.
+fn inside_reply(last: bool, head: &RequestHead, page: InsidePage) -> Judgement
+    ensures { result ≡ inside_reply last head.now page }
+{
+    Judgement::Local(LocalReply {
+        kind: ReplyKind::Inside(page),
+        close: !keeps(last, head),
+        bodiless: is_head(head),
+    })
+}
+
+/// By the page of the proxy's own that answers it, if one does.
+fn judge_page(
     alloc: Global,
-    handed: &Handed<'_>,
+    terms: &Terms<'_>,
     peer: &Peer,
     running: &mut Running<'_>,
-    head: RequestHead,
+    asked: Asked,
+    page: Option<InsidePage>,
 ) -> Result<Judgement, Mem>
-    ensures value { IfOk result (λ j. j ≡ by_url (given_for running.old handed.now peer.now.address) head (target_read head)) }
+    ensures value { IfOk result (λ j. j ≡ by_page (given_for running.old terms.now peer.now.address) asked.head asked.url asked.rule page) }
     ensures same { running.new ≡ running.old }
 {
-    match read_target(alloc, &head)? {
-        Ok(url) => judge_body(alloc, handed, peer, running, head, url),
-        Err(fault) => invalid(alloc, fault.name().as_bytes(), is_head(&head)),
+    match page {
+        Some(page) => Ok(inside_reply(terms.last, &asked.head, page)),
+        None => judge_body(alloc, terms, peer, running, asked),
     }
 }
 
-/// What is done for a request that reads so. In this order: an overlong head, one that isn't read, its target and the rule of its
-/// body are refused; then the actions of its URL and its tags decide; then it is sent on as the header actions have it, unless
-/// they rewrote its line badly.
-pub fn judge(
+/// By what its head reads as.
+fn judge_reading(
     alloc: Global,
-    handed: &Handed<'_>,
+    terms: &Terms<'_>,
     peer: &Peer,
     running: &mut Running<'_>,
     reading: HeadReading,
+    page: Option<InsidePage>,
 ) -> Result<Judgement, Mem>
-    ensures value { IfOk result (λ j. j ≡ judged (given_for running.old handed.now peer.now.address) reading) }
+    ensures value { IfOk result (λ j. j ≡ by_reading (given_for running.old terms.now peer.now.address) reading page) }
     ensures same { running.new ≡ running.old }
 {
     match reading {
@@ -332,6 +342,39 @@ pub fn judge(
             HeadFault::TooManyFields.name().as_bytes(),
             false,
         ),
-        HeadReading::Head(head) => judge_head(alloc, handed, peer, running, head),
+        HeadReading::NoTarget { head, fault } => {
+            invalid(alloc, fault.name().as_bytes(), is_head(&head))
+        }
+        HeadReading::Request { head, url, rule } => {
+            judge_page(alloc, terms, peer, running, Asked { head, url, rule }, page)
+        }
     }
+}
+
+/// What is done for a request that reads so. In this order: an overlong head, one that isn't read, and its target are refused; a
+/// page of the proxy's own answers it; the rule of its body is refused; then the actions of its URL and its tags decide; then it is
+/// sent on as the header actions have it, unless they rewrote its line badly.
+pub fn judge(
+    alloc: Global,
+    handed: Handed,
+    peer: &Peer,
+    running: &mut Running<'_>,
+) -> Result<Judgement, Mem>
+    ensures value { IfOk result (λ j. j ≡ judged running.old handed peer.now.address) }
+    ensures quiet { IfOk result SpeaksOfNoDial }
+    ensures same { running.new ≡ running.old }
+{
+    let Handed {
+        reading,
+        last,
+        tags,
+        page,
+        moment,
+    } = handed;
+    let terms = Terms {
+        last,
+        tags: tags.as_slice(),
+        moment,
+    };
+    judge_reading(alloc, &terms, peer, running, reading, page)
 }

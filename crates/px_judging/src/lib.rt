@@ -17,3 +17,4 @@ pub use judgements::{Judgement, Plan, TunnelPlan};
 pub use judging::judge;
 pub use readings::{HeadReading, HeadSeen, read_request};
 pub use replies::{LocalReply, ReplyKind, reply_bytes, url_symbols};
+pub use targets::is_page_request;

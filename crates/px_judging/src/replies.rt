@@ -5,7 +5,7 @@ ghost use Rattle.px_judging.specs.Replies.{bare_symbols, job_symbols, url_symbol
 
 use itoa::Buffer;
 use px_base::{Mem, Text};
-use px_config::Config;
+use px_config::{Config, InsidePage};
 use px_patterns::Url;
 use px_subst::Vars;
 use px_templates::{Local, Page, Symbols, local_reply};
@@ -21,6 +21,8 @@ pub enum ReplyKind {
     EmptyDocument,
     /// A redirect to this target, as it is written.
     Redirect(Text),
+    /// A page of the proxy's own.
+    Inside(InsidePage),
 }
 
 /// A reply that is returned without an origin's answer.
@@ -143,6 +145,16 @@ pub fn reply_bytes(alloc: Global, config: &Config, reply: &LocalReply) -> Result
         ReplyKind::Redirect(target) => {
             let kind = Local::Redirect(Text::from_bytes(alloc, target.as_bytes())?);
             local_reply(alloc, &kind, &[], reply.close, reply.bodiless)
+        }
+        ReplyKind::Inside(page) => {
+            let kind = Local::Inside(page.found);
+            local_reply(
+                alloc,
+                &kind,
+                page.body.as_bytes(),
+                reply.close,
+                reply.bodiless,
+            )
         }
     }
 }

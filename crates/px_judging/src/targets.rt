@@ -1,6 +1,6 @@
 // What the target of a request asks for, and by which rule its body is read.
 ghost use Rattle.std.specs.Prelude.{◌≡◌, ◌≢◌, Ok, Err, IfOk};
-ghost use Rattle.px_judging.specs.Requests.{is_connect, is_head, target_read, body_read, keeps_behind_request};
+ghost use Rattle.px_judging.specs.Requests.{is_connect, is_head, is_page_request, lacks_body, target_read, body_read, keeps_behind_request};
 
 use px_base::Mem;
 use px_fields::is_connection_word;
@@ -21,6 +21,23 @@ pub fn is_head(head: &RequestHead) -> bool
     ensures { result ≡ is_head head.now }
 {
     head.method.as_bytes() == b"HEAD".as_slice()
+}
+
+/// Whether a page of the proxy's own may answer the request: GET or HEAD without a body.
+pub fn is_page_request(head: &RequestHead, rule: &Result<BodyRule, BodyFault>) -> bool
+    ensures { result ≡ is_page_request head.now rule.now }
+{
+    (head.method.as_bytes() == b"GET".as_slice() || is_head(head)) && lacks_body(rule)
+}
+
+/// Whether the body is known to be absent.
+fn lacks_body(rule: &Result<BodyRule, BodyFault>) -> bool
+    ensures { result ≡ lacks_body rule.now }
+{
+    match rule {
+        Ok(rule) => *rule == BodyRule::Absent,
+        Err(_) => false,
+    }
 }
 
 /// Whether the connection may be kept behind the request, as far as its head says (RFC 9112, section 9.3). `last` is the last

@@ -15,6 +15,7 @@ use px_config::Config;
 use px_desk::{Desk, HandedConn, ServeEnd, ServedDesk};
 use px_doors::{Doors, Parted};
 use px_ends::{Ends, Outside};
+use px_pages::BarePages;
 use px_publish::{ConfigReader, Configs, CountFull};
 use px_serve::{Store, serve_connection};
 use px_ways::Way;
@@ -106,7 +107,8 @@ fn served<N: Making, R: Threads + Sync, A: Outside>(
         handed,
         mut ends,
     } = task;
-    let session = serve_connection(alloc, way, store, reader, &[], &mut ends);
+    let mut pages = BarePages::new();
+    let session = serve_connection(alloc, way, store, reader, &mut pages, &mut ends);
     Parted {
         number,
         handed,

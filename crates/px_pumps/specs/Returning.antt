@@ -69,6 +69,7 @@ IsAnswerEnding (ending.Page p) = ⊥
 IsAnswerEnding ending.Image = ⊥
 IsAnswerEnding ending.Empty = ⊥
 IsAnswerEnding ending.Redirect = ⊥
+IsAnswerEnding ending.Inside = ⊥
 IsAnswerEnding ending.Passed = Unit {0}
 IsAnswerEnding ending.Filtered = Unit {0}
 IsAnswerEnding ending.Bodiless = Unit {0}

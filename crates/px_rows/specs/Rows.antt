@@ -1,10 +1,14 @@
--- Values that stand in rows: lines, fields, URLs, heads and symbols.
-use Rattle.std.specs.Prelude.{ℕ, List}
+-- Values that stand in rows: lines, fields, URLs, heads, symbols and configurations.
+use Rattle.std.specs.Prelude.{◌≡◌, ℕ, List, [], length, None}
+use Rattle.px_config.specs.Mains.{nothing_set, settings_of}
+use Rattle.px_config.specs.declared.configs.Config.{Config}
+use Rattle.px_config.specs.declared.settings.Settings.{Settings}
 use Rattle.px_text.specs.declared.lines.Line.{Line}
 use Rattle.px_fields.specs.declared.fields.Field.{Field}
 use Rattle.px_head.specs.declared.requests.RequestHead.{RequestHead}
 use Rattle.px_head.specs.declared.responses.ResponseHead.{ResponseHead}
 use Rattle.px_patterns.specs.declared.urls.Url.{Url}
+use Rattle.px_templates.specs.Pieces.{Piece}
 use Rattle.px_templates.specs.declared.symbols.Symbols.{Symbols}
 
 -- a line of a file
@@ -34,3 +38,21 @@ symbols hostname port path url block_reason error parent = record {
   error = error;
   parent = parent;
 }
+
+-- a configuration whose main file is empty, with these templates
+abbrev pub empty_config : (pages : List (List Piece)) → length pages ≡ 11 → Config
+empty_config pages all = record {
+  settings = settings_of nothing_set;
+  sections = record { names = []; sections = [] };
+  filters = record { files = 0; filters = [] };
+  forwards = [];
+  pages = pages;
+  image_blank = None;
+  image_pattern = None;
+  notes = [];
+  all_pages = all;
+}
+
+-- what an empty main file sets but for where connections are taken
+abbrev pub settings_at : List ℕ → ℕ → Settings
+settings_at host port = record (settings_of nothing_set) { listen_host = host; listen_port = port }

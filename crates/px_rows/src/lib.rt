@@ -11,6 +11,7 @@ mod filter_files;
 mod framing;
 mod head;
 mod headers;
+mod pages;
 mod patterns;
 mod sessions;
 mod subst;

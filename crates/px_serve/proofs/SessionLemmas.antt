@@ -1,7 +1,8 @@
 -- What one turn of a session adds.
 use Rattle.std.proofs.Common.{◌≡◌, ℕ, Bool, true, false, ◌+◌, ◌<◌, ◌==◌, not, IsTrue, List, [], ◌∷◌, ◌++◌, length, map, Option, None, Some, Ok, Err, sym, ap, subst, ◌∙◌, refl, inl, inr, arith, add-one, length-append}
-use Rattle.std.specs.Prelude.{if◌then◌else◌}
+use Rattle.std.specs.Prelude.{All, if◌then◌else◌}
 use Rattle.std.proofs.lemmas.List.{append-nil, map-append}
+use Rattle.std.proofs.lemmas.List.Elements.{All-nil}
 use Rattle.px_base.specs.Sources.{SourceGoesOn}
 use Rattle.px_base.specs.Sinks.{SinkState, SinkGoesOn, Finishes}
 use Rattle.px_base.specs.Moments.{ClockState, ClockGoesOn}
@@ -19,13 +20,16 @@ use Rattle.px_notes.specs.declared.sessions.ExchangeNote.{ExchangeNote}
 use Rattle.px_notes.specs.declared.sessions.SessionEnd.{SessionEnd}
 use Rattle.px_notes.specs.declared.sessions.SessionEnd.TheVariants as end
 use Rattle.px_judging.specs.declared.readings.HeadSeen.{HeadSeen}
+use Rattle.px_config.specs.Insides.{InsideState, Law}
 use Rattle.px_exchange.specs.Causes.{ClientReadCause, StaysOpenAfter, WriteCauseAfter}
 use Rattle.px_serve.specs.declared.ends.TheConstants.{REQUEST_LIMIT}
 use Rattle.px_serve.specs.Answering.{AnswersBetween}
 use Rattle.px_serve.specs.Ends.{EndCause, Faults, SessionStaysOpen, TurnCause, TurnStaysOpen, end_after, end_by, end_of_bytes, faults_of, is_tunnel, only_empty}
 use Rattle.px_serve.specs.Histories.{Begun, Looks, Noted, TakesOne, note_of}
-use Rattle.px_serve.specs.Sessions.{EndsBetween, HeadOf, Reaches, TakesHead, Runs, Serves, SessionStep, SessionTurns, Turned, session_caller, given_of, is_last_request, session_state}
+use Rattle.px_serve.specs.Takings.{Fits, SuitsBegun, handed_of}
+use Rattle.px_serve.specs.Sessions.{EndsBetween, HeadOf, Reaches, ReadsReceived, TakesHead, Runs, ServesFitting, SessionStep, SessionTurns, Turned, is_last_request, session_state}
 use Rattle.px_serve.proofs.HistoryLemmas.{noted_more, noted_none, none_noted}
+use Rattle.px_serve.proofs.TakingLemmas.{fits_more, fits_none, lawful_more}
 
 -- the client's bytes ended
 pub ends_at : (stream ahead left : List ℕ) → head_end HEAD_LIMIT stream ≡ head.NotYet → ahead ++ left ≡ stream → left ≡ [] → EndsBetween stream left (end_of_bytes ahead)
@@ -105,17 +109,20 @@ stays_open o end.WriteFailed = tt
 stays_open o end.NoMemory = tt
 
 -- a turn with one exchange: k is the client behind the request's head, and c the clock behind its moment
-turned_behind : (tags : List (List ℕ)) (looks looks' : Looks) (old new : EndsState) (k : FeedState) (c : ClockState) (seen : HeadSeen) (b : Begun) (notes notes' : List ExchangeNote)
+turned_behind : (law : Law) (ins ins' : InsideState) (looks looks' : Looks) (old new : EndsState) (k : FeedState) (c : ClockState) (seen : HeadSeen) (b : Begun) (notes notes' : List ExchangeNote)
     → length notes < REQUEST_LIMIT
     → (IsTrue old.client.source.tells → HeadOf (client_stream old) seen (bytes_behind k))
     → k.source.faults ≡ old.client.source.faults → SourceGoesOn old.client.source k.source
     → TakesOne looks looks' old.clock c b → ClockGoesOn old.clock c
-    → AnswersBetween (given_of (session_caller tags old) (length notes) seen b) (record old { client = k; clock = c }) new b.concluded
+    → ReadsReceived seen b.received → All (SuitsBegun law old.peer) (b ∷ []) → Fits ins ins' old.peer (b ∷ [])
+    → AnswersBetween b.config (handed_of (is_last_request (length notes)) b.moment b.received) (record old { client = k; clock = c }) new b.concluded
     → notes' ≡ notes ++ note_of b ∷ []
-    → Turned tags looks looks' old new notes notes' (end_after (is_last_request (length notes)) b.concluded)
-turned_behind tags looks looks' old new k c seen b notes notes' limit found unfailed on takes clock_on x noted = record {
+    → Turned law ins ins' looks looks' old new notes notes' (end_after (is_last_request (length notes)) b.concluded)
+turned_behind law ins ins' looks looks' old new k c seen b notes notes' limit found unfailed on takes clock_on reads lawful fits x noted = record {
   begun = b ∷ [];
   noted = noted;
+  lawful = lawful;
+  fits = fits;
   history = λ first clock before h. noted_more first looks looks' clock old.clock new.clock before b (rw x.clock_same takes) h;
   turns = λ t before. by before (end_after (is_last_request n) b.concluded) refl (step t before);
   one_more = λ _. ap (λ (zs : List ExchangeNote). length zs) noted ∙ length-append notes (note_of b ∷ []);
@@ -137,37 +144,44 @@ turned_behind tags looks looks' old new k c seen b notes notes' limit found unfa
     went : EndsGoOn old mid
     went = let same = ends_same old in record { client = on; client_out = same.client_out; dialer = same.dialer; clock = clock_on; peer_same = refl }
 
-    step : Tell old → (before : List Begun) → SessionStep (session_caller tags old) n (session_state old before) (session_state new (before ++ b ∷ [])) b
-    step t before = record { seen = seen; rest = bytes_behind k; head = found t.client; noted = refl; answers = x.answers (tell_on went t) }
+    step : Tell old → (before : List Begun) → SessionStep old.peer n (session_state old before) (session_state new (before ++ b ∷ [])) b
+    step t before = record { seen = seen; rest = bytes_behind k; head = found t.client; reads = reads; noted = refl; answers = x.answers (tell_on went t) }
 
     by : (before : List Begun) (e : Option SessionEnd) → e ≡ end_after (is_last_request n) b.concluded
-        → SessionStep (session_caller tags old) n (session_state old before) (session_state new (before ++ b ∷ [])) b
-        → SessionTurns (session_caller tags old) n (session_state old before) (session_state new (before ++ b ∷ [])) new.client.source.left e
+        → SessionStep old.peer n (session_state old before) (session_state new (before ++ b ∷ [])) b
+        → SessionTurns old.peer n (session_state old before) (session_state new (before ++ b ∷ [])) new.client.source.left e
     by before None is s = record { begun = b; step = s; goes_on = sym is }
     by before (Some e) is s = inr (record { begun = b; step = s; ends = sym is })
 
 -- the same: e1 are the ends behind the request's head
-pub turned_one : (tags : List (List ℕ)) (looks looks' : Looks) (old e1 new : EndsState) (c : ClockState) (seen : HeadSeen) (b : Begun) (notes notes' : List ExchangeNote)
+pub turned_one : (law : Law) (ins ins' : InsideState) (looks looks' : Looks) (old e1 new : EndsState) (c : ClockState) (seen : HeadSeen) (b : Begun) (notes notes' : List ExchangeNote)
     → length notes < REQUEST_LIMIT → TakesHead old e1 (Ok seen) → TakesOne looks looks' e1.clock c b → ClockGoesOn e1.clock c
-    → AnswersBetween (given_of (session_caller tags e1) (length notes) seen b) (record e1 { clock = c }) new b.concluded
+    → ReadsReceived seen b.received → All (SuitsBegun law e1.peer) (b ∷ []) → Fits ins ins' e1.peer (b ∷ [])
+    → AnswersBetween b.config (handed_of (is_last_request (length notes)) b.moment b.received) (record e1 { clock = c }) new b.concluded
     → notes' ≡ notes ++ note_of b ∷ []
-    → Turned tags looks looks' old new notes notes' (end_after (is_last_request (length notes)) b.concluded)
-turned_one tags looks looks' old e1 new c seen b notes notes' limit h takes clock_on x noted =
-    turned_behind tags looks looks' old new e1.client c seen b notes notes' limit h.found (ap (λ (f : Faults). f.source) h.cause) h.goes_on
+    → Turned law ins ins' looks looks' old new notes notes' (end_after (is_last_request (length notes)) b.concluded)
+turned_one law ins ins' looks looks' old e1 new c seen b notes notes' limit h takes clock_on reads lawful fits x noted =
+    turned_behind law ins ins' looks looks' old new e1.client c seen b notes notes' limit h.found (ap (λ (f : Faults). f.source) h.cause) h.goes_on
     (subst (λ (t : ClockState). TakesOne looks looks' t c b) clock1 takes) (subst (λ (t : ClockState). ClockGoesOn t c) clock1 clock_on)
-    (subst (λ (e : EndsState). AnswersBetween (given_of (session_caller tags e) (length notes) seen b) (record e { client = e1.client; clock = c }) new b.concluded) h.rest x) noted
+    reads (subst (λ (p : List ℕ). All (SuitsBegun law p) (b ∷ [])) peer1 lawful) (subst (λ (p : List ℕ). Fits ins ins' p (b ∷ [])) peer1 fits)
+    (subst (λ (e : EndsState). AnswersBetween b.config (handed_of (is_last_request (length notes)) b.moment b.received) (record e { client = e1.client; clock = c }) new b.concluded) h.rest x) noted
   where
     clock1 : e1.clock ≡ old.clock
     clock1 = ap (λ (e : EndsState). e.clock) h.rest
 
+    peer1 : e1.peer ≡ old.peer
+    peer1 = ap (λ (e : EndsState). e.peer) h.rest
+
 -- a turn that ends the session before an exchange
-none_behind : (tags : List (List ℕ)) (looks : Looks) (old : EndsState) (k : FeedState) (notes : List ExchangeNote) (e : SessionEnd)
+none_behind : (law : Law) (ins : InsideState) (looks : Looks) (old : EndsState) (k : FeedState) (notes : List ExchangeNote) (e : SessionEnd)
     → (IsTrue old.client.source.tells → EndsBetween (client_stream old) k.source.left e) → EndCause (faults_of old) (faults_of (record old { client = k })) e → SourceGoesOn old.client.source k.source
-    → Turned tags looks looks old (record old { client = k }) notes notes (Some e)
-none_behind tags looks old k notes e why cause on = record {
+    → Turned law ins ins looks looks old (record old { client = k }) notes notes (Some e)
+none_behind law ins looks old k notes e why cause on = record {
   begun = [];
   noted = sym (append-nil notes);
   history = λ first clock before h. noted_none first looks clock old.clock before h;
+  lawful = All-nil (SuitsBegun law old.peer);
+  fits = fits_none ins old.peer;
   turns = λ t before. inl (record { undialled = refl; unreturned = refl; unbegun = append-nil before; why = why t.client });
   one_more = λ x. absurd (cc);
   below = λ x. absurd (cc);
@@ -176,18 +190,21 @@ none_behind tags looks old k notes e why cause on = record {
   goes_on = let same = ends_same old in record { client = on; client_out = same.client_out; dialer = same.dialer; clock = same.clock; peer_same = refl };
 }
 
-pub turned_none : (tags : List (List ℕ)) (looks : Looks) (old new : EndsState) (notes : List ExchangeNote) (e : SessionEnd) → TakesHead old new (Err e) → Turned tags looks looks old new notes notes (Some e)
-turned_none tags looks old new notes e h =
-    subst (λ (n : EndsState). Turned tags looks looks old n notes notes (Some e)) (sym h.rest)
-    (none_behind tags looks old new.client notes e h.found (subst (λ (n : EndsState). EndCause (faults_of old) (faults_of n) e) h.rest h.cause) h.goes_on)
+pub turned_none : (law : Law) (ins : InsideState) (looks : Looks) (old new : EndsState) (notes : List ExchangeNote) (e : SessionEnd) → TakesHead old new (Err e)
+    → Turned law ins ins looks looks old new notes notes (Some e)
+turned_none law ins looks old new notes e h =
+    subst (λ (n : EndsState). Turned law ins ins looks looks old n notes notes (Some e)) (sym h.rest)
+    (none_behind law ins looks old new.client notes e h.found (subst (λ (n : EndsState). EndCause (faults_of old) (faults_of n) e) h.rest h.cause) h.goes_on)
 
 -- what the loop of a session keeps, behind so many exchanges
-pub record Serving (tags : List (List ℕ)) (first last : Looks) (old now : EndsState) (notes : List ExchangeNote) : Type 0 where
+pub record Serving (law : Law) (ins ins' : InsideState) (first last : Looks) (old now : EndsState) (notes : List ExchangeNote) : Type 0 where
   pub below : length notes < REQUEST_LIMIT
   pub begun : List Begun
   pub notes_are : notes ≡ map note_of begun
   pub noted : Noted first last old.clock now.clock begun
-  pub reached : Tell old → Reaches (session_caller tags old) (session_state old []) (length notes) (session_state now begun)
+  pub reached : Tell old → Reaches old.peer (session_state old []) (length notes) (session_state now begun)
+  pub lawful : All (SuitsBegun law old.peer) begun
+  pub fits : Fits ins ins' old.peer begun
   pub unfailed : faults_of now ≡ faults_of old
   pub still_open : now.client_out.finished ≡ old.client_out.finished
   pub goes_on : EndsGoOn old now
@@ -196,34 +213,38 @@ notes_on : (notes notes' : List ExchangeNote) (begun more : List Begun) → note
 notes_on notes notes' begun more e k = k ∙ ap (λ (ns : List ExchangeNote). ns ++ map note_of more) e ∙ sym (map-append note_of begun more)
 
 -- before the first request
-pub serving_none : {tags : List (List ℕ)} {looks : Looks} {old : EndsState} {notes : List ExchangeNote} → notes ≡ [] → Serving tags looks looks old old notes
-serving_none {looks = looks} {old = old} e = rw e (record {
+pub serving_none : {law : Law} {ins : InsideState} {looks : Looks} {old : EndsState} {notes : List ExchangeNote} → notes ≡ [] → Serving law ins ins looks looks old old notes
+serving_none {law = law} {ins = ins} {looks = looks} {old = old} e = rw e (record {
   below = omega arith;
   begun = [];
   notes_are = refl;
   noted = none_noted looks old.clock;
   reached = λ t. refl;
+  lawful = All-nil (SuitsBegun law old.peer);
+  fits = fits_none ins old.peer;
   unfailed = refl;
   still_open = refl;
   goes_on = ends_same old;
 })
 
 -- the turn, as one of the client that called at first
-turn_of : (tags : List (List ℕ)) (old now new : EndsState) (n : ℕ) (before begun : List Begun) (e : Option SessionEnd) → now.peer ≡ old.peer
-    → SessionTurns (session_caller tags now) n (session_state now before) (session_state new begun) new.client.source.left e
-    → SessionTurns (session_caller tags old) n (session_state now before) (session_state new begun) new.client.source.left e
-turn_of tags old now new n before begun e same t =
-    subst (λ (p : List ℕ). SessionTurns (record { tags = tags; peer = p }) n (session_state now before) (session_state new begun) new.client.source.left e) same t
+turn_of : (old now new : EndsState) (n : ℕ) (before begun : List Begun) (e : Option SessionEnd) → now.peer ≡ old.peer
+    → SessionTurns now.peer n (session_state now before) (session_state new begun) new.client.source.left e
+    → SessionTurns old.peer n (session_state now before) (session_state new begun) new.client.source.left e
+turn_of old now new n before begun e same t =
+    subst (λ (p : List ℕ). SessionTurns p n (session_state now before) (session_state new begun) new.client.source.left e) same t
 
 -- the session goes on behind one more exchange
-pub serving_on : {tags : List (List ℕ)} {first looks looks' : Looks} {old now new : EndsState} {notes notes' : List ExchangeNote}
-    → Serving tags first looks old now notes → Turned tags looks looks' now new notes notes' None → Serving tags first looks' old new notes'
-serving_on {tags = tags} {first = first} {old = old} {now = now} {new = new} {notes = notes} {notes' = notes'} s t = record {
+pub serving_on : {law : Law} {ins mid ins' : InsideState} {first looks looks' : Looks} {old now new : EndsState} {notes notes' : List ExchangeNote}
+    → Serving law ins mid first looks old now notes → Turned law mid ins' looks looks' now new notes notes' None → Serving law ins ins' first looks' old new notes'
+serving_on {law = law} {ins = ins} {mid = mid} {ins' = ins'} {first = first} {old = old} {now = now} {new = new} {notes = notes} {notes' = notes'} s t = record {
   below = rw (t.one_more refl) (t.below refl);
   begun = s.begun ++ t.begun;
   notes_are = notes_on notes notes' s.begun t.begun s.notes_are t.noted;
   noted = t.history first old.clock s.begun s.noted;
-  reached = λ tell. rw (t.one_more refl, add-one (length notes)) (session_state now s.begun, s.reached tell, turn_of tags old now new (length notes) s.begun (s.begun ++ t.begun) None s.goes_on.peer_same (t.turns (tell_on s.goes_on tell) s.begun));
+  reached = λ tell. rw (t.one_more refl, add-one (length notes)) (session_state now s.begun, s.reached tell, turn_of old now new (length notes) s.begun (s.begun ++ t.begun) None s.goes_on.peer_same (t.turns (tell_on s.goes_on tell) s.begun));
+  lawful = lawful_more law now.peer old.peer s.begun t.begun s.goes_on.peer_same s.lawful t.lawful;
+  fits = fits_more ins mid ins' now.peer old.peer s.begun t.begun s.goes_on.peer_same s.fits t.fits;
   unfailed = t.cause ∙ s.unfailed;
   still_open = t.still_open ∙ s.still_open;
   goes_on = ends_go_on s.goes_on t.goes_on;
@@ -240,9 +261,9 @@ open_on old now new end.WriteFailed s h = tt
 open_on old now new end.NoMemory s h = tt
 
 -- the session ends
-pub runs_to : {tags : List (List ℕ)} {first looks looks' : Looks} {old now new : EndsState} {notes notes' : List ExchangeNote} {e : SessionEnd}
-    → Serving tags first looks old now notes → Turned tags looks looks' now new notes notes' (Some e) → Runs tags first looks' old new notes' e
-runs_to {tags = tags} {first = first} {old = old} {now = now} {new = new} {notes = notes} {notes' = notes'} {e = e} s t = record {
+pub runs_to : {law : Law} {ins mid ins' : InsideState} {first looks looks' : Looks} {old now new : EndsState} {notes notes' : List ExchangeNote} {e : SessionEnd}
+    → Serving law ins mid first looks old now notes → Turned law mid ins' looks looks' now new notes notes' (Some e) → Runs law ins ins' first looks' old new notes' e
+runs_to {law = law} {ins = ins} {mid = mid} {ins' = ins'} {first = first} {old = old} {now = now} {new = new} {notes = notes} {notes' = notes'} {e = e} s t = record {
   begun = s.begun ++ t.begun;
   notes_are = notes_on notes notes' s.begun t.begun s.notes_are t.noted;
   noted = t.history first old.clock s.begun s.noted;
@@ -251,34 +272,42 @@ runs_to {tags = tags} {first = first} {old = old} {now = now} {new = new} {notes
     middle = session_state now s.begun;
     rest = client_stream new;
     reached = s.reached tell;
-    ended = turn_of tags old now new (length notes) s.begun (s.begun ++ t.begun) (Some e) s.goes_on.peer_same (t.turns (tell_on s.goes_on tell) s.begun);
+    ended = turn_of old now new (length notes) s.begun (s.begun ++ t.begun) (Some e) s.goes_on.peer_same (t.turns (tell_on s.goes_on tell) s.begun);
   };
+  lawful = lawful_more law now.peer old.peer s.begun t.begun s.goes_on.peer_same s.lawful t.lawful;
+  fits = fits_more ins mid ins' now.peer old.peer s.begun t.begun s.goes_on.peer_same s.fits t.fits;
   cause = subst (λ (f : Faults). EndCause f (faults_of new) e) s.unfailed t.cause;
   still_open = open_on old.client_out now.client_out new.client_out e s.still_open t.still_open;
   goes_on = ends_go_on s.goes_on t.goes_on;
 }
 
 -- memory was wanting before anything was read
-pub runs_none : {tags : List (List ℕ)} {looks : Looks} {old : EndsState} (notes : List ExchangeNote) → notes ≡ [] → Runs tags looks looks old old notes end.NoMemory
-runs_none {looks = looks} {old = old} notes e = record {
+pub runs_none : {law : Law} {ins : InsideState} {looks : Looks} {old : EndsState} (notes : List ExchangeNote) → notes ≡ [] → Runs law ins ins looks looks old old notes end.NoMemory
+runs_none {law = law} {ins = ins} {looks = looks} {old = old} notes e = record {
   begun = [];
   notes_are = e;
   noted = none_noted looks old.clock;
   session = λ t. record { kept = 0; middle = session_state old []; rest = client_stream old; reached = refl; ended = inl (record { undialled = refl; unreturned = refl; unbegun = refl; why = tt }) };
+  lawful = All-nil (SuitsBegun law old.peer);
+  fits = fits_none ins old.peer;
   cause = tt;
   still_open = tt;
   goes_on = ends_same old;
 }
 
 -- the client's sink is finished behind the session
-pub serves_behind : {tags : List (List ℕ)} {looks looks' : Looks} {old mid : EndsState} {o : SinkState} {notes : List ExchangeNote} {e : SessionEnd}
-    → Runs tags looks looks' old mid notes e → Finishes mid.client_out o → SinkGoesOn mid.client_out o → Serves tags looks looks' old (record mid { client_out = o }) notes e
-serves_behind {tags = tags} {old = old} {mid = mid} {o = o} {e = e} r f on = record {
-  begun = r.begun;
-  notes_are = r.notes_are;
-  noted = r.noted;
-  session = λ t. rw f.taken_same (r.session t);
-  cause = rw f.faults_same r.cause;
-  finished = λ t. f.finished (r.goes_on.client_out.tells_same ∙ t);
-  goes_on = record { client = r.goes_on.client; client_out = sink_goes_on r.goes_on.client_out on; dialer = r.goes_on.dialer; clock = r.goes_on.clock; peer_same = r.goes_on.peer_same };
+pub serves_behind : {law : Law} {ins ins' : InsideState} {looks looks' : Looks} {old mid : EndsState} {o : SinkState} {notes : List ExchangeNote} {e : SessionEnd}
+    → Runs law ins ins' looks looks' old mid notes e → Finishes mid.client_out o → SinkGoesOn mid.client_out o → ServesFitting law ins ins' looks looks' old (record mid { client_out = o }) notes e
+serves_behind {law = law} {old = old} {mid = mid} {o = o} {e = e} r f on = record {
+  serves = record {
+    begun = r.begun;
+    notes_are = r.notes_are;
+    noted = r.noted;
+    session = λ t. rw f.taken_same (r.session t);
+    lawful = r.lawful;
+    cause = rw f.faults_same r.cause;
+    finished = λ t. f.finished (r.goes_on.client_out.tells_same ∙ t);
+    goes_on = record { client = r.goes_on.client; client_out = sink_goes_on r.goes_on.client_out on; dialer = r.goes_on.dialer; clock = r.goes_on.clock; peer_same = r.goes_on.peer_same };
+  };
+  fits = r.fits;
 }

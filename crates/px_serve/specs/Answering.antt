@@ -1,14 +1,29 @@
 -- One exchange between the ends of a session.
-use Rattle.std.specs.Prelude.{◌≡◌}
+use Rattle.std.specs.Prelude.{◌≡◌, ◌⊎◌, ℕ, List, Option, None, Some}
+use Rattle.px_base.specs.Dials.{DialerState}
 use Rattle.px_ends.specs.Ends.{EndsState, EndsGoOn, Tell, client_stream}
-use Rattle.px_judging.specs.Given.{Given}
+use Rattle.px_config.specs.declared.configs.Config.{Config}
+use Rattle.px_judging.specs.Judging.{judged}
+use Rattle.px_judging.specs.declared.handed.Handed.{Handed}
+use Rattle.px_notes.specs.Endings.{broken}
+use Rattle.px_notes.specs.declared.endings.After.TheVariants as after
 use Rattle.px_notes.specs.declared.endings.Conclusion.{Conclusion}
 use Rattle.px_exchange.specs.Causes.{ClientReadCause, ClientStaysOpen, ClientWriteCause}
 use Rattle.px_exchange.specs.Exchange.{Answers}
+use Rattle.px_exchange.specs.Forwarding.{Client}
+
+-- memory was wanting before anything was dialled or returned
+abbrev pub AnswersNothing : Client → DialerState → DialerState → List ℕ → List ℕ → Conclusion → Type 0
+AnswersNothing c old new taken taken' x = (x ≡ broken after.NoMemory) × (new ≡ old) × (c.behind ≡ c.stream) × (taken' ≡ taken)
+
+-- what is answered to what an exchange is handed, by a configuration and for a client; where memory was wanting before that, nothing
+abbrev pub AnswersHanded : Config → List ℕ → Option Handed → Client → DialerState → DialerState → List ℕ → List ℕ → Conclusion → Type 0
+AnswersHanded config peer None c old new taken taken' x = AnswersNothing c old new taken taken' x
+AnswersHanded config peer (Some h) c old new taken taken' x = Answers config (judged config h peer) c old new taken taken' x ⊎ AnswersNothing c old new taken taken' x
 
 -- one exchange between these ends, of which the clock isn't used: what is sent and returned, why, and what lasts
-pub record AnswersBetween (g : Given) (old new : EndsState) (x : Conclusion) : Type 0 where
-  pub answers : Tell old → Answers g (record { stream = client_stream old; behind = client_stream new }) old.dialer new.dialer old.client_out.taken new.client_out.taken x
+pub record AnswersBetween (config : Config) (h : Option Handed) (old new : EndsState) (x : Conclusion) : Type 0 where
+  pub answers : Tell old → AnswersHanded config old.peer h (record { stream = client_stream old; behind = client_stream new }) old.dialer new.dialer old.client_out.taken new.client_out.taken x
   pub read_cause : ClientReadCause old.client.source new.client.source x.after
   pub write_cause : ClientWriteCause old.client_out new.client_out x
   pub still_open : ClientStaysOpen old.client_out new.client_out x

@@ -27,6 +27,7 @@ is_tunnel (ending.Page p) = false
 is_tunnel ending.Image = false
 is_tunnel ending.Empty = false
 is_tunnel ending.Redirect = false
+is_tunnel ending.Inside = false
 is_tunnel ending.Passed = false
 is_tunnel ending.Filtered = false
 is_tunnel ending.Bodiless = false

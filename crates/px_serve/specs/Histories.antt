@@ -6,12 +6,15 @@ use Rattle.px_config.specs.declared.configs.Config.{Config}
 use Rattle.px_notes.specs.declared.sessions.ExchangeNote.{ExchangeNote}
 use Rattle.px_notes.specs.declared.endings.Conclusion.{Conclusion}
 use Rattle.px_publish.specs.Views.{Entry, EndsIn, GoesOn, LookGives, Pair}
+use Rattle.px_serve.specs.declared.receiving.Received.{Received}
 
--- an exchange that was begun: the configuration that it used with that one's number, its moment, and how it was concluded
+-- an exchange that was begun: the configuration that it used with that one's number, its moment, what was received for it, if memory
+-- was there, and how it was concluded
 pub record Begun : Type 0 where
   pub number : ℕ
   pub config : Config
   pub moment : ℕ
+  pub received : Option Received
   pub concluded : Conclusion
 
 abbrev pub note_of : Begun → ExchangeNote

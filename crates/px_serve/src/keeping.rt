@@ -1,6 +1,5 @@
 // The store that a session keeps from request to request, and a worker from session to session.
 ghost use Rattle.std.specs.Prelude.{◌≡◌, ◌↔◌, IsTrue, Some};
-ghost use Rattle.px_judging.specs.Given.{given_for};
 ghost use Rattle.px_serve.specs.Answering.{AnswersBetween};
 ghost use Rattle.px_serve.specs.Keeping.{OfEntry, store_number};
 
@@ -8,7 +7,7 @@ use px_base::Mem;
 use px_config::{Config, Running};
 use px_ends::{Ends, Outside};
 use px_exchange::exchange;
-use px_judging::Handed;
+use px_judging::{Handed, judge};
 use px_notes::{After, Conclusion, broken};
 use px_publish::Snapshot;
 use px_ways::Way;
@@ -66,35 +65,36 @@ impl<'c> Store<'c> {
 fn answer_by<R: Threads + Sync, A: Outside>(
     alloc: Global,
     way: &Way<'_, R>,
-    handed: &Handed<'_>,
+    handed: Handed,
     running: &mut Running<'_>,
     ends: &mut Ends<A>,
 ) -> Conclusion
-    ensures answers { AnswersBetween (given_for running.old handed.now ends.old.peer) ends.old ends.new result }
+    ensures answers { AnswersBetween running.old (Some handed) ends.old ends.new result }
     ensures same { running.new ≡ running.old }
 {
-    exchange(
-        alloc,
-        way,
-        handed,
-        &ends.peer,
-        running,
-        &mut ends.client.source,
-        &mut ends.client.ahead,
-        &mut ends.client_out,
-        &mut ends.dialer,
-    )
+    match judge(alloc, handed, &ends.peer, running) {
+        Ok(judgement) => exchange(
+            alloc,
+            way,
+            judgement,
+            running,
+            &mut ends.client,
+            &mut ends.client_out,
+            &mut ends.dialer,
+        ),
+        Err(Mem) => broken(After::NoMemory),
+    }
 }
 
 /// Answers a request by a configuration that begins to run for it.
 fn answer_anew<R: Threads + Sync, A: Outside>(
     alloc: Global,
     way: &Way<'_, R>,
-    handed: &Handed<'_>,
+    handed: Handed,
     config: &Config,
     ends: &mut Ends<A>,
 ) -> Conclusion
-    ensures { AnswersBetween (given_for config.now handed.now ends.old.peer) ends.old ends.new result }
+    ensures { AnswersBetween config.now (Some handed) ends.old ends.new result }
 {
     match Running::new(alloc, config) {
         Ok(mut running) => answer_by(alloc, way, handed, &mut running, ends),
@@ -102,22 +102,28 @@ fn answer_anew<R: Threads + Sync, A: Outside>(
     }
 }
 
-/// Answers the request of an entry: with the one kept where it is that entry, and else with one of its own.
+/// Answers what is handed by an entry: with the one kept where it is that entry, and else with one of its own. Where nothing is
+/// handed, memory was wanting.
 pub fn answer<R: Threads + Sync, A: Outside>(
     alloc: Global,
     way: &Way<'_, R>,
-    handed: &Handed<'_>,
+    handed: Option<Handed>,
     snapshot: &Snapshot<'_, Config>,
     kept: &mut KeptEntry<'_>,
     ends: &mut Ends<A>,
 ) -> Conclusion
     requires of { kept.old.number ≡ snapshot.now.number → kept.old.config ≡ snapshot.now.config.now }
-    ensures answers { AnswersBetween (given_for snapshot.now.config.now handed.now ends.old.peer) ends.old ends.new result }
+    ensures answers { AnswersBetween snapshot.now.config.now handed ends.old ends.new result }
     ensures same { kept.new ≡ kept.old }
 {
-    if kept.number == snapshot.number {
-        answer_by(alloc, way, handed, &mut kept.running, ends)
-    } else {
-        answer_anew(alloc, way, handed, snapshot.config, ends)
+    match handed {
+        Some(handed) => {
+            if kept.number == snapshot.number {
+                answer_by(alloc, way, handed, &mut kept.running, ends)
+            } else {
+                answer_anew(alloc, way, handed, snapshot.config, ends)
+            }
+        }
+        None => broken(After::NoMemory),
     }
 }

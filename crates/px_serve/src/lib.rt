@@ -7,10 +7,12 @@ mod ends;
 mod heads;
 mod keeping;
 mod notes;
+mod receiving;
 mod sessions;
 
 pub use ends::REQUEST_LIMIT;
 pub use keeping::{KeptEntry, Store};
+pub use receiving::Received;
 pub use sessions::{serve_cold, serve_connection};
 
 /// What the constant of this crate is.

@@ -1,5 +1,5 @@
 -- A session over links whose sources offer just what was heard.
-use Rattle.std.proofs.Common.{◌≡◌, ◌≢◌, ◌⊎◌, inl, inr, ℕ, zero, suc, Bool, true, false, List, [], ◌∷◌, ◌++◌, if◌then◌else◌, sym, ap, refl, subst, ◌∙◌, length, drop, Some, None}
+use Rattle.std.proofs.Common.{◌≡◌, ◌≢◌, ◌⊎◌, inl, inr, ℕ, zero, suc, Bool, true, false, List, [], ◌∷◌, ◌++◌, if◌then◌else◌, sym, ap, refl, subst, ◌∙◌, length, drop, Option, Some, None}
 use Rattle.std.specs.List.{AllByRecursion}
 use Rattle.px_base.specs.Dials.{DialerState, DialerGoesOn}
 use Rattle.px_base.specs.declared.dials.Dial.{Dial}
@@ -18,7 +18,8 @@ use Rattle.px_notes.specs.declared.endings.Ending.TheVariants as ending
 use Rattle.px_notes.specs.declared.sessions.SessionEnd.{SessionEnd}
 use Rattle.px_notes.specs.declared.sessions.SessionEnd.TheVariants as end
 use Rattle.px_config.specs.declared.configs.Config.{Config}
-use Rattle.px_judging.specs.Given.{Given}
+use Rattle.px_judging.specs.Judging.{judged}
+use Rattle.px_judging.specs.declared.handed.Handed.{Handed}
 use Rattle.px_judging.specs.declared.judgements.Judgement.{Judgement}
 use Rattle.px_judging.specs.declared.judgements.Judgement.TheVariants as judgement
 use Rattle.px_judging.specs.declared.judgements.TunnelPlan.{TunnelPlan}
@@ -31,7 +32,9 @@ use Rattle.px_exchange.specs.Forwarding.{Client, Says, FollowsSending, Forwards,
 use Rattle.px_exchange.specs.Tunnels.{Tunnels, TunnelsOver}
 use Rattle.px_serve.specs.Ends.{end_after}
 use Rattle.px_serve.specs.Histories.{Begun}
-use Rattle.px_serve.specs.Sessions.{Caller, SessionState, SessionStep, Reaches, EndsSession, IsSession, is_last_request, given_of, begin}
+use Rattle.px_serve.specs.Answering.{AnswersHanded, AnswersNothing}
+use Rattle.px_serve.specs.Sessions.{SessionState, SessionStep, Reaches, EndsSession, IsSession, is_last_request, begin}
+use Rattle.px_serve.specs.Takings.{handed_of}
 use Rattle.px_shared.specs.Links.{EachAnswered, EachHeardFront, HeardFront, HeardOne, NoTunnel, offers_heard, offering_heard, with_heard}
 use Rattle.px_shared.proofs.AnswerLemmas.{answered_any}
 
@@ -179,23 +182,31 @@ does_alone config (judgement.Tunnel t) c old new taken taken' x all n h = record
       (λ o w f. tunnels_heard (tunnel_page_due config t) t c x taken taken' o n f) all h;
 }
 
-answers_alone : (g : Given) (c : Client) (old new : DialerState) (taken taken' : List ℕ) (x : Conclusion) → EachGives new.dials → x.ending ≢ ending.Tunnel → x ≢ broken after.NoMemory
-    → Answers g c old new taken taken' x → Alone old (Answers g c (with_heard old) (with_heard new) taken taken' x)
-answers_alone g c old new taken taken' x all n m (inl h) =
-    let d = does_alone g.config h.judgement c old new taken taken' x all n h.does in
-    record { before = d.before; same = inl (record { judgement = h.judgement; judged = h.judged; does = d.same }) }
-answers_alone g c old new taken taken' x all n m (inr h) = absurd (m h.concluded)
+answers_alone : (config : Config) (j : Judgement) (c : Client) (old new : DialerState) (taken taken' : List ℕ) (x : Conclusion) → EachGives new.dials → x.ending ≢ ending.Tunnel → x ≢ broken after.NoMemory
+    → Answers config j c old new taken taken' x → Alone old (Answers config j c (with_heard old) (with_heard new) taken taken' x)
+answers_alone config j c old new taken taken' x all n m (inl h) =
+    let d = does_alone config j c old new taken taken' x all n h in
+    record { before = d.before; same = inl d.same }
+answers_alone config j c old new taken taken' x all n m (inr h) = absurd (m h.0)
+
+handed_alone : (config : Config) (peer : List ℕ) (h : Option Handed) (c : Client) (old new : DialerState) (taken taken' : List ℕ) (x : Conclusion) → EachGives new.dials → x.ending ≢ ending.Tunnel → x ≢ broken after.NoMemory
+    → AnswersHanded config peer h c old new taken taken' x → Alone old (AnswersHanded config peer h c (with_heard old) (with_heard new) taken taken' x)
+handed_alone config peer None c old new taken taken' x all n m silent = absurd (m silent.0)
+handed_alone config peer (Some h) c old new taken taken' x all n m (inl answers) =
+    let a = answers_alone config (judged config h peer) c old new taken taken' x all n m answers in
+    record { before = a.before; same = inl a.same }
+handed_alone config peer (Some h) c old new taken taken' x all n m (inr silent) = absurd (m silent.0)
 
 -- ---- sessions
 
 abbrev heard_state : SessionState → SessionState
 heard_state s = record { stream = s.stream; dialer = with_heard s.dialer; taken = s.taken; begun = s.begun }
 
-step_alone : (caller : Caller) (n : ℕ) (s t : SessionState) (b : Begun) → EachGives t.dialer.dials → b.concluded.ending ≢ ending.Tunnel → b.concluded ≢ broken after.NoMemory → SessionStep caller n s t b
-    → Alone s.dialer (SessionStep caller n (heard_state s) (heard_state t) b)
-step_alone caller n s t b all k m h =
-    let a = answers_alone (given_of caller n h.seen b) (record { stream = h.rest; behind = t.stream }) s.dialer t.dialer s.taken t.taken b.concluded all k m h.answers in
-    record { before = a.before; same = record { seen = h.seen; rest = h.rest; head = h.head; noted = h.noted; answers = a.same } }
+step_alone : (peer : List ℕ) (n : ℕ) (s t : SessionState) (b : Begun) → EachGives t.dialer.dials → b.concluded.ending ≢ ending.Tunnel → b.concluded ≢ broken after.NoMemory → SessionStep peer n s t b
+    → Alone s.dialer (SessionStep peer n (heard_state s) (heard_state t) b)
+step_alone peer n s t b all k m h =
+    let a = handed_alone b.config peer (handed_of (is_last_request n) b.moment b.received) (record { stream = h.rest; behind = t.stream }) s.dialer t.dialer s.taken t.taken b.concluded all k m h.answers in
+    record { before = a.before; same = record { seen = h.seen; rest = h.rest; head = h.head; reads = h.reads; noted = h.noted; answers = a.same } }
 
 -- an exchange that wanted memory ends the session so
 goes_on_with : (last : Bool) (x : Conclusion) → end_after last x ≡ None → x ≢ broken after.NoMemory
@@ -207,35 +218,35 @@ ends_with last x e h n m = let o = ap (end_after last) (sym m) ∙ h in n (cc)
 no_tunnel_in : (s t : SessionState) (b : Begun) → t.begun ≡ s.begun ++ b ∷ [] → NoTunnel t.begun → NoTunnel s.begun × (b.concluded.ending ≢ ending.Tunnel)
 no_tunnel_in s t b e n = all_but_last (λ (x : Begun). x.concluded.ending ≢ ending.Tunnel) s.begun t.begun b e n
 
-reaches_alone : (caller : Caller) (s : SessionState) (n : ℕ) (t : SessionState) → EachGives t.dialer.dials → NoTunnel t.begun → Reaches caller s n t → Reaches caller (heard_state s) n (heard_state t)
-reaches_alone caller s zero t all none h = ap heard_state h
-reaches_alone caller s (suc n) t all none (m, h, k) =
+reaches_alone : (peer : List ℕ) (s : SessionState) (n : ℕ) (t : SessionState) → EachGives t.dialer.dials → NoTunnel t.begun → Reaches peer s n t → Reaches peer (heard_state s) n (heard_state t)
+reaches_alone peer s zero t all none h = ap heard_state h
+reaches_alone peer s (suc n) t all none (m, h, k) =
     let u = no_tunnel_in m t k.begun k.step.noted none in
-    let a = step_alone caller n m t k.begun all u.1 (goes_on_with (is_last_request n) k.begun.concluded k.goes_on) k.step in
-    (heard_state m, reaches_alone caller s n m a.before u.0 h, record { begun = k.begun; step = a.same; goes_on = k.goes_on })
+    let a = step_alone peer n m t k.begun all u.1 (goes_on_with (is_last_request n) k.begun.concluded k.goes_on) k.step in
+    (heard_state m, reaches_alone peer s n m a.before u.0 h, record { begun = k.begun; step = a.same; goes_on = k.goes_on })
 
 -- what ends it, and that the states before were so
-record EndsAlone (caller : Caller) (n : ℕ) (s t : SessionState) (left : List ℕ) (e : SessionEnd) : Type 0 where
+record EndsAlone (peer : List ℕ) (n : ℕ) (s t : SessionState) (left : List ℕ) (e : SessionEnd) : Type 0 where
   pub before : EachGives s.dialer.dials
   pub none : NoTunnel s.begun
-  pub same : EndsSession caller n (heard_state s) (heard_state t) left e
+  pub same : EndsSession peer n (heard_state s) (heard_state t) left e
 
-ends_alone : (caller : Caller) (n : ℕ) (s t : SessionState) (left : List ℕ) (e : SessionEnd) → EachGives t.dialer.dials → NoTunnel t.begun → e ≢ end.NoMemory → EndsSession caller n s t left e
-    → EndsAlone caller n s t left e
-ends_alone caller n s t left e all none m (inl h) = record {
+ends_alone : (peer : List ℕ) (n : ℕ) (s t : SessionState) (left : List ℕ) (e : SessionEnd) → EachGives t.dialer.dials → NoTunnel t.begun → e ≢ end.NoMemory → EndsSession peer n s t left e
+    → EndsAlone peer n s t left e
+ends_alone peer n s t left e all none m (inl h) = record {
   before = undialled s.dialer t.dialer h.undialled all;
   none = subst NoTunnel h.unbegun none;
   same = inl (record { undialled = ap with_heard h.undialled; unreturned = h.unreturned; unbegun = h.unbegun; why = h.why });
 }
-ends_alone caller n s t left e all none m (inr h) =
+ends_alone peer n s t left e all none m (inr h) =
     let u = no_tunnel_in s t h.begun h.step.noted none in
-    let a = step_alone caller n s t h.begun all u.1 (ends_with (is_last_request n) h.begun.concluded e h.ends m) h.step in
+    let a = step_alone peer n s t h.begun all u.1 (ends_with (is_last_request n) h.begun.concluded e h.ends m) h.step in
     record { before = a.before; none = u.0; same = inr (record { begun = h.begun; step = a.same; ends = h.ends }) }
 
-pub session_alone : (caller : Caller) (stream left : List ℕ) (old new : DialerState) (taken taken' : List ℕ) (begun : List Begun) (e : SessionEnd) → IsSession caller stream left old new taken taken' begun e
-    → EachHeardFront new.dials → EachAnswered new.dials → NoTunnel begun → e ≢ end.NoMemory → IsSession caller stream left (with_heard old) (with_heard new) taken taken' begun e
-session_alone caller stream left old new taken taken' begun e h fronts each none m =
+pub session_alone : (peer stream left : List ℕ) (old new : DialerState) (taken taken' : List ℕ) (begun : List Begun) (e : SessionEnd) → IsSession peer stream left old new taken taken' begun e
+    → EachHeardFront new.dials → EachAnswered new.dials → NoTunnel begun → e ≢ end.NoMemory → IsSession peer stream left (with_heard old) (with_heard new) taken taken' begun e
+session_alone peer stream left old new taken taken' begun e h fronts each none m =
     let all : EachGives new.dials = each_gives new.dials fronts each in
     let last : SessionState = record { stream = h.rest; dialer = new; taken = taken'; begun = begun } in
-    let a = ends_alone caller h.kept h.middle last left e all none m h.ended in
-    record { kept = h.kept; middle = heard_state h.middle; rest = h.rest; reached = reaches_alone caller (begin stream old taken) h.kept h.middle a.before a.none h.reached; ended = a.same }
+    let a = ends_alone peer h.kept h.middle last left e all none m h.ended in
+    record { kept = h.kept; middle = heard_state h.middle; rest = h.rest; reached = reaches_alone peer (begin stream old taken) h.kept h.middle a.before a.none h.reached; ended = a.same }

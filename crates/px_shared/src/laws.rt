@@ -12,7 +12,7 @@ ghost use Rattle.px_notes.specs.declared.sessions.SessionEnd.TheVariants as end;
 ghost use Rattle.px_pumps.specs.Answering.{Ask, Answered};
 ghost use Rattle.px_pumps.specs.declared.dues.Due.{Due};
 ghost use Rattle.px_serve.specs.Histories.{Begun};
-ghost use Rattle.px_serve.specs.Sessions.{Caller, IsSession};
+ghost use Rattle.px_serve.specs.Sessions.{IsSession};
 ghost use Rattle.px_shared.specs.Answers.{IsAnswerTo};
 ghost use Rattle.px_shared.specs.Links.{EachAnswered, EachHeardFront, NoTunnel, with_heard};
 ghost use Rattle.px_shared.specs.Sharing.{PoolTells};
@@ -32,9 +32,9 @@ pub fn answers_end()
 /// heard over each is the front of what it offered; of the links of a pool that is so.
 #[tactic(auto, using(crate::proofs::LinkLemmas::session_alone))]
 pub fn heard_is_enough()
-    ensures { (caller : Caller) (stream left : List ℕ) (old new : DialerState) (taken taken' : List ℕ) (begun : List Begun) (e : SessionEnd)
-        → IsSession caller stream left old new taken taken' begun e → EachHeardFront new.dials → EachAnswered new.dials → NoTunnel begun → e ≢ end.NoMemory
-        → IsSession caller stream left (with_heard old) (with_heard new) taken taken' begun e }
+    ensures { (peer stream left : List ℕ) (old new : DialerState) (taken taken' : List ℕ) (begun : List Begun) (e : SessionEnd)
+        → IsSession peer stream left old new taken taken' begun e → EachHeardFront new.dials → EachAnswered new.dials → NoTunnel begun → e ≢ end.NoMemory
+        → IsSession peer stream left (with_heard old) (with_heard new) taken taken' begun e }
 {}
 
 /// Where the history of a pool tells its dials, what was heard over each of its links is the front of what the link offered. So the

@@ -20,6 +20,7 @@ status_of (kind.Page page) = page_status page
 status_of kind.Image = codes "403 Forbidden"
 status_of (kind.Empty ok) = if ok then codes "200 OK" else codes "403 Forbidden"
 status_of (kind.Redirect target) = codes "302 Found"
+status_of (kind.Inside found) = if found then codes "200 OK" else codes "404 Not Found"
 
 -- the field behind the status line: the type of the body, or where to go instead
 abbrev pub first_name : Local → List ℕ
@@ -27,12 +28,14 @@ first_name (kind.Page page) = codes "Content-Type"
 first_name kind.Image = codes "Content-Type"
 first_name (kind.Empty ok) = codes "Content-Type"
 first_name (kind.Redirect target) = codes "Location"
+first_name (kind.Inside found) = codes "Content-Type"
 
 abbrev pub first_value : Local → List ℕ
 first_value (kind.Page page) = codes "text/html"
 first_value kind.Image = codes "image/gif"
 first_value (kind.Empty ok) = codes "text/html"
 first_value (kind.Redirect target) = target
+first_value (kind.Inside found) = codes "text/plain"
 
 -- the body: the page or the image that is given, a space, or nothing
 abbrev pub reply_body : Local → List ℕ → List ℕ
@@ -40,6 +43,7 @@ reply_body (kind.Page page) body = body
 reply_body kind.Image body = body
 reply_body (kind.Empty ok) body = codes " "
 reply_body (kind.Redirect target) body = []
+reply_body (kind.Inside found) body = body
 
 abbrev pub close_word : Bool → List ℕ
 close_word close = if close then codes "close" else codes "keep-alive"

@@ -24,6 +24,8 @@ pub enum Local {
     Empty(bool),
     /// A redirect to this target.
     Redirect(Text),
+    /// A page of the proxy's own, which was found or wasn't. The body is its text.
+    Inside(bool),
 }
 
 impl Local {
@@ -38,6 +40,8 @@ impl Local {
             Local::Empty(true) => b"200 OK",
             Local::Empty(false) => b"403 Forbidden",
             Local::Redirect(_) => b"302 Found",
+            Local::Inside(true) => b"200 OK",
+            Local::Inside(false) => b"404 Not Found",
         }
     }
 
@@ -50,6 +54,7 @@ impl Local {
             Local::Image => b"Content-Type",
             Local::Empty(_) => b"Content-Type",
             Local::Redirect(_) => b"Location",
+            Local::Inside(_) => b"Content-Type",
         }
     }
 
@@ -62,6 +67,7 @@ impl Local {
             Local::Image => b"image/gif",
             Local::Empty(_) => b"text/html",
             Local::Redirect(target) => target.as_bytes(),
+            Local::Inside(_) => b"text/plain",
         }
     }
 
@@ -73,6 +79,7 @@ impl Local {
             Local::Image => body,
             Local::Empty(_) => b" ",
             Local::Redirect(_) => b"",
+            Local::Inside(_) => body,
         }
     }
 }

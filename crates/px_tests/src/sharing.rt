@@ -9,6 +9,7 @@ use px_config::{Config, load};
 use px_ends::{Ends, Joined, Outside};
 use px_link_pool::{Look, Sees};
 use px_notes::{Session, SessionEnd};
+use px_pages::BarePages;
 use px_publish::FixedConfig;
 use px_serve::serve_cold;
 use px_shared::{with_pool, without_pool};
@@ -109,7 +110,7 @@ where
         alloc,
         &Way::AtOnce(rt),
         &mut FixedConfig::new(config),
-        &[],
+        &mut BarePages::new(),
         &mut pooled,
     );
     let (ends, wanting) = without_pool(pooled);

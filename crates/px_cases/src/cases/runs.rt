@@ -13,6 +13,7 @@ use px_ends::{Ends, Joined, Outside};
 use px_leaf_rows::Fault;
 use px_link_pool::{Look, Sees};
 use px_notes::Session;
+use px_pages::Pages;
 use px_publish::StepConfig;
 use px_serve::serve_cold;
 use px_shared::{with_pool, without_pool};
@@ -431,14 +432,14 @@ fn serve<R: Threads + Sync>(
         None => false,
     };
     let mut configs = run.configs(configs)?;
-    let tags = run.tags()?;
+    let mut pages = Pages::new(List::from_vec(run.tags()?));
     let mut ends = run.ends()?;
     let way = Way::AtOnce(rt);
     if sharing {
-        let (session, ends) = share_links(run.alloc, &way, &mut configs, tags.as_slice(), ends);
+        let (session, ends) = share_links(run.alloc, &way, &mut configs, &mut pages, ends);
         Ok(Served { session, ends })
     } else {
-        let session = serve_cold(run.alloc, &way, &mut configs, tags.as_slice(), &mut ends);
+        let session = serve_cold(run.alloc, &way, &mut configs, &mut pages, &mut ends);
         Ok(Served { session, ends })
     }
 }
@@ -448,7 +449,7 @@ fn share_links<R: Threads + Sync, A: Outside>(
     alloc: Global,
     way: &Way<'_, R>,
     configs: &mut StepConfig<Config>,
-    tags: &[Text],
+    pages: &mut Pages,
     ends: Ends<A>,
 ) -> (Session, Ends<A>)
 where
@@ -456,7 +457,7 @@ where
     requires undialled { ends.dialer.dials ≡ [] }
 {
     let mut pooled = with_pool(alloc, ends);
-    let session = serve_cold(alloc, way, configs, tags, &mut pooled);
+    let session = serve_cold(alloc, way, configs, pages, &mut pooled);
     let (ends, _wanting) = without_pool(pooled);
     (session, ends)
 }

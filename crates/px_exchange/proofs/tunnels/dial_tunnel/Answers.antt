@@ -19,8 +19,9 @@ returns-in-Ok-clause-talks g c s u t page_due =
     let i = g.D.In.Source.state c.tunnel_over-talked.new.link_in in
     let o = g.D.Out.Sink.state c.tunnel_over-talked.new.link_out in
     let plan = c.args.plan.now in
-    inl (dialed_once old mid new _ i _ o plan.route
+    rw (← c.client.view_is)
+    (inl (dialed_once old mid new _ i _ o plan.route
     (TunnelTalks page_due plan _ (g.O.Sink.state c.args.client_out.now).taken (g.O.Sink.state c.tunnel_over-talked.new.client_out).taken c.tunnel_over-talked.result)
     (e.goes_on.tells_same ∙ t) (rw c.as_bytes.ensures at (e.dials t)) told e.fresh
     (λ k. rw c.as_bytes.ensures at (e.coming k)) (λ k. rw c.as_bytes.ensures at (e.coming_left k)) e.goes_on c.hang_up.ensures.goes_on (e.cause.link_reads_same, e.cause.link_writes_same)
-    talked.in_goes_on (λ k. talked.link_calm k e.fresh.not_finished) c.hang_up.ensures.hung_up (talked.talks s told.in_tells told.out_tells u e.fresh page_due))
+    talked.in_goes_on (λ k. talked.link_calm k e.fresh.not_finished) c.hang_up.ensures.hung_up (talked.talks (rw (← c.client.view_is) at s) told.in_tells told.out_tells u e.fresh page_due)))

@@ -2,14 +2,24 @@ use Rattle.std.proofs.Common.{refl}
 use Rattle.px_serve.specs.Histories.{Begun, looks_of}
 use Rattle.px_serve.proofs.KeepingLemmas.{kept_is}
 use Rattle.px_serve.proofs.SessionLemmas.{turned_none, turned_one}
+use Rattle.px_serve.proofs.TakingLemmas.{fits_one, lawful_one, reads_received}
 use Rattle.px_serve.proofs.sessions.serve_request.Goals as goal
 
 pub returns-in-Ok-clause-turned : goal.returns-in-Ok-clause-turned
 returns-in-Ok-clause-turned g c =
     let looks = looks_of g.K.Configs.tells g.K.Configs.view g.K.Configs.pair g.K.Configs.coming in
+    let law = g.I.Inside.lawful in
+    let ins = g.I.Inside.state c.args.inside.now in
+    let ins' = g.I.Inside.state c.receive.new.inside in
     let now = c.now-moment.ensures in
-    let begun : Begun = record { number = c.current-snapshot.result.number; config = c.current-snapshot.result.config.now; moment = c.now-moment.result; concluded = c.answer-concluded.result } in
-    rw (c.end_after.ensures, c.count.ensures) (turned_one c.args.tags.now (looks c.args.configs.now) (looks c.look.new.self) c.args.ends.now _ c.answer-concluded.new.ends _ c.in-Ok.seen begun c.args.notes.now _
+    let begun : Begun = record {
+      number = c.current-snapshot.result.number;
+      config = c.current-snapshot.result.config.now;
+      moment = c.now-moment.result;
+      received = c.ok-received.result;
+      concluded = c.answer-concluded.result;
+    } in
+    rw (c.end_after.ensures, c.count.ensures) (turned_one law ins ins' (looks c.args.configs.now) (looks c.look.new.self) c.args.ends.now _ c.answer-concluded.new.ends _ c.in-Ok.seen begun c.args.notes.now _
     c.requires.limit (rw (← c.ends.view_is) at c.in-Ok.ensures)
     (record {
       looks_tell = refl;
@@ -22,7 +32,11 @@ returns-in-Ok-clause-turned g c =
       moment = now.given;
       moments_left = now.coming;
     })
-    now.goes_on (rw c.count.ensures at c.answer-concluded.ensures.answers) c.add.ensures)
+    now.goes_on
+    (reads_received c.in-Ok.seen c.receive.result begun.received c.ok-received.ensures.value c.receive.ensures.reads)
+    (lawful_one law ins ins' _ begun c.receive.result c.ok-received.ensures.value c.receive.ensures.takes)
+    (fits_one law ins ins' _ begun c.receive.result c.ok-received.ensures.value c.receive.ensures.takes c.receive.ensures.goes_on)
+    (rw (c.handed_of-handed.ensures, c.count.ensures) at c.answer-concluded.ensures.answers) c.add.ensures)
 
 pub answer-concluded-requires-clause-of : goal.answer-concluded-requires-clause-of
 answer-concluded-requires-clause-of g c lives outlives e =
@@ -34,4 +48,4 @@ returns-in-Ok-clause-kept g c =
     rw c.answer-concluded.ensures.same (c.look.ensures.goes_on.stands c.args.kept.now.number c.args.kept.now.config c.requires.kept)
 
 pub returns-in-Err-clause-turned : goal.returns-in-Err-clause-turned
-returns-in-Err-clause-turned g c = turned_none _ _ _ _ _ _ c.in-Err.ensures
+returns-in-Err-clause-turned g c = turned_none _ _ _ _ _ _ _ c.in-Err.ensures

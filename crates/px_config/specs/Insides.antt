@@ -1,0 +1,43 @@
+-- What contracts see of what gives takings, and what its calls do.
+use Rattle.std.specs.Prelude.{◌≡◌, ℕ, ◌≤◌, Bool, false, IsTrue, List, None}
+use Rattle.px_patterns.specs.declared.urls.Url.{Url}
+use Rattle.px_config.specs.declared.configs.Config.{Config}
+use Rattle.px_config.specs.declared.insides.Taking.{Taking}
+
+-- what a taking is asked for: by the configuration of that number, for a request of that URL, which may ask for a page, from a client
+-- with that address
+pub record Asked : Type 0 where
+  pub config : Config
+  pub number : ℕ
+  pub url : Url
+  pub page_request : Bool
+  pub peer : List ℕ
+
+abbrev pub asked : Config → ℕ → Url → Bool → List ℕ → Asked
+asked config number url page_request peer = record { config = config; number = number; url = url; page_request = page_request; peer = peer }
+
+-- which takings may be given for what is asked
+abbrev pub Law : Type 1
+Law = Asked → Taking → Type 0
+
+pub record InsideState : Type 1 where
+  -- which takings fit
+  pub fits : Law
+  -- whether what fits stays as it is, whatever is taken
+  pub steady : Bool
+  -- a number that never falls
+  pub place : ℕ
+
+-- what lasts, whatever is taken: what fits once, fits after; and where it is steady, nothing else does
+pub record InsideGoesOn (old new : InsideState) : Type 0 where
+  pub place_later : old.place ≤ new.place
+  pub fits_kept : (a : Asked) (t : Taking) → old.fits a t → new.fits a t
+  pub steady_kept : IsTrue old.steady → IsTrue new.steady
+  pub fits_only : IsTrue old.steady → (a : Asked) (t : Taking) → new.fits a t → old.fits a t
+
+-- a taking is lawful and fits, has the place where it was taken, and gives a page to page requests alone
+pub record GivesTaking (lawful : Law) (new : InsideState) (a : Asked) (t : Taking) : Type 0 where
+  pub by_law : lawful a t
+  pub fits : new.fits a t
+  pub place_now : t.place ≡ new.place
+  pub unasked : a.page_request ≡ false → t.page ≡ None

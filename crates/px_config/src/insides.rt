@@ -1,0 +1,51 @@
+// What is taken for a request of the proxy itself: the client's tags, and a page of the proxy's own.
+ghost use Rattle.std.specs.Prelude.{IfOk};
+ghost use Rattle.px_config.specs.Insides.{GivesTaking, InsideGoesOn, InsideState, Law, asked};
+
+use crate::configs::Config;
+use px_base::{List, Mem, Peer, Text};
+use px_patterns::Url;
+use std::alloc::Global;
+
+/// A page of the proxy's own.
+#[derive(Drop)]
+pub struct InsidePage {
+    /// Whether there is such a page; else the text says what was wrong.
+    pub found: bool,
+    pub body: Text,
+}
+
+/// What was taken for a request.
+#[derive(Drop)]
+pub struct Taking {
+    /// How far what gives takings had come; it never falls.
+    pub place: u64,
+    /// The client's tags.
+    pub tags: List<Text>,
+    /// The page of the proxy's own that answers the request, if one does.
+    pub page: Option<InsidePage>,
+}
+
+/// Gives the clients' tags and the pages of the proxy's own. What is taken for a request is lawful by the type alone, and fits
+/// the value: what fits once, fits after each later call.
+pub trait Inside: Send {
+    /// Which takings are lawful, whatever the value is.
+    ghost lawful: { Law };
+
+    /// What contracts see of it: which takings fit, whether that stays so, and its place.
+    ghost state: { Self → InsideState };
+
+    /// Takes what there is for a request of that URL, by the configuration of that number, from that client. Only a page request
+    /// is given a page. After `Mem` a change that the request asked for may have been made.
+    fn take(
+        &mut self,
+        alloc: Global,
+        config: &Config,
+        number: u64,
+        url: &Url,
+        page_request: bool,
+        peer: &Peer,
+    ) -> Result<Taking, Mem>
+        ensures gives { IfOk result (GivesTaking lawful (state self.new) (asked config.now number url.now page_request peer.now.address)) }
+        ensures goes_on { InsideGoesOn (state self.old) (state self.new) };
+}

@@ -1,0 +1,3 @@
+pub mod Paths
+pub mod Statuses
+pub mod Pages

@@ -1,0 +1,11 @@
+//! The pages of the proxy's own, which a browser is shown at `http://config.privoxy.org/` and `http://p.p/`.
+#![tactic(auto)]
+
+mod insides;
+mod pages;
+mod paths;
+mod statuses;
+mod url_infos;
+
+pub use insides::{BarePages, Pages};
+pub use pages::inside_page;
