@@ -47,7 +47,9 @@ class Proxy:
         with open(path, encoding="utf-8") as file:
             text = file.read()
         with open(path, "w", encoding="utf-8") as file:
-            file.write(text.replace("127.0.0.1:8118", "127.0.0.1:%d" % self.port))
+            # (what isn't answered by a page goes to a parent that nobody is, so that no name is looked up)
+            parent = "\nforward p.p 127.0.0.1:%d\n" % free_port()
+            file.write(text.replace("127.0.0.1:8118", "127.0.0.1:%d" % self.port) + parent)
         self.process = subprocess.Popen(
             [program, "serve", path, "8"], stderr=subprocess.DEVNULL
         )
@@ -99,7 +101,7 @@ def over_sockets(proxy):
     check("no address", proxy.asked("http://p.p/show-url-info?url=") == (404, "text/plain", "8 NotHttp\n"))
     status, _, text = proxy.asked("http://p.p/show-url-info?url=" + BLOCKED)
     check("what blocks an address", status == 200 and "\n+block{" in text and "default.action:" in text, text)
-    check("POST isn't answered by a page", proxy.asked("http://p.p/", "POST", b"x")[0] in (404, 503))
+    check("POST goes its usual way", proxy.asked("http://p.p/", "POST", b"x")[0] == 503)
     line = proxy.add(SECTION)
     # (the change is seen by the first connection behind it)
     status, _, text = proxy.asked("http://p.p/show-status")
