@@ -1,6 +1,6 @@
 #!/usr/bin/env python3
-"""Asks `serve` of the built programs with conf/ for the proxy's own pages: over sockets, and in Chromium, where a page is blocked, its
-link is followed, and what comes names file and line of the section that blocked it.
+"""Asks `serve` of the built programs with conf/ for the proxy's own pages: over sockets, also behind changes of files, and in Chromium,
+where a page is blocked, its link is followed, and what comes names file and line of the section that blocked it.
 
 Usage: inside.py PROGRAM..
 
@@ -25,6 +25,8 @@ CONF = os.path.join(HERE, "..", "conf")
 BLOCKED = "http://ads.example.net/offer"
 SECTION = "{+block{No by inside.py.}}\nwww.blocked.example/why\n"
 ASKED = "http://www.blocked.example/why?a=1&b=%20x"
+# How long a file lies before `serve` goes by its look alone (px_kept_files), and somewhat more.
+SETTLES = 2.5
 passed, failed = 0, []
 
 
@@ -95,7 +97,8 @@ def over_sockets(proxy):
     """The pages as a client sees them, and that they follow a change of the configuration."""
     check("the index", proxy.asked("http://p.p/") == (200, "text/plain", "pages:\n/show-status\n/show-url-info?url=\n"))
     status, _, text = proxy.asked("http://config.privoxy.org/show-status")
-    check("the state", status == 200 and number_of(text) == 0 and "\nlisten 127.0.0.1:%d\n" % proxy.port in text, text)
+    number = number_of(text)
+    check("the state", status == 200 and number is not None and "\nlisten 127.0.0.1:%d\n" % proxy.port in text, text)
     check("the state to HEAD", proxy.asked("http://p.p/show-status", "HEAD")[0::2] == (200, ""))
     check("no such page", proxy.asked("http://p.p/nothing") == (404, "text/plain", "no such page\n"))
     check("no address", proxy.asked("http://p.p/show-url-info?url=") == (404, "text/plain", "8 NotHttp\n"))
@@ -105,11 +108,36 @@ def over_sockets(proxy):
     line = proxy.add(SECTION)
     # (the change is seen by the first connection behind it)
     status, _, text = proxy.asked("http://p.p/show-status")
-    check("the number behind a change", number_of(text) == 1, text)
+    check("the number behind a change", number_of(text) == number + 1, text)
     text = proxy.asked("http://p.p/show-url-info?url=" + ASKED)[2]
     check("the section of a change", "\nuser.action:%d\n" % line in text and "+block{No by inside.py.}" in text, text)
     proxy.add("{+nonsense}\n/\n")
-    check("a fault keeps the number", number_of(proxy.asked("http://p.p/show-status")[2]) == 1)
+    check("a fault keeps the number", number_of(proxy.asked("http://p.p/show-status")[2]) == number + 1)
+
+
+def settled(proxy):
+    """A file that has lain for a while isn't read again as long as it looks the same; each change of it is still seen by the next
+    connection: in place, with as many bytes, and one that is put in its place with its time."""
+    path = os.path.join(proxy.conf, "user.action")
+    number = lambda: number_of(proxy.asked("http://p.p/show-status")[2])
+    proxy.add("{+block{one}}\nsettled.example\n")
+    seen = [number()]
+    time.sleep(SETTLES)
+    seen.append(number())
+    with open(path, encoding="utf-8") as file:
+        text = file.read()
+    with open(path, "r+", encoding="utf-8") as file:
+        file.write(text.replace("{one}", "{two}"))
+    seen.append(number())
+    time.sleep(SETTLES)
+    seen.append(number())
+    with open(path + ".new", "w", encoding="utf-8") as file:
+        file.write(text.replace("{one}", "{six}"))
+    os.utime(path + ".new", ns=(os.stat(path).st_atime_ns, os.stat(path).st_mtime_ns))
+    os.replace(path + ".new", path)
+    seen.append(number())
+    first = seen[0]
+    check("the numbers behind changes of a file that has settled", seen == [first, first, first + 1, first + 1, first + 2], seen)
 
 
 def hundred(proxy):
@@ -167,6 +195,7 @@ def main():
             proxy = Proxy(program, folder)
             try:
                 hundred(proxy)
+                settled(proxy)
                 over_sockets(proxy)
             finally:
                 proxy.end()
