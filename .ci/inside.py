@@ -166,7 +166,7 @@ def dumped(browser, folder, proxy, url):
         "--dump-dom",
         url,
     ]
-    return subprocess.run([browser, *words], capture_output=True, text=True, timeout=180).stdout
+    return subprocess.run([browser, *words], capture_output=True, text=True, timeout=600).stdout
 
 
 def in_chromium(browser, folder, program):
