@@ -1,5 +1,5 @@
 -- What contracts see of what gives takings, and what its calls do.
-use Rattle.std.specs.Prelude.{◌≡◌, ℕ, ◌≤◌, Bool, false, IsTrue, List, None}
+use Rattle.std.specs.Prelude.{◌≡◌, ℕ, ◌+◌, ◌≤◌, Bool, false, IsTrue, List, None}
 use Rattle.px_patterns.specs.declared.urls.Url.{Url}
 use Rattle.px_config.specs.declared.configs.Config.{Config}
 use Rattle.px_config.specs.declared.insides.Taking.{Taking}
@@ -27,6 +27,8 @@ pub record InsideState : Type 1 where
   pub steady : Bool
   -- a number that never falls
   pub place : ℕ
+  -- how many changes were made through it
+  pub changes : ℕ
 
 -- what lasts, whatever is taken: what fits once, fits after; and where it is steady, nothing else does
 pub record InsideGoesOn (old new : InsideState) : Type 0 where
@@ -41,3 +43,8 @@ pub record GivesTaking (lawful : Law) (new : InsideState) (a : Asked) (t : Takin
   pub fits : new.fits a t
   pub place_now : t.place ≡ new.place
   pub unasked : a.page_request ≡ false → t.page ≡ None
+
+-- a taking makes one change at most, and one only for a page request; that holds also where memory was wanting
+pub record ChangesLittle (old new : InsideState) (a : Asked) : Type 0 where
+  pub one : new.changes ≤ old.changes + 1
+  pub unasked : a.page_request ≡ false → new.changes ≡ old.changes

@@ -1,6 +1,6 @@
 // What is taken for a request of the proxy itself: the client's tags, and a page of the proxy's own.
 ghost use Rattle.std.specs.Prelude.{IfOk};
-ghost use Rattle.px_config.specs.Insides.{GivesTaking, InsideGoesOn, InsideState, Law, asked};
+ghost use Rattle.px_config.specs.Insides.{ChangesLittle, GivesTaking, InsideGoesOn, InsideState, Law, asked};
 
 use crate::configs::Config;
 use px_base::{List, Mem, Peer, Text};
@@ -32,11 +32,12 @@ pub trait Inside: Send {
     /// Which takings are lawful, whatever the value is.
     ghost lawful: { Law };
 
-    /// What contracts see of it: which takings fit, whether that stays so, and its place.
+    /// What contracts see of it: which takings fit, whether that stays so, its place, and how many changes were made through it.
     ghost state: { Self → InsideState };
 
     /// Takes what there is for a request of that URL, by the configuration of that number, from that client. Only a page request
-    /// is given a page. After `Mem` a change that the request asked for may have been made.
+    /// is given a page, and only one makes a change, which is one at most. After `Mem` a change that the request asked for may have
+    /// been made.
     fn take(
         &mut self,
         alloc: Global,
@@ -47,5 +48,6 @@ pub trait Inside: Send {
         peer: &Peer,
     ) -> Result<Taking, Mem>
         ensures gives { IfOk result (GivesTaking lawful (state self.new) (asked config.now number url.now page_request peer.now.address)) }
+        ensures changes { ChangesLittle (state self.old) (state self.new) (asked config.now number url.now page_request peer.now.address) }
         ensures goes_on { InsideGoesOn (state self.old) (state self.new) };
 }

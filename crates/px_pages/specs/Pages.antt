@@ -81,6 +81,6 @@ pub record FitsPages (given : List (List ℕ)) (a : Asked) (t : Taking) : Type 0
 abbrev pub BareLaw : Law
 BareLaw = FitsPages []
 
--- takings fit by that law and no other, whatever is taken
+-- takings fit by that law and no other, whatever is taken, and none changes anything
 abbrev pub pages_state : Law → InsideState
-pages_state law = record { fits = law; steady = true; place = 0 }
+pages_state law = record { fits = law; steady = true; place = 0; changes = 0 }
