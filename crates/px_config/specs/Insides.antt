@@ -33,6 +33,7 @@ pub record InsideState : Type 1 where
 -- what lasts, whatever is taken: what fits once, fits after; and where it is steady, nothing else does
 pub record InsideGoesOn (old new : InsideState) : Type 0 where
   pub place_later : old.place ≤ new.place
+  pub changes_later : old.changes ≤ new.changes
   pub fits_kept : (a : Asked) (t : Taking) → old.fits a t → new.fits a t
   pub steady_kept : IsTrue old.steady → IsTrue new.steady
   pub fits_only : IsTrue old.steady → (a : Asked) (t : Taking) → new.fits a t → old.fits a t

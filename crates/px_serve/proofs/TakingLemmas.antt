@@ -1,5 +1,5 @@
 -- One taking after another.
-use Rattle.std.proofs.Common.{◌≡◌, ℕ, ◌≤◌, List, [], ◌∷◌, ◌++◌, Option, None, Some, Result, Ok, Err, subst, sym, arith}
+use Rattle.std.proofs.Common.{◌≡◌, ℕ, Bool, true, false, ◌+◌, ◌≤◌, List, [], ◌∷◌, ◌++◌, Option, None, Some, Result, Ok, Err, subst, sym, refl, arith}
 use Rattle.std.specs.Prelude.{All, IfOk}
 use Rattle.std.specs.Result.{result_ok}
 use Rattle.std.proofs.lemmas.List.Elements.{All-append, All-cons, All-nil, All-weaker}
@@ -9,9 +9,9 @@ use Rattle.px_config.specs.declared.insides.Taking.{Taking}
 use Rattle.px_judging.specs.declared.readings.HeadSeen.{HeadSeen}
 use Rattle.px_judging.specs.Readings.{ReadsAs}
 use Rattle.px_serve.specs.Histories.{Begun}
-use Rattle.px_serve.specs.Receiving.{IsPlaceNow, TakesFor}
+use Rattle.px_serve.specs.Receiving.{ChangesFor, IsPlaceNow, TakesFor}
 use Rattle.px_serve.specs.Sessions.{ReadsReceived}
-use Rattle.px_serve.specs.Takings.{Fits, PlacesRise, PlaceRises, Suits, SuitsBegun, SuitsReceived, asks, place_received, place_taken}
+use Rattle.px_serve.specs.Takings.{Fits, PlacesRise, PlaceRises, Suits, SuitsBegun, SuitsReceived, asks, changing, may_change, place_received, place_taken}
 use Rattle.px_serve.specs.declared.receiving.Received.{Received}
 
 -- ---- another law
@@ -50,22 +50,42 @@ rises_more : (p q r : ℕ) (xs ys : List Begun) → PlacesRise p xs q → Places
 rises_more p q r [] ys h k = rises_below p q r ys h k
 rises_more p q r (x ∷ xs) ys h k = then_more (place_received x.received) (λ (n : ℕ). PlacesRise n xs q) (λ (n : ℕ). PlacesRise n (xs ++ ys) r) p (λ n rest. rises_more n q r xs ys rest k) h
 
+-- ---- changes
+
+changing_more : (xs ys : List Begun) → changing (xs ++ ys) ≡ changing xs + changing ys
+changing_more xs ys =
+    ap (λ (zs : List Begun). length zs) (filter-append (λ (b : Begun). may_change b.received) xs ys) ∙ length-append (filter kept xs) (filter kept ys)
+  where
+    kept : Begun → Bool
+    kept b = may_change b.received
+
+changes_more : (a b c : ℕ) (xs ys : List Begun) → b ≤ a + changing xs → c ≤ b + changing ys → c ≤ a + changing (xs ++ ys)
+changes_more a b c xs ys h k = rw (changing_more xs ys) (omega (arith, h, k))
+
+changes_one : (p q : ℕ) (b : Begun) → ChangesFor p q b.received → q ≤ p + changing (b ∷ [])
+changes_one p q b h = by (may_change b.received) refl
+  where
+    by : (m : Bool) → may_change b.received ≡ m → q ≤ p + changing (b ∷ [])
+    by true e = rw e (rw e at h)
+    by false e = rw e (rw e at h)
+
 -- ---- what fits
 
 inside_goes_on : {a b c : InsideState} → InsideGoesOn a b → InsideGoesOn b c → InsideGoesOn a c
 inside_goes_on h k = record {
   place_later = omega (arith, h.place_later, k.place_later);
+  changes_later = omega (arith, h.changes_later, k.changes_later);
   fits_kept = λ a t f. k.fits_kept a t (h.fits_kept a t f);
   steady_kept = λ s. k.steady_kept (h.steady_kept s);
   fits_only = λ s a t f. h.fits_only s a t (k.fits_only (h.steady_kept s) a t f);
 }
 
 inside_same : (ins : InsideState) → InsideGoesOn ins ins
-inside_same ins = record { place_later = omega arith; fits_kept = λ a t f. f; steady_kept = λ s. s; fits_only = λ s a t f. f }
+inside_same ins = record { place_later = omega arith; changes_later = omega arith; fits_kept = λ a t f. f; steady_kept = λ s. s; fits_only = λ s a t f. f }
 
 -- no exchange
 pub fits_none : (ins : InsideState) (peer : List ℕ) → Fits ins ins peer []
-fits_none ins peer = record { each = All-nil (SuitsBegun ins.fits peer); rises = omega arith; goes_on = inside_same ins }
+fits_none ins peer = record { each = All-nil (SuitsBegun ins.fits peer); rises = omega arith; changes = omega arith; goes_on = inside_same ins }
 
 -- what fits once, fits after
 pub fits_more : (a b c : InsideState) (now peer : List ℕ) (xs ys : List Begun) → now ≡ peer → Fits a b peer xs → Fits b c now ys → Fits a c peer (xs ++ ys)
@@ -74,6 +94,7 @@ fits_more a b c now peer xs ys same h k =
     record {
       each = All-append (SuitsBegun c.fits peer) xs ys (all_suit b.fits c.fits more.goes_on.fits_kept peer xs h.each) more.each;
       rises = rises_more a.place b.place c.place xs ys h.rises more.rises;
+      changes = changes_more a.changes b.changes c.changes xs ys h.changes more.changes;
       goes_on = inside_goes_on h.goes_on more.goes_on;
     }
 
@@ -118,9 +139,10 @@ lawful_one law old new peer b r is h =
     All-cons (SuitsBegun law peer) b [] (subst (λ (o : Option Received). SuitsReceived law b.config b.number peer o) (sym is) (lawful_received law old new b.config b.number peer r h)) (All-nil (SuitsBegun law peer))
 
 pub fits_one : {E : Type 0} (law : Law) (old new : InsideState) (peer : List ℕ) (b : Begun) (r : Result Received E) → b.received ≡ result_ok r
-    → TakesMaybe law old new b.config b.number peer r → InsideGoesOn old new → Fits old new peer (b ∷ [])
-fits_one law old new peer b r is h on = record {
+    → TakesMaybe law old new b.config b.number peer r → ChangesFor old.changes new.changes (result_ok r) → InsideGoesOn old new → Fits old new peer (b ∷ [])
+fits_one law old new peer b r is h few on = record {
   each = All-cons (SuitsBegun new.fits peer) b [] (subst (λ (o : Option Received). SuitsReceived new.fits b.config b.number peer o) (sym is) (fits_received law old new b.config b.number peer r h)) (All-nil (SuitsBegun new.fits peer));
   rises = subst (λ (o : Option Received). PlaceRises (place_received o) (λ (x : ℕ). x ≤ new.place) old.place) (sym is) (rises_received law old new b.config b.number peer r on.place_later h);
+  changes = changes_one old.changes new.changes b (subst (λ (o : Option Received). ChangesFor old.changes new.changes o) (sym is) few);
   goes_on = on;
 }

@@ -1,5 +1,5 @@
 -- What was taken for the requests of a session.
-use Rattle.std.specs.Prelude.{◌≡◌, ℕ, ◌≤◌, Bool, List, [], ◌∷◌, Option, None, Some, All}
+use Rattle.std.specs.Prelude.{◌≡◌, ℕ, ◌+◌, ◌≤◌, Bool, true, false, List, [], ◌∷◌, length, filter, Option, None, Some, All}
 use Rattle.px_config.specs.Insides.{Asked, InsideGoesOn, InsideState, Law, asked}
 use Rattle.px_config.specs.declared.configs.Config.{Config}
 use Rattle.px_config.specs.declared.insides.InsidePage.{InsidePage}
@@ -66,8 +66,26 @@ abbrev pub PlacesRise : ℕ → List Begun → ℕ → Type 0
 PlacesRise p [] q = p ≤ q
 PlacesRise p (b ∷ bs) q = PlaceRises (place_received b.received) (λ place. PlacesRise place bs q) p
 
--- each taking fits what gave it, in the state that it came to, and their places never fall
+-- whether a page was asked for
+abbrev pub asks_page : HeadReading → Bool
+asks_page reading.Overlong = false
+asks_page reading.Malformed = false
+asks_page reading.TooManyFields = false
+asks_page (reading.NoTarget head fault) = false
+asks_page (reading.Request head url rule) = is_page_request head rule
+
+-- whether a request may have made a change: one for a page, or one of which memory was wanting to tell
+abbrev pub may_change : Option Received → Bool
+may_change None = true
+may_change (Some r) = asks_page r.reading
+
+-- how many of the exchanges may have made one
+abbrev pub changing : List Begun → ℕ
+changing begun = length (filter (λ b. may_change b.received) begun)
+
+-- each taking fits what gave it, in the state that it came to, their places never fall, and each made one change at most
 pub record Fits (old new : InsideState) (peer : List ℕ) (begun : List Begun) : Type 0 where
   pub each : All (SuitsBegun new.fits peer) begun
   pub rises : PlacesRise old.place begun new.place
+  pub changes : new.changes ≤ old.changes + changing begun
   pub goes_on : InsideGoesOn old new

@@ -1,9 +1,10 @@
 // What is received for a request: what its head reads as, and what is taken for it.
 ghost use Rattle.std.specs.Prelude.{◌≡◌, IfOk};
+ghost use Rattle.std.specs.Result.{result_ok};
 ghost use Rattle.px_config.specs.Insides.{InsideGoesOn};
 ghost use Rattle.px_judging.specs.Readings.{ReadsAs};
 ghost use Rattle.px_serve.specs.Takings.{asks, handed_of};
-ghost use Rattle.px_serve.specs.Receiving.{TakesFor};
+ghost use Rattle.px_serve.specs.Receiving.{ChangesFor, TakesFor};
 
 use px_base::{List, Mem, Peer};
 use px_config::{Config, Inside, Taking};
@@ -19,7 +20,7 @@ pub struct Received {
     pub taken: Option<Taking>,
 }
 
-/// Reads what was seen, and takes what there is for it.
+/// Reads what was seen, and takes what there is for it: once, so that a request makes one change at most.
 pub fn receive<I: Inside>(
     alloc: Global,
     seen: &HeadSeen,
@@ -29,6 +30,7 @@ pub fn receive<I: Inside>(
 ) -> Result<Received, Mem>
     ensures reads { IfOk result (λ r. ReadsAs seen.now r.reading) }
     ensures takes { IfOk result (λ r. TakesFor I.lawful (I.state inside.old) (I.state inside.new) (asks snapshot.now.config.now snapshot.now.number peer.now.address r.reading) r.taken) }
+    ensures changes { ChangesFor (I.state inside.old).changes (I.state inside.new).changes (result_ok result) }
     ensures goes_on { InsideGoesOn (I.state inside.old) (I.state inside.new) }
 {
     match read_request(alloc, seen)? {
