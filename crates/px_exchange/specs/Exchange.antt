@@ -27,7 +27,7 @@ use Rattle.px_exchange.specs.Tunnels.{Tunnels}
 
 -- what the answer to a request that is sent on becomes
 abbrev pub asking : Config → Plan → Ask
-asking config plan = ask_of config plan.asked (page_due config plan.url plan.route plan.bodiless)
+asking config plan = ask_of config plan.errand.asked (page_due config plan.url plan.route plan.bodiless)
 
 -- the page that is returned in place of a tunnel
 abbrev pub tunnel_page_due : Config → TunnelPlan → Page → Due
@@ -42,7 +42,7 @@ Replies config reply c old new taken taken' x = (new ≡ old) × (c.behind ≡ c
 abbrev pub Does : Config → Judgement → Client → DialerState → DialerState → List ℕ → List ℕ → Conclusion → Type 0
 Does config (judgement.Local reply) c old new taken taken' x = Replies config reply c old new taken taken' x
 Does config (judgement.Forward plan) c old new taken taken' x =
-    DialsOnce plan.route (Forwards (asking config plan) plan.route plan.message c (concluded taken' x) taken) old new
+    DialsOnce plan.route (Forwards (asking config plan) plan.route plan.errand.message c (concluded taken' x) taken) old new
 Does config (judgement.Tunnel t) c old new taken taken' x =
     DialsOnce t.route (Tunnels (tunnel_page_due config t) t c (concluded taken' x) taken) old new
 
@@ -50,7 +50,7 @@ Does config (judgement.Tunnel t) c old new taken taken' x =
 abbrev pub WantsForward : Config → Plan → Client → DialerState → DialerState → List ℕ → List ℕ → Type 0
 WantsForward config plan c old new taken taken' =
     (IsUntouched c old new × (taken' ≡ taken))
-    ⊎ DialsOnce plan.route (WantsOver (asking config plan) plan.route plan.message c taken taken') old new
+    ⊎ DialsOnce plan.route (WantsOver (asking config plan) plan.route plan.errand.message c taken taken') old new
 
 -- memory was wanting in a reply without a dial
 abbrev pub WantsReply : Config → LocalReply → Client → DialerState → DialerState → List ℕ → List ℕ → Type 0
@@ -79,7 +79,7 @@ TalksOn ask route m c old new taken taken' t =
 -- a request that is sent on was concluded, or memory was wanting
 abbrev pub ForwardsSome : Config → Plan → Client → DialerState → DialerState → List ℕ → List ℕ → Conclusion → Type 0
 ForwardsSome config plan c old new taken taken' x =
-    DialsOnce plan.route (Forwards (asking config plan) plan.route plan.message c (concluded taken' x) taken) old new
+    DialsOnce plan.route (Forwards (asking config plan) plan.route plan.errand.message c (concluded taken' x) taken) old new
     ⊎ ((x ≡ broken after.NoMemory) × WantsForward config plan c old new taken taken')
 
 -- a tunnel was concluded, or memory was wanting

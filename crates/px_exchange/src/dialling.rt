@@ -16,7 +16,8 @@ use crate::forwarding::talk_over;
 use px_base::{DialFault, Dialer, Sink, Source};
 use px_config::Running;
 use px_decide::Route;
-use px_notes::{After, Asked, Message, broken};
+use px_judging::Errand;
+use px_notes::{After, broken};
 use px_pumps::Talked;
 use px_streams::Feed;
 use px_templates::Page;
@@ -49,15 +50,14 @@ pub fn dial_and_send<S: Source, D: Dialer, O: Sink>(
     alloc: Global,
     running: &mut Running<'_>,
     route: &Route,
-    message: &Message,
-    asked: Asked,
+    errand: Errand,
     client: &mut Feed<S>,
     client_out: &mut O,
     dialer: &mut D,
 ) -> Talked
     ensures talks { IsTrue client.old.source.tells → IsTrue (O.state client_out.old).tells → IsTrue (D.state dialer.old).tells
         → (page_due : page.Page → due.Due)
-        → TalksOn (ask_of running.old asked page_due) route.now message.now
+        → TalksOn (ask_of running.old errand.asked page_due) route.now errand.message
         (record { stream = bytes_behind client.old; behind = bytes_behind client.new })
         (D.state dialer.old) (D.state dialer.new) (O.state client_out.old).taken (O.state client_out.new).taken result }
     ensures read_cause { TalkReadCause client.old.source client.new.source result }
@@ -74,8 +74,7 @@ pub fn dial_and_send<S: Source, D: Dialer, O: Sink>(
             let talked = talk_over(
                 alloc,
                 running,
-                message,
-                asked,
+                errand,
                 client,
                 &mut link_in,
                 &mut link_out,

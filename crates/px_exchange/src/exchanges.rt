@@ -76,13 +76,10 @@ fn forward<S: Source, O: Sink, D: Dialer>(
     let Plan {
         url,
         route,
-        message,
-        asked,
+        errand,
         bodiless,
     } = plan;
-    match dial_and_send(
-        alloc, running, &route, &message, asked, client, client_out, dialer,
-    ) {
+    match dial_and_send(alloc, running, &route, errand, client, client_out, dialer) {
         Talked::Page(page) => {
             return_page(alloc, config, &url, &route, bodiless, page, client_out)
         }

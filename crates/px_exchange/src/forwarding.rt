@@ -13,7 +13,8 @@ ghost use Rattle.px_exchange.specs.Forwarding.{TalksOverLink, link_seen, stopped
 
 use px_base::{Sink, Source};
 use px_config::Running;
-use px_notes::{After, Asked, Message, Sent, broken};
+use px_judging::Errand;
+use px_notes::{After, Sent, broken};
 use px_pumps::{Talked, return_answer};
 use px_sending::send;
 use px_streams::Feed;
@@ -39,8 +40,7 @@ fn stopped(sent: Sent) -> Option<Talked>
 pub fn talk_over<S: Source, I: Source, P: Sink, O: Sink>(
     alloc: Global,
     running: &mut Running<'_>,
-    message: &Message,
-    asked: Asked,
+    errand: Errand,
     client: &mut Feed<S>,
     link_in: &mut I,
     link_out: &mut P,
@@ -49,7 +49,7 @@ pub fn talk_over<S: Source, I: Source, P: Sink, O: Sink>(
     ensures talks { IsTrue client.old.source.tells → IsTrue (I.state link_in.old).tells → IsTrue (P.state link_out.old).tells → IsTrue (O.state client_out.old).tells
         → IsFresh (record { link_in = I.state link_in.old; link_out = P.state link_out.old })
         → (page_due : page.Page → due.Due)
-        → TalksOverLink (ask_of running.old asked page_due) message.now
+        → TalksOverLink (ask_of running.old errand.asked page_due) errand.message
         (record { stream = bytes_behind client.old; behind = bytes_behind client.new })
         (O.state client_out.old).taken (O.state client_out.new).taken result (link_seen (I.state link_in.new) (P.state link_out.new)) }
     ensures read_cause { TalkReadCause client.old.source client.new.source result }
@@ -63,9 +63,10 @@ pub fn talk_over<S: Source, I: Source, P: Sink, O: Sink>(
     ensures goes_on { SinkGoesOn (O.state client_out.old) (O.state client_out.new) }
     ensures same { running.new ≡ running.old }
 {
+    let Errand { message, asked } = errand;
     let sent = send(
         alloc,
-        message,
+        &message,
         &mut client.source,
         &mut client.ahead,
         link_out,

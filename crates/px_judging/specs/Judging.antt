@@ -90,19 +90,21 @@ plan_by config moment front t vars out =
     record {
       url = out.url;
       route = route;
-      message = record {
-        head = sent_head front.method out.url route.parent (is_on t.set action.DowngradeHttpVersion) out.fields front.rule;
-        rule = front.rule;
-        expects = front.expects;
-      };
-      asked = record {
-        method = front.method;
-        minor = front.minor;
-        keep = front.keep;
-        set = t.set;
-        tags = t.tags;
-        vars = vars;
-        moment = moment;
+      errand = record {
+        message = record {
+          head = sent_head front.method out.url route.parent (is_on t.set action.DowngradeHttpVersion) out.fields front.rule;
+          rule = front.rule;
+          expects = front.expects;
+        };
+        asked = record {
+          method = front.method;
+          minor = front.minor;
+          keep = front.keep;
+          set = t.set;
+          tags = t.tags;
+          vars = vars;
+          moment = moment;
+        };
       };
       bodiless = front.bodiless;
     }

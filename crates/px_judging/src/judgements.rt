@@ -5,14 +5,20 @@ use px_decide::Route;
 use px_notes::{Asked, Message};
 use px_patterns::Url;
 
-/// A request that is sent on: its destination, where to, what is sent, and what was asked.
+/// A request that is sent on: what is sent, and what it asked for, by which its answer is returned.
+#[derive(Drop)]
+pub struct Errand {
+    pub message: Message,
+    pub asked: Asked,
+}
+
+/// What is planned for a request that is sent on: its destination, where to, and the errand.
 #[derive(Drop)]
 pub struct Plan {
     /// The URL of the destination, which a header filter may have changed.
     pub url: Url,
     pub route: Route,
-    pub message: Message,
-    pub asked: Asked,
+    pub errand: Errand,
     /// Whether a page in place of the answer has no body, as in a reply to HEAD.
     pub bodiless: bool,
 }

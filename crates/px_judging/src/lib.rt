@@ -13,7 +13,7 @@ mod tagging;
 mod targets;
 
 pub use handed::Handed;
-pub use judgements::{Judgement, Plan, TunnelPlan};
+pub use judgements::{Errand, Judgement, Plan, TunnelPlan};
 pub use judging::judge;
 pub use readings::{HeadReading, HeadSeen, read_request};
 pub use replies::{LocalReply, ReplyKind, reply_bytes, url_symbols};

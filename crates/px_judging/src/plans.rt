@@ -4,7 +4,7 @@ ghost use Rattle.px_judging.specs.Judging.{plan_by, tunnel_of};
 ghost use Rattle.px_judging.specs.Sending.{next_target, sent_head};
 
 use crate::connects::{greeting, tunnel_head};
-use crate::judgements::{Plan, TunnelPlan};
+use crate::judgements::{Errand, Plan, TunnelPlan};
 use crate::requests::{Request, RequestTags};
 use px_actions::Kind;
 use px_base::{Mem, Text};
@@ -109,8 +109,7 @@ pub fn plan_by(
     Ok(Plan {
         url,
         route,
-        message,
-        asked,
+        errand: Errand { message, asked },
         bodiless: front.bodiless,
     })
 }

@@ -172,9 +172,9 @@ does_alone : (config : Config) (j : Judgement) (c : Client) (old new : DialerSta
     → Does config j c old new taken taken' x → Alone old (Does config j c (with_heard old) (with_heard new) taken taken' x)
 does_alone config (judgement.Local reply) c old new taken taken' x all n h = record { before = undialled old new h.0 all; same = (ap with_heard h.0, h.1, h.2) }
 does_alone config (judgement.Forward plan) c old new taken taken' x all n h = record {
-  before = (before_last plan.route (Forwards (asking config plan) plan.route plan.message c (concluded taken' x) taken) old new all h).0;
-  same = dials_heard plan.route (Forwards (asking config plan) plan.route plan.message c (concluded taken' x) taken) (Forwards (asking config plan) plan.route plan.message c (concluded taken' x) taken) old new
-      (λ o w f. forwards_heard (asking config plan) plan.route plan.message c (concluded taken' x) taken o w f) all h;
+  before = (before_last plan.route (Forwards (asking config plan) plan.route plan.errand.message c (concluded taken' x) taken) old new all h).0;
+  same = dials_heard plan.route (Forwards (asking config plan) plan.route plan.errand.message c (concluded taken' x) taken) (Forwards (asking config plan) plan.route plan.errand.message c (concluded taken' x) taken) old new
+      (λ o w f. forwards_heard (asking config plan) plan.route plan.errand.message c (concluded taken' x) taken o w f) all h;
 }
 does_alone config (judgement.Tunnel t) c old new taken taken' x all n h = record {
   before = (before_last t.route (Tunnels (tunnel_page_due config t) t c (concluded taken' x) taken) old new all h).0;

@@ -20,7 +20,7 @@ returns-in-Ok-clause-talks g c s u t page_due =
     let i = g.D.In.Source.state c.talk_over-talked.new.link_in in
     let o = g.D.Out.Sink.state c.talk_over-talked.new.link_out in
     inl (dialed_once old mid new _ i _ o c.args.route.now
-    (TalksOver (ask_of c.args.running.now c.args.asked page_due) c.args.route.now c.args.message.now _ (g.O.Sink.state c.args.client_out.now).taken (g.O.Sink.state c.talk_over-talked.new.client_out).taken c.talk_over-talked.result)
+    (TalksOver (ask_of c.args.running.now c.args.errand.asked page_due) c.args.route.now c.args.errand.message _ (g.O.Sink.state c.args.client_out.now).taken (g.O.Sink.state c.talk_over-talked.new.client_out).taken c.talk_over-talked.result)
     (e.goes_on.tells_same ∙ t) (rw c.as_bytes.ensures at (e.dials t)) told e.fresh
     (λ k. rw c.as_bytes.ensures at (e.coming k)) (λ k. rw c.as_bytes.ensures at (e.coming_left k)) e.goes_on c.hang_up.ensures.goes_on (e.cause.link_reads_same, e.cause.link_writes_same)
     talked.in_goes_on (λ s. (talked.out_goes_on.steady_kept s (talked.link_open ∙ e.fresh.not_finished)).1) c.hang_up.ensures.hung_up (talked.talks s told.in_tells told.out_tells u e.fresh page_due))

@@ -12,8 +12,8 @@ returns-in-Page-clause-forwards g c s u t =
     let plan = c.args.plan in
     let ask = asking c.args.running.now plan in
     let taken = (g.O.Sink.state c.args.client_out.now).taken in
-    page_dialled ask.page_due plan.route (λ says o. Forwards ask plan.route plan.message _ says taken o) (λ taken' o. WantsOver ask plan.route plan.message _ taken taken' o) _
-    (forwards_by_end ask plan.route plan.message _ taken)
+    page_dialled ask.page_due plan.route (λ says o. Forwards ask plan.route plan.errand.message _ says taken o) (λ taken' o. WantsOver ask plan.route plan.errand.message _ taken taken' o) _
+    (forwards_by_end ask plan.route plan.errand.message _ taken)
     (g.D.Dialer.state c.args.dialer.now) (g.D.Dialer.state c.dial_and_send.new.dialer) taken _ _ c.in-Page.page c.return_page.result
     (rw c.config-config.ensures at (c.return_page.ensures.returns (talked.out_goes_on.tells_same ∙ u)))
     (rw c.in-Page.is at (talked.talks s u t (page_due c.args.running.now plan.url plan.route plan.bodiless)))
@@ -23,7 +23,7 @@ returns-clause-forwards g c s u t =
     let plan = c.args.plan in
     let ask = asking c.args.running.now plan in
     let taken = (g.O.Sink.state c.args.client_out.now).taken in
-    ended_dialled ask.page_due plan.route (λ says o. Forwards ask plan.route plan.message _ says taken o) (λ taken' o. WantsOver ask plan.route plan.message _ taken taken' o) _
-    (forwards_by_end ask plan.route plan.message _ taken)
+    ended_dialled ask.page_due plan.route (λ says o. Forwards ask plan.route plan.errand.message _ says taken o) (λ taken' o. WantsOver ask plan.route plan.errand.message _ taken taken' o) _
+    (forwards_by_end ask plan.route plan.errand.message _ taken)
     (g.D.Dialer.state c.args.dialer.now) (g.D.Dialer.state c.dial_and_send.new.dialer) taken _ c.in-Ended.conclusion
     (rw c.in-Ended.is at (c.dial_and_send.ensures.talks s u t (page_due c.args.running.now plan.url plan.route plan.bodiless)))
