@@ -11,7 +11,7 @@ use Rattle.px_judging.specs.Readings.{ReadsAs}
 use Rattle.px_serve.specs.Histories.{Begun}
 use Rattle.px_serve.specs.Receiving.{ChangesFor, IsPlaceNow, TakesFor}
 use Rattle.px_serve.specs.Sessions.{ReadsReceived}
-use Rattle.px_serve.specs.Takings.{Fits, PlacesRise, PlaceRises, Suits, SuitsBegun, SuitsReceived, asks, changing, may_change, place_received, place_taken}
+use Rattle.px_serve.specs.Takings.{Fits, HasPageIfAsked, PageIfAsked, PlacesRise, PlaceRises, Suits, SuitsBegun, SuitsReceived, asks, changing, may_change, place_received, place_taken}
 use Rattle.px_serve.specs.declared.receiving.Received.{Received}
 
 -- ---- another law
@@ -85,7 +85,7 @@ inside_same ins = record { place_later = omega arith; changes_later = omega arit
 
 -- no exchange
 pub fits_none : (ins : InsideState) (peer : List ℕ) → Fits ins ins peer []
-fits_none ins peer = record { each = All-nil (SuitsBegun ins.fits peer); rises = omega arith; changes = omega arith; goes_on = inside_same ins }
+fits_none ins peer = record { each = All-nil (SuitsBegun ins.fits peer); rises = omega arith; pages = All-nil HasPageIfAsked; changes = omega arith; goes_on = inside_same ins }
 
 -- what fits once, fits after
 pub fits_more : (a b c : InsideState) (now peer : List ℕ) (xs ys : List Begun) → now ≡ peer → Fits a b peer xs → Fits b c now ys → Fits a c peer (xs ++ ys)
@@ -94,6 +94,7 @@ fits_more a b c now peer xs ys same h k =
     record {
       each = All-append (SuitsBegun c.fits peer) xs ys (all_suit b.fits c.fits more.goes_on.fits_kept peer xs h.each) more.each;
       rises = rises_more a.place b.place c.place xs ys h.rises more.rises;
+      pages = All-append HasPageIfAsked xs ys h.pages more.pages;
       changes = changes_more a.changes b.changes c.changes xs ys h.changes more.changes;
       goes_on = inside_goes_on h.goes_on more.goes_on;
     }
@@ -139,10 +140,11 @@ lawful_one law old new peer b r is h =
     All-cons (SuitsBegun law peer) b [] (subst (λ (o : Option Received). SuitsReceived law b.config b.number peer o) (sym is) (lawful_received law old new b.config b.number peer r h)) (All-nil (SuitsBegun law peer))
 
 pub fits_one : {E : Type 0} (law : Law) (old new : InsideState) (peer : List ℕ) (b : Begun) (r : Result Received E) → b.received ≡ result_ok r
-    → TakesMaybe law old new b.config b.number peer r → ChangesFor old.changes new.changes (result_ok r) → InsideGoesOn old new → Fits old new peer (b ∷ [])
-fits_one law old new peer b r is h few on = record {
+    → TakesMaybe law old new b.config b.number peer r → PageIfAsked (result_ok r) → ChangesFor old.changes new.changes (result_ok r) → InsideGoesOn old new → Fits old new peer (b ∷ [])
+fits_one law old new peer b r is h paged few on = record {
   each = All-cons (SuitsBegun new.fits peer) b [] (subst (λ (o : Option Received). SuitsReceived new.fits b.config b.number peer o) (sym is) (fits_received law old new b.config b.number peer r h)) (All-nil (SuitsBegun new.fits peer));
   rises = subst (λ (o : Option Received). PlaceRises (place_received o) (λ (x : ℕ). x ≤ new.place) old.place) (sym is) (rises_received law old new b.config b.number peer r on.place_later h);
+  pages = All-cons HasPageIfAsked b [] (subst (λ (o : Option Received). PageIfAsked o) (sym is) paged) (All-nil HasPageIfAsked);
   changes = changes_one old.changes new.changes b (subst (λ (o : Option Received). ChangesFor old.changes new.changes o) (sym is) few);
   goes_on = on;
 }

@@ -74,6 +74,14 @@ asks_page reading.TooManyFields = false
 asks_page (reading.NoTarget head fault) = false
 asks_page (reading.Request head url rule) = is_page_request head rule
 
+-- a page is there for a request that asks for one alone
+abbrev pub PageIfAsked : Option Received → Type 0
+PageIfAsked None = Unit {0}
+PageIfAsked (Some r) = asks_page r.reading ≡ false → page_taken r.taken ≡ None
+
+abbrev pub HasPageIfAsked : Begun → Type 0
+HasPageIfAsked b = PageIfAsked b.received
+
 -- whether a request may have made a change: one for a page, or one of which memory was wanting to tell
 abbrev pub may_change : Option Received → Bool
 may_change None = true
@@ -83,9 +91,11 @@ may_change (Some r) = asks_page r.reading
 abbrev pub changing : List Begun → ℕ
 changing begun = length (filter (λ b. may_change b.received) begun)
 
--- each taking fits what gave it, in the state that it came to, their places never fall, and each made one change at most
+-- each taking fits what gave it, in the state that it came to, and has a page only where one is asked for; their places never fall, and
+-- each made one change at most
 pub record Fits (old new : InsideState) (peer : List ℕ) (begun : List Begun) : Type 0 where
   pub each : All (SuitsBegun new.fits peer) begun
   pub rises : PlacesRise old.place begun new.place
+  pub pages : All HasPageIfAsked begun
   pub changes : new.changes ≤ old.changes + changing begun
   pub goes_on : InsideGoesOn old new

@@ -3,7 +3,7 @@ ghost use Rattle.std.specs.Prelude.{◌≡◌, IfOk};
 ghost use Rattle.std.specs.Result.{result_ok};
 ghost use Rattle.px_config.specs.Insides.{InsideGoesOn};
 ghost use Rattle.px_judging.specs.Readings.{ReadsAs};
-ghost use Rattle.px_serve.specs.Takings.{asks, handed_of};
+ghost use Rattle.px_serve.specs.Takings.{PageIfAsked, asks, handed_of};
 ghost use Rattle.px_serve.specs.Receiving.{ChangesFor, TakesFor};
 
 use px_base::{List, Mem, Peer};
@@ -30,6 +30,7 @@ pub fn receive<I: Inside>(
 ) -> Result<Received, Mem>
     ensures reads { IfOk result (λ r. ReadsAs seen.now r.reading) }
     ensures takes { IfOk result (λ r. TakesFor I.lawful (I.state inside.old) (I.state inside.new) (asks snapshot.now.config.now snapshot.now.number peer.now.address r.reading) r.taken) }
+    ensures pages { PageIfAsked (result_ok result) }
     ensures changes { ChangesFor (I.state inside.old).changes (I.state inside.new).changes (result_ok result) }
     ensures goes_on { InsideGoesOn (I.state inside.old) (I.state inside.new) }
 {

@@ -35,7 +35,7 @@ returns-in-Ok-clause-turned g c =
     now.goes_on
     (reads_received c.in-Ok.seen c.receive.result begun.received c.ok-received.ensures.value c.receive.ensures.reads)
     (lawful_one law ins ins' _ begun c.receive.result c.ok-received.ensures.value c.receive.ensures.takes)
-    (fits_one law ins ins' _ begun c.receive.result c.ok-received.ensures.value c.receive.ensures.takes c.receive.ensures.changes c.receive.ensures.goes_on)
+    (fits_one law ins ins' _ begun c.receive.result c.ok-received.ensures.value c.receive.ensures.takes c.receive.ensures.pages c.receive.ensures.changes c.receive.ensures.goes_on)
     (rw (c.handed_of-handed.ensures, c.count.ensures) at c.answer-concluded.ensures.answers) c.add.ensures)
 
 pub answer-concluded-requires-clause-of : goal.answer-concluded-requires-clause-of
