@@ -23,7 +23,8 @@ names_same : (files : List (List ℕ × ActionFile)) → names_of files ≡ map 
 names_same [] = refl
 names_same (file ∷ files) = ap (λ l. file.0 ∷ l) (names_same files)
 
-pub same_sections : (m : Merged) (files : List (List ℕ × ActionFile)) → m.names ≡ names_of files → m.sections ≡ sections_of files → seen_sections m ≡ sections_seen (map seen_file files)
-same_sections m files names sections =
-    ap (λ n. record { names = n; sections = map seen_placed m.sections }) (names ∙ names_same files)
-    ∙ ap (λ s. record { names = map (λ file. file.0) (map seen_file files); sections = s }) (ap (map seen_placed) sections ∙ placed_same 0 files)
+pub same_sections : (m : Merged) (files : List (List ℕ × ActionFile)) → m.lists ≡ [] → m.names ≡ names_of files → m.sections ≡ sections_of files → seen_sections m ≡ sections_seen (map seen_file files)
+same_sections m files lists names sections =
+    ap (λ l. record { lists = l; names = m.names; sections = map seen_placed m.sections }) lists
+    ∙ ap (λ n. record { lists = []; names = n; sections = map seen_placed m.sections }) (names ∙ names_same files)
+    ∙ ap (λ s. record { lists = []; names = map (λ file. file.0) (map seen_file files); sections = s }) (ap (map seen_placed) sections ∙ placed_same 0 files)

@@ -7,6 +7,7 @@ use Rattle.px_decide.specs.Forwards.{Line as ForwardLine}
 use Rattle.px_filter_files.specs.FilterFiles.{FiltersOfFiles, filters_of_all}
 use Rattle.px_filter_files.specs.declared.files.FilterFile.{FilterFile}
 use Rattle.px_merge.specs.Merged.{Merged}
+use Rattle.px_merge.specs.declared.host_lists.ListedHosts.{ListedHosts}
 use Rattle.px_merge.specs.declared.places.Placed.{Placed}
 use Rattle.px_templates.specs.Pieces.{Piece}
 use Rattle.px_templates.specs.declared.pages.TheConstants.{PAGES}
@@ -34,8 +35,9 @@ pub record PlacedSeen : Type 0 where
   pub file : ℕ
   pub section : SectionSeen
 
--- the names of the action files, and their sections in file order
+-- lists of hosts, the names of the action files, and their sections in file order
 pub record SectionsSeen : Type 0 where
+  pub lists : List ListedHosts
   pub names : List (List ℕ)
   pub sections : List PlacedSeen
 
@@ -59,7 +61,7 @@ placed_from number [] = []
 placed_from number (file ∷ files) = map (placed_seen number) file.1 ++ placed_from (number + 1) files
 
 abbrev pub sections_seen : List ActionsSeen → SectionsSeen
-sections_seen files = record { names = map (λ file. file.0) files; sections = placed_from 0 files }
+sections_seen files = record { lists = []; names = map (λ file. file.0) files; sections = placed_from 0 files }
 
 abbrev pub filters_seen : List FilterFile → FiltersOfFiles
 filters_seen files = record { files = length files; filters = filters_of_all files }
@@ -118,7 +120,7 @@ abbrev pub seen_placed : Placed → PlacedSeen
 seen_placed p = record { file = p.file; section = seen_section p.section }
 
 abbrev pub seen_sections : Merged → SectionsSeen
-seen_sections m = record { names = m.names; sections = map seen_placed m.sections }
+seen_sections m = record { lists = m.lists; names = m.names; sections = map seen_placed m.sections }
 
 abbrev pub seen_config : Config → ConfigSeen
 seen_config c = record {

@@ -219,7 +219,7 @@ fn build(
     let image_blank = image_in(alloc, items, folder, IMAGE_BLANK)?;
     let image_pattern = image_in(alloc, items, folder, IMAGE_PATTERN)?;
     let ActionFiles { files, patterns: _ } = actions;
-    let sections = Sections::new(alloc, files)?;
+    let sections = Sections::new(alloc, List::new(alloc), files)?;
     let FilterFiles { files, notes } = filters;
     let filters = join_filters(alloc, files)?;
     Ok(Config {

@@ -55,7 +55,7 @@ fn lines_for(alloc: Global, head: &RequestHead, set: &ActionSet) -> Result<List<
     }
 }
 
-/// What the sections set for a URL, where L is the name of the blank.
+/// What lists of hosts and sections set for a URL, where L is the name of the blank.
 fn set_of<L: Ledger>(
     alloc: Global,
     sections: &mut WarmSections<'_>,
@@ -66,21 +66,21 @@ fn set_of<L: Ledger>(
     requires name { blank.name ≡ L.name }
     requires parts { blank.parts ≡ L.parts }
     requires some { 0 < L.parts }
-    ensures value { IfOk result (λ set. set ≡ url_actions sections.old.sections url.now tags.now) }
+    ensures value { IfOk result (λ set. set ≡ url_actions sections.old url.now tags.now) }
     ensures same { sections.new ≡ sections.old }
 {
     let mut steps: Steps<L> = Steps::begin(blank);
     sections.url_actions(alloc, url, tags, &mut steps)
 }
 
-/// What the sections set for a URL and the tags of a client.
+/// What lists of hosts and sections set for a URL and the tags of a client.
 fn actions_of(
     alloc: Global,
     sections: &mut WarmSections<'_>,
     url: &Url,
     tags: &[Text],
 ) -> Result<ActionSet, Mem>
-    ensures value { IfOk result (λ set. set ≡ url_actions sections.old.sections url.now tags.now) }
+    ensures value { IfOk result (λ set. set ≡ url_actions sections.old url.now tags.now) }
     ensures same { sections.new ≡ sections.old }
 {
     set_of::<Brand>(alloc, sections, url, tags, Blank::new(1))

@@ -9,6 +9,7 @@ pub mod CandidateLemmas
 pub mod NumberLemmas
 pub mod WalkLemmas
 pub mod HostLemmas
+pub mod HostListLemmas
 pub mod TagLemmas
 pub mod FinderLemmas
 pub mod Crossing

@@ -1,11 +1,13 @@
--- Sections of actions files, one file after another.
+-- Lists of hosts, and the sections of actions files, one file after another.
 use Rattle.std.specs.Prelude.{ℕ, ◌+◌, List, [], ◌∷◌, ◌++◌, length, map}
 use Rattle.px_action_files.specs.declared.files.ActionFile.{ActionFile}
 use Rattle.px_action_files.specs.declared.sections.Section.{Section}
+use Rattle.px_merge.specs.declared.host_lists.ListedHosts.{ListedHosts}
 use Rattle.px_merge.specs.declared.places.Placed.{Placed}
 
--- the names of files, and their sections in file order
+-- lists of hosts, the names of files, and their sections in file order
 pub record Merged : Type 0 where
+  pub lists : List ListedHosts
   pub names : List (List ℕ)
   pub sections : List Placed
 
@@ -21,6 +23,10 @@ sections_from number (file ∷ files) = map (placed number) file.1.sections ++ s
 -- the sections of files in file order; files are counted from 0
 abbrev pub sections_of : List (List ℕ × ActionFile) → List Placed
 sections_of files = sections_from 0 files
+
+-- the names of the files of lists
+abbrev pub list_names : List ListedHosts → List (List ℕ)
+list_names lists = map (λ l. l.name) lists
 
 abbrev pub names_of : List (List ℕ × ActionFile) → List (List ℕ)
 names_of files = map (λ file. file.0) files

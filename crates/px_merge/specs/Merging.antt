@@ -1,5 +1,5 @@
--- What sections set for a URL, for a tag, and where tags are absent (the manual's chapter on actions files).
-use Rattle.std.specs.Prelude.{ℕ, Bool, false, not, List, filter}
+-- What lists of hosts and sections set for a URL, and sections for a tag, and where tags are absent (the manual's chapter on actions files).
+use Rattle.std.specs.Prelude.{ℕ, ◌+◌, Bool, false, not, List, [], ◌∷◌, ◌++◌, filter, map, Option, None, Some}
 use Rattle.std.specs.List.{flat_map, list_any}
 use Rattle.px_actions.specs.Sets.{empty_set, updated_all}
 use Rattle.px_actions.specs.declared.settings.Setting.{Setting}
@@ -9,6 +9,10 @@ use Rattle.px_patterns.specs.declared.patterns.TagPattern.{TagPattern}
 use Rattle.px_patterns.specs.declared.urls.Url.{Url}
 use Rattle.px_action_files.specs.declared.patterns.Pattern.{Pattern}
 use Rattle.px_action_files.specs.declared.patterns.Pattern.TheVariants as pattern
+use Rattle.px_host_lists.specs.Hosts.{is_listed, listed_line}
+use Rattle.px_merge.specs.Merged.{Merged}
+use Rattle.px_merge.specs.declared.host_lists.ListRef.{ListRef}
+use Rattle.px_merge.specs.declared.host_lists.ListedHosts.{ListedHosts}
 use Rattle.px_merge.specs.declared.places.Placed.{Placed}
 use Rattle.px_merge.specs.declared.places.SectionRef.{SectionRef}
 use Rattle.px_merge.specs.declared.sides.Side.{Side}
@@ -72,12 +76,35 @@ tagged_sections sections tag = sections_with (is_for_tag tag) sections
 abbrev pub absent : List Placed → List (List ℕ) → Side → List Placed
 absent sections tags side = sections_with (is_for_absent side tags) sections
 
+-- ---- which lists of hosts
+
+-- the updates of the lists that name a host or a host above it, in the order of the lists
+abbrev pub listed_updates : List ListedHosts → List ℕ → List Update
+listed_updates lists host = map (λ l. l.update) (filter (λ l. is_listed l.hosts host) lists)
+
 -- ---- what they set
 
--- what sections set for a URL: from the empty set, the updates of those that apply
-unfoldable pub url_actions : List Placed → Url → List (List ℕ) → List Setting
-url_actions sections url tags = applied empty_set (matching sections url tags)
+-- what lists of hosts and sections set for a URL: from the empty set, the updates of the lists that name its host, as if a section of
+-- each list's hosts stood before the first file, and then those of the sections that apply
+unfoldable pub url_actions : Merged → Url → List (List ℕ) → List Setting
+url_actions merged url tags = applied (updated_all empty_set (listed_updates merged.lists url.host)) (matching merged.sections url tags)
+
+-- ---- where they stand
 
 -- where a section stands
 abbrev pub ref_of : Placed → SectionRef
 ref_of p = record { file = p.file; line = p.section.line }
+
+-- the place of a line, if there is one, of the list with a number
+abbrev pub list_ref : ℕ → Option ℕ → List ListRef
+list_ref number None = []
+list_ref number (Some line) = record { list = number; line = line } ∷ []
+
+-- where each list, the first of which has a number, names a host or, of the hosts above it, the longest
+abbrev pub list_refs_from : ℕ → List ListedHosts → List ℕ → List ListRef
+list_refs_from number [] host = []
+list_refs_from number (l ∷ lists) host = list_ref number (listed_line l.hosts host) ++ list_refs_from (number + 1) lists host
+
+-- where lists, which are counted from 0, name a host or a host above it
+abbrev pub list_refs : List ListedHosts → List ℕ → List ListRef
+list_refs lists host = list_refs_from 0 lists host

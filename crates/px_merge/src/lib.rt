@@ -1,9 +1,10 @@
-//! What the sections of actions files set for a URL, for a tag, and where tags are absent.
+//! What lists of hosts and the sections of actions files set for a URL, and sections for a tag, and where tags are absent.
 #![tactic(auto)]
 
 mod building;
 mod expressions;
 mod finders;
+mod host_lists;
 mod hosts;
 mod indexes;
 mod keys;
@@ -21,6 +22,7 @@ mod tries;
 mod walks;
 mod warm;
 
+pub use host_lists::{ListRef, ListedHosts};
 pub use places::{Placed, SectionCounts, SectionRef};
 pub use sections::Sections;
 pub use sides::Side;

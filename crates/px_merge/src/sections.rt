@@ -1,16 +1,17 @@
-// Sections, and what they set.
+// Lists of hosts and sections, and what they set.
 ghost use Rattle.std.specs.Prelude.{◌≡◌, ◌+◌, ◌<◌, ◌≤◌, All, IfOk, OnErr, OnOk, Some, length, map, slice_get};
 ghost use Rattle.px_actions.specs.Sets.{IsUpdatedByFront};
 ghost use Rattle.px_merge.specs.Candidates.{candidate_count};
 ghost use Rattle.px_merge.specs.Finders.{CanFind};
-ghost use Rattle.px_merge.specs.Merged.{names_of, pattern_count, sections_of};
-ghost use Rattle.px_merge.specs.Merging.{absent, applied, matching, ref_of, tagged_sections, updates_in, url_actions};
+ghost use Rattle.px_merge.specs.Merged.{list_names, names_of, pattern_count, sections_of};
+ghost use Rattle.px_merge.specs.Merging.{absent, applied, list_refs, matching, ref_of, tagged_sections, updates_in, url_actions};
 ghost use Rattle.px_merge.specs.Selections.{Selects, is_of_purpose};
 ghost use Rattle.px_merge.specs.declared.lists.Purpose.TheVariants.{Absent, Tag};
 
 use crate::building::{add_files, counts_of};
 use crate::expressions::expression_places;
 use crate::finders::Finder;
+use crate::host_lists::{ListRef, ListedHosts, list_refs};
 use crate::lists::{Purpose, numbers_of};
 use crate::places::{PatternPlace, Placed, SectionCounts, SectionRef};
 use crate::sides::Side;
@@ -23,9 +24,10 @@ use std::alloc::Global;
 use std::marker::Model;
 use std::sync::ledger::Ledger;
 
-/// The sections of actions files, seen as the names of the files and their sections in file order.
+/// Lists of hosts and the sections of actions files, seen as the lists, the names of the files and their sections in file order.
 #[derive(Drop)]
 pub struct Sections {
+    lists: List<ListedHosts>,
     names: Vec<Text>,
     sections: Vec<Placed>,
     counts: SectionCounts,
@@ -48,15 +50,20 @@ impl Model for Sections {
 
     ghost use Rattle.px_merge.specs.Selections.{AreKept};
 
-    ghost view = { λ s. record { names = s.names.items; sections = s.sections.items } };
+    ghost view = { λ s. record { lists = s.lists; names = s.names.items; sections = s.sections.items } };
 
     ghost invariant = { λ s. AreKept s.names.items s.sections.items s.counts s.finder s.tags.items s.requests.items s.responses.items };
 }
 
 impl Sections {
-    /// The sections of files, in the order of the files. Where there are 2^32 files, sections or patterns, or more, it is as if
-    /// memory were wanting.
-    pub fn new(alloc: Global, files: List<(Text, ActionFile)>) -> Result<Sections, Mem>
+    /// Lists of hosts, and the sections of files in the order of the files. Where there are 2^32 files, sections or patterns, or
+    /// more, it is as if memory were wanting.
+    pub fn new(
+        alloc: Global,
+        lists: List<ListedHosts>,
+        files: List<(Text, ActionFile)>,
+    ) -> Result<Sections, Mem>
+        ensures lists { IfOk result (λ s. s.lists ≡ lists) }
         ensures names { IfOk result (λ s. s.names ≡ names_of files) }
         ensures sections { IfOk result (λ s. s.sections ≡ sections_of files) }
     {
@@ -70,6 +77,7 @@ impl Sections {
         let requests = numbers_of(alloc, sections.as_slice(), Purpose::Absent(Side::Request))?;
         let responses = numbers_of(alloc, sections.as_slice(), Purpose::Absent(Side::Response))?;
         Ok(Sections {
+            lists,
             names,
             sections,
             counts,
@@ -79,6 +87,15 @@ impl Sections {
             requests,
             responses,
         })
+    }
+
+    /// The name of a list's file, by the list's number counted from 0.
+    #[tactic(auto, using(crate::proofs::HostListLemmas::name_of_list))]
+    pub fn list_name(&self, list: usize) -> &[u8]
+        requires { list < length self.now.lists }
+        ensures { slice_get (list_names self.now.lists) list ≡ Some result.now }
+    {
+        self.lists.as_slice()[list].name.as_bytes()
     }
 
     /// The name of a file, by its number counted from 0.
@@ -105,8 +122,9 @@ impl Sections {
         WarmSections::new(alloc, self)
     }
 
-    /// What the sections set for a URL and the tags of a client: from the empty set, the updates of each section that has
-    /// a URL pattern that matches the URL or a CLIENT-TAG pattern that matches one of the tags, in file order.
+    /// What lists and sections set for a URL and the tags of a client: from the empty set, the updates of each list that names
+    /// the URL's host or a host above it, in the order of the lists, and then those of each section that has a URL pattern that
+    /// matches the URL or a CLIENT-TAG pattern that matches one of the tags, in file order.
     /// Of URL patterns at most the candidates for the host take a step. Nothing is kept from search to search.
     pub fn url_actions<L: Ledger>(
         &self,
@@ -115,11 +133,19 @@ impl Sections {
         tags: &[Text],
         steps: &mut Steps<L>,
     ) -> Result<ActionSet, Mem>
-        ensures value { IfOk result (λ set. set ≡ url_actions self.now.sections url.now tags.now) }
+        ensures value { IfOk result (λ set. set ≡ url_actions self.now url.now tags.now) }
         ensures steps { steps.new ≤ steps.old + candidate_count self.now.sections url.now.host }
     {
         let mut warm = self.warm(alloc)?;
         warm.url_actions(alloc, url, tags, steps)
+    }
+
+    /// Where each list names a host or, of the hosts above it, the longest, in the order of the lists.
+    pub fn listed(&self, alloc: Global, host: &[u8]) -> Result<List<ListRef>, Mem>
+        ensures value { IfOk result (λ refs. refs ≡ list_refs self.now.lists host.now) }
+        ensures lists { IfOk result (λ refs. All (λ r. r.list < length self.now.lists) refs) }
+    {
+        list_refs(alloc, self.lists.as_slice(), host)
     }
 
     /// Where the sections stand that `url_actions` applies, in file order.
@@ -163,6 +189,13 @@ impl Sections {
     {
         let mut warm = self.warm(alloc)?;
         warm.apply_absent(alloc, set, tags, side)
+    }
+
+    /// The lists of hosts.
+    pub(crate) fn lists(&self) -> &[ListedHosts]
+        ensures { result.now ≡ self.now.lists }
+    {
+        self.lists.as_slice()
     }
 
     /// The sections in file order, each with the number of its file.

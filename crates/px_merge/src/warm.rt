@@ -6,11 +6,12 @@ ghost use Rattle.px_merge.specs.Merging.{absent, applied, is_for_url, matching, 
 ghost use Rattle.px_merge.specs.Selections.{Selects, is_for_test, picked};
 
 use crate::finders::Finder;
+use crate::host_lists::apply_lists;
 use crate::matchers::Matchers;
 use crate::places::SectionRef;
 use crate::sections::Sections;
 use crate::selections::{apply_picked, refs_of};
-use crate::sides::{Side, TagTest};
+use crate::sides::{Side, TagTest, UrlTest};
 use crate::tag_walks::tag_hits;
 use crate::walks::url_hits;
 use px_actions::ActionSet;
@@ -74,14 +75,14 @@ impl<'c> WarmSections<'c> {
             self.finder,
             &mut self.union,
             &mut self.matchers,
-            url,
-            tags,
+            &UrlTest { url, tags },
             steps,
         )
     }
 
-    /// What the sections set for a URL and the tags of a client: from the empty set, the updates of each section that has
-    /// a URL pattern that matches the URL or a CLIENT-TAG pattern that matches one of the tags, in file order.
+    /// What lists and sections set for a URL and the tags of a client: from the empty set, the updates of each list that names
+    /// the URL's host or a host above it, in the order of the lists, and then those of each section that has a URL pattern that
+    /// matches the URL or a CLIENT-TAG pattern that matches one of the tags, in file order.
     /// Of URL patterns at most the candidates for the host take a step. After want of memory it may be asked again.
     #[tactic(auto, unfolding(crate::specs::Merging::url_actions))]
     pub fn url_actions<L: Ledger>(
@@ -91,12 +92,13 @@ impl<'c> WarmSections<'c> {
         tags: &[Text],
         steps: &mut Steps<L>,
     ) -> Result<ActionSet, Mem>
-        ensures value { IfOk result (λ set. set ≡ url_actions self.old.sections url.now tags.now) }
+        ensures value { IfOk result (λ set. set ≡ url_actions self.old url.now tags.now) }
         ensures steps { steps.new ≤ steps.old + candidate_count self.old.sections url.now.host }
         ensures same { self.new ≡ self.old }
     {
         let hits = self.hits(alloc, url, tags, steps)?;
         let mut set = ActionSet::empty(alloc);
+        apply_lists(self.sections.lists(), url.host.as_bytes(), &mut set)?;
         apply_picked(self.sections.placed(), hits.as_slice(), &mut set)?;
         Ok(set)
     }

@@ -43,7 +43,7 @@ symbols hostname port path url block_reason error parent = record {
 abbrev pub empty_config : (pages : List (List Piece)) → length pages ≡ 11 → Config
 empty_config pages all = record {
   settings = settings_of nothing_set;
-  sections = record { names = []; sections = [] };
+  sections = record { lists = []; names = []; sections = [] };
   filters = record { files = 0; filters = [] };
   forwards = [];
   pages = pages;

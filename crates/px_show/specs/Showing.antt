@@ -2,8 +2,9 @@
 use Rattle.std.specs.Prelude.{ℕ, Bool, List, [], ◌∷◌, ◌++◌, length, map, slice_index_or, decimal, codes, if◌then◌else◌}
 use Rattle.std.specs.List.{flat_map}
 use Rattle.px_actions.specs.Sets.{set_lines}
-use Rattle.px_merge.specs.Merged.{Merged, pattern_count}
-use Rattle.px_merge.specs.Merging.{matching, ref_of, url_actions}
+use Rattle.px_merge.specs.Merged.{Merged, list_names, pattern_count}
+use Rattle.px_merge.specs.Merging.{list_refs, matching, ref_of, url_actions}
+use Rattle.px_merge.specs.declared.host_lists.ListRef.{ListRef}
 use Rattle.px_merge.specs.declared.places.SectionRef.{SectionRef}
 use Rattle.px_patterns.specs.Urls.{shown_url}
 use Rattle.px_patterns.specs.declared.urls.Url.{Url}
@@ -14,9 +15,21 @@ use Rattle.px_config.specs.declared.settings.Note.{Note}
 abbrev pub shown_place : List ℕ → ℕ → List ℕ
 shown_place file line = file ++ 58 ∷ decimal line
 
+-- a place in one of some named files, as a line
+abbrev pub place_line : List (List ℕ) → ℕ → ℕ → List ℕ
+place_line names file line = shown_place (slice_index_or names file []) line ++ 10 ∷ []
+
+-- where a list of hosts names a host, as a line
+abbrev pub list_ref_line : List (List ℕ) → ListRef → List ℕ
+list_ref_line names r = place_line names r.list r.line
+
+-- the lines of the lists that name a host
+unfoldable pub list_ref_lines : List (List ℕ) → List ListRef → List ℕ
+list_ref_lines names refs = flat_map (list_ref_line names) refs
+
 -- where a section stands, as a line
 abbrev pub ref_line : List (List ℕ) → SectionRef → List ℕ
-ref_line names r = shown_place (slice_index_or names r.file []) r.line ++ 10 ∷ []
+ref_line names r = place_line names r.file r.line
 
 -- the lines of the sections that match
 unfoldable pub ref_lines : List (List ℕ) → List SectionRef → List ℕ
@@ -24,12 +37,13 @@ ref_lines names refs = flat_map (ref_line names) refs
 
 -- the lines of the actions; with `toggle 0` there are none
 abbrev pub action_lines : Config → Url → List (List ℕ) → List ℕ
-action_lines c url tags = if c.settings.toggle then set_lines (url_actions c.sections.sections url tags) else []
+action_lines c url tags = if c.settings.toggle then set_lines (url_actions c.sections url tags) else []
 
--- the URL, the sections that match it or one of the client's tags, and the actions that they set
+-- the URL, the lists that name its host, the sections that match it or one of the client's tags, and the actions that they set
 unfoldable pub shown : Config → Url → List (List ℕ) → List ℕ
 shown c url tags =
-    shown_url url ++ codes "\nsections:\n" ++ ref_lines c.sections.names (map ref_of (matching c.sections.sections url tags))
+    shown_url url ++ codes "\nsections:\n" ++ list_ref_lines (list_names c.sections.lists) (list_refs c.sections.lists url.host)
+    ++ ref_lines c.sections.names (map ref_of (matching c.sections.sections url tags))
     ++ codes "actions:\n" ++ action_lines c url tags
 
 -- ---- what a check prints

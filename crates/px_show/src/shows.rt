@@ -1,31 +1,63 @@
 // What is shown of a URL.
 ghost use Rattle.std.specs.Prelude.{◌≡◌, ◌++◌, ◌<◌, All, IfOk, OnOk, codes, length, map};
-ghost use Rattle.px_merge.specs.Merging.{matching, ref_of, url_actions};
+ghost use Rattle.px_merge.specs.Merged.{list_names};
+ghost use Rattle.px_merge.specs.Merging.{list_refs, matching, ref_of, url_actions};
 ghost use Rattle.px_patterns.specs.Urls.{shown_url};
-ghost use Rattle.px_show.specs.Showing.{action_lines, ref_line, ref_lines, shown};
+ghost use Rattle.px_show.specs.Showing.{action_lines, list_ref_line, list_ref_lines, ref_line, ref_lines, shown};
 
 use crate::places::push_place;
 use px_actions::ActionSet;
 use px_base::{List, Mem, Steps, Text};
 use px_config::Config;
-use px_merge::{SectionRef, Sections};
+use px_merge::{ListRef, SectionRef, Sections};
 use px_patterns::Url;
 use std::alloc::Global;
 use std::marker::Brand;
 use std::sync::ledger::{Blank, Ledger};
 
-/// The printed URL, the places of the sections that match it or one of the client's tags, and the actions that they set, a
-/// line each. With `toggle 0` no action is shown. No tagger runs.
+/// The printed URL, the places of the lists that name its host and of the sections that match it or one of the client's tags,
+/// and the actions that they set, a line each. With `toggle 0` no action is shown. No tagger runs.
 #[tactic(auto, unfolding(crate::specs::Showing::shown))]
 pub fn show(alloc: Global, config: &Config, url: &Url, tags: &[Text]) -> Result<Text, Mem>
     ensures { IfOk result (λ text. text ≡ shown config.now url.now tags.now) }
 {
     let mut out = url.print(alloc)?;
     out.push_all(b"\nsections:\n")?;
+    push_lists(alloc, &config.sections, url.host.as_bytes(), &mut out)?;
     push_sections(alloc, &config.sections, url, tags, &mut out)?;
     out.push_all(b"actions:\n")?;
     push_actions(alloc, config, url, tags, &mut out)?;
     Ok(out)
+}
+
+/// Adds the places of the lists that name a host.
+fn push_lists(alloc: Global, sections: &Sections, host: &[u8], out: &mut Text) -> Result<(), Mem>
+    ensures { OnOk result (out.new ≡ out.old ++ list_ref_lines (list_names sections.now.lists) (list_refs sections.now.lists host.now)) }
+{
+    let refs = sections.listed(alloc, host)?;
+    push_list_refs(sections, refs.as_slice(), out)
+}
+
+/// Adds where lists name a host.
+#[tactic(auto, unfolding(crate::specs::Showing::list_ref_lines))]
+fn push_list_refs(sections: &Sections, refs: &[ListRef], out: &mut Text) -> Result<(), Mem>
+    requires { All (λ r. r.list < length sections.now.lists) refs.now }
+    ensures { OnOk result (out.new ≡ out.old ++ list_ref_lines (list_names sections.now.lists) refs.now) }
+{
+    'refs: for place in refs {
+        push_list_ref(sections, place, out)?;
+    }
+    Ok(())
+}
+
+/// Adds where a list names a host.
+#[tactic(auto, using(crate::proofs::PlaceLemmas::name_at))]
+fn push_list_ref(sections: &Sections, place: &ListRef, out: &mut Text) -> Result<(), Mem>
+    requires { place.now.list < length sections.now.lists }
+    ensures { OnOk result (out.new ≡ out.old ++ list_ref_line (list_names sections.now.lists) place.now) }
+{
+    push_place(sections.list_name(place.list), place.line, out)?;
+    out.push(b'\n')
 }
 
 /// Adds the places of the sections that match.
@@ -111,7 +143,7 @@ fn actions<L: Ledger>(
     requires name { blank.name ≡ L.name }
     requires parts { blank.parts ≡ L.parts }
     requires some { 0 < L.parts }
-    ensures { IfOk result (λ set. set ≡ url_actions sections.now.sections url.now tags.now) }
+    ensures { IfOk result (λ set. set ≡ url_actions sections.now url.now tags.now) }
 {
     let mut steps = Steps::<L>::begin(blank);
     sections.url_actions(alloc, url, tags, &mut steps)

@@ -108,7 +108,7 @@ pub(crate) fn sections_of(row: &Row<'_>) -> Result<Sections, Fault> {
         let read = actions_of(row.alloc, row.file(name)?.as_bytes())?;
         files.add((Text::new(row.alloc), read))?;
     }
-    Ok(Sections::new(row.alloc, files)?)
+    Ok(Sections::new(row.alloc, List::new(row.alloc), files)?)
 }
 
 /// The side that a row names.
