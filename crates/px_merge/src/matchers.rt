@@ -7,10 +7,10 @@ ghost use Rattle.px_merge.specs.Selections.{is_for_test, patterns_in};
 use crate::expressions::{kept_at, number_at, pattern_at};
 use crate::places::{PatternPlace, Placed};
 use crate::selections::section_at;
-use crate::sides::TagTest;
+use crate::sides::{TagTest, UrlTest};
 use crate::tries::{may_fit, try_tags, try_url};
-use px_base::{Mem, Steps, Text};
-use px_patterns::{KeptPattern, Url};
+use px_base::{Mem, Steps};
+use px_patterns::KeptPattern;
 use std::alloc::Global;
 use std::marker::Model;
 use std::sync::ledger::Ledger;
@@ -98,23 +98,22 @@ impl<'c> Matchers<'c> {
         &mut self,
         alloc: Global,
         place: PatternPlace,
-        url: &Url,
-        tags: &[Text],
+        test: &UrlTest<'_>,
         steps: &mut Steps<L>,
     ) -> Result<bool, Mem>
-        ensures value { IfOk result (λ yes. yes ≡ passes (is_for_url url.now tags.now) (pattern_at self.old place)) }
-        ensures steps { steps.new ≤ steps.old + cost_of url.now.host (pattern_at self.old place) }
+        ensures value { IfOk result (λ yes. yes ≡ passes (is_for_url test.now.url.now test.now.tags.now) (pattern_at self.old place)) }
+        ensures steps { steps.new ≤ steps.old + cost_of test.now.url.now.host (pattern_at self.old place) }
         ensures same { self.new ≡ self.old }
     {
         let Some(pattern) = pattern_at(self.sections, place) else {
             return Ok(false);
         };
-        if !may_fit(pattern, url) {
+        if !may_fit(pattern, test.url) {
             return Ok(false);
         }
         match number_at(self.places, place, pattern) {
-            Some(number) => { try_url(alloc, pattern, &mut self.kept[number], url, tags, steps) }
-            None => try_url(alloc, pattern, &mut KeptPattern::none(), url, tags, steps),
+            Some(number) => try_url(alloc, pattern, &mut self.kept[number], test, steps),
+            None => try_url(alloc, pattern, &mut KeptPattern::none(), test, steps),
         }
     }
 }

@@ -8,7 +8,7 @@ ghost use Rattle.px_merge.specs.Expressions.{IsKeptFor};
 ghost use Rattle.px_merge.specs.Merging.{is_for_url, matches_some};
 ghost use Rattle.px_merge.specs.Selections.{is_for_test};
 
-use crate::sides::{Side, TagTest};
+use crate::sides::{Side, TagTest, UrlTest};
 use px_action_files::Pattern;
 use px_base::{Mem, Steps, Text};
 use px_patterns::{KeptExpression, KeptPattern, TagPattern, Url, UrlPattern};
@@ -151,18 +151,17 @@ pub fn try_url<L: Ledger>(
     alloc: Global,
     pattern: &Pattern,
     kept: &mut KeptPattern<'_>,
-    url: &Url,
-    tags: &[Text],
+    test: &UrlTest<'_>,
     steps: &mut Steps<L>,
 ) -> Result<bool, Mem>
     requires { IsKeptFor pattern.now kept.old }
-    ensures value { IfOk result (λ yes. yes ≡ is_for_url url.now tags.now pattern.now) }
-    ensures steps { steps.new ≤ steps.old + cost url.now.host pattern.now }
+    ensures value { IfOk result (λ yes. yes ≡ is_for_url test.now.url.now test.now.tags.now pattern.now) }
+    ensures steps { steps.new ≤ steps.old + cost test.now.url.now.host pattern.now }
     ensures same { kept.new ≡ kept.old }
 {
     match pattern {
-        Pattern::Url(pattern) => matches_url(alloc, pattern, kept, url, steps),
-        Pattern::ClientTag(pattern) => matches_some(alloc, pattern, &mut kept.own, tags),
+        Pattern::Url(pattern) => matches_url(alloc, pattern, kept, test.url, steps),
+        Pattern::ClientTag(pattern) => matches_some(alloc, pattern, &mut kept.own, test.tags),
         Pattern::Tag(_) => Ok(false),
         Pattern::NoRequestTag(_) => Ok(false),
         Pattern::NoResponseTag(_) => Ok(false),

@@ -13,8 +13,9 @@ use crate::indexes::PlaceIndex;
 use crate::matchers::Matchers;
 use crate::numbers::put_in_order;
 use crate::places::PatternPlace;
-use px_base::{Mem, Steps, Text};
-use px_patterns::{KeptUnion, Url};
+use crate::sides::UrlTest;
+use px_base::{Mem, Steps};
+use px_patterns::KeptUnion;
 use std::alloc::Global;
 use std::sync::ledger::Ledger;
 
@@ -24,18 +25,17 @@ fn try_places<L: Ledger>(
     alloc: Global,
     matchers: &mut Matchers<'_>,
     places: &[PatternPlace],
-    url: &Url,
-    tags: &[Text],
+    test: &UrlTest<'_>,
     hits: &mut Vec<usize>,
     steps: &mut Steps<L>,
 ) -> Result<(), Mem>
-    ensures hits { OnOk result (hits.new.items ≡ hits.old.items ++ hits_in matchers.old (is_for_url url.now tags.now) places.now) }
-    ensures steps { steps.new ≤ steps.old + weight (cost_at matchers.old url.now.host) places.now }
+    ensures hits { OnOk result (hits.new.items ≡ hits.old.items ++ hits_in matchers.old (is_for_url test.now.url.now test.now.tags.now) places.now) }
+    ensures steps { steps.new ≤ steps.old + weight (cost_at matchers.old test.now.url.now.host) places.now }
     ensures same { matchers.new ≡ matchers.old }
 {
     let mut rest = places;
     'places: while let Some((place, others)) = rest.split_first() {
-        if matchers.try_url(alloc, *place, url, tags, steps)? {
+        if matchers.try_url(alloc, *place, test, steps)? {
             hits.push(place.section)?;
         }
         rest = others;
@@ -49,24 +49,23 @@ fn try_paths<L: Ledger>(
     places: &[PatternPlace],
     union: &mut KeptUnion<'_>,
     matchers: &mut Matchers<'_>,
-    url: &Url,
-    tags: &[Text],
+    test: &UrlTest<'_>,
     hits: &mut Vec<usize>,
     steps: &mut Steps<L>,
 ) -> Result<(), Mem>
     requires { AreAsked matchers.old union.old places.now }
-    ensures hits { OnOk result (hits.new.items ≡ hits.old.items ++ hits_in matchers.old (is_for_url url.now tags.now) places.now) }
-    ensures steps { steps.new ≤ steps.old + weight (cost_at matchers.old url.now.host) places.now }
+    ensures hits { OnOk result (hits.new.items ≡ hits.old.items ++ hits_in matchers.old (is_for_url test.now.url.now test.now.tags.now) places.now) }
+    ensures steps { steps.new ≤ steps.old + weight (cost_at matchers.old test.now.url.now.host) places.now }
     ensures same { matchers.new ≡ matchers.old }
     ensures union { union.new ≡ union.old }
 {
     if places.is_empty() {
         return Ok(());
     }
-    if !union.finds_any(alloc, url.path.as_bytes())? {
+    if !union.finds_any(alloc, test.url.path.as_bytes())? {
         return Ok(());
     }
-    try_places(alloc, matchers, places, url, tags, hits, steps)
+    try_places(alloc, matchers, places, test, hits, steps)
 }
 
 /// The same of the places that are kept under no label.
@@ -75,21 +74,20 @@ fn try_every<L: Ledger>(
     finder: &Finder,
     union: &mut KeptUnion<'_>,
     matchers: &mut Matchers<'_>,
-    url: &Url,
-    tags: &[Text],
+    test: &UrlTest<'_>,
     hits: &mut Vec<usize>,
     steps: &mut Steps<L>,
 ) -> Result<(), Mem>
     requires { AreAsked matchers.old union.old finder.now.paths }
-    ensures hits { OnOk result (hits.new.items ≡ hits.old.items ++ hits_in matchers.old (is_for_url url.now tags.now) (finder.now.index.always ++ finder.now.paths)) }
-    ensures steps { steps.new ≤ steps.old + weight (cost_at matchers.old url.now.host) (finder.now.index.always ++ finder.now.paths) }
+    ensures hits { OnOk result (hits.new.items ≡ hits.old.items ++ hits_in matchers.old (is_for_url test.now.url.now test.now.tags.now) (finder.now.index.always ++ finder.now.paths)) }
+    ensures steps { steps.new ≤ steps.old + weight (cost_at matchers.old test.now.url.now.host) (finder.now.index.always ++ finder.now.paths) }
     ensures same { matchers.new ≡ matchers.old }
     ensures union { union.new ≡ union.old }
 {
     let always = finder.index.always.as_slice();
-    try_places(alloc, matchers, always, url, tags, hits, steps)?;
+    try_places(alloc, matchers, always, test, hits, steps)?;
     let paths = finder.paths.as_slice();
-    try_paths(alloc, paths, union, matchers, url, tags, hits, steps)?;
+    try_paths(alloc, paths, union, matchers, test, hits, steps)?;
     Ok(())
 }
 
@@ -99,18 +97,17 @@ fn try_slots<L: Ledger>(
     index: &PlaceIndex,
     matchers: &mut Matchers<'_>,
     numbers: &[usize],
-    url: &Url,
-    tags: &[Text],
+    test: &UrlTest<'_>,
     hits: &mut Vec<usize>,
     steps: &mut Steps<L>,
 ) -> Result<(), Mem>
-    ensures hits { OnOk result (hits.new.items ≡ hits.old.items ++ hits_in matchers.old (is_for_url url.now tags.now) (flat_map (slot_at index.now.slots.items) numbers.now)) }
-    ensures steps { steps.new ≤ steps.old + weight (cost_at matchers.old url.now.host) (flat_map (slot_at index.now.slots.items) numbers.now) }
+    ensures hits { OnOk result (hits.new.items ≡ hits.old.items ++ hits_in matchers.old (is_for_url test.now.url.now test.now.tags.now) (flat_map (slot_at index.now.slots.items) numbers.now)) }
+    ensures steps { steps.new ≤ steps.old + weight (cost_at matchers.old test.now.url.now.host) (flat_map (slot_at index.now.slots.items) numbers.now) }
     ensures same { matchers.new ≡ matchers.old }
 {
     let mut rest = numbers;
     'numbers: while let Some((number, others)) = rest.split_first() {
-        try_places(alloc, matchers, index.slot(*number), url, tags, hits, steps)?;
+        try_places(alloc, matchers, index.slot(*number), test, hits, steps)?;
         rest = others;
     }
     Ok(())
@@ -123,28 +120,26 @@ pub fn url_hits<L: Ledger>(
     finder: &Finder,
     union: &mut KeptUnion<'_>,
     matchers: &mut Matchers<'_>,
-    url: &Url,
-    tags: &[Text],
+    test: &UrlTest<'_>,
     steps: &mut Steps<L>,
 ) -> Result<Vec<usize>, Mem>
     requires finder { CanFind finder.now matchers.old }
     requires union { union.old ≡ finder.now.union }
-    ensures selects { IfOk result (λ hits. Selects (is_for_url url.now tags.now) matchers.old hits.items) }
-    ensures steps { steps.new ≤ steps.old + candidate_count matchers.old url.now.host }
+    ensures selects { IfOk result (λ hits. Selects (is_for_url test.now.url.now test.now.tags.now) matchers.old hits.items) }
+    ensures steps { steps.new ≤ steps.old + candidate_count matchers.old test.now.url.now.host }
     ensures same { matchers.new ≡ matchers.old }
     ensures union { union.new ≡ union.old }
 {
     let index = &finder.index;
     let mut hits = Vec::new(alloc);
-    let numbers = host_slots(alloc, index.slots.len(), url.host.as_bytes())?;
-    try_every(alloc, finder, union, matchers, url, tags, &mut hits, steps)?;
+    let numbers = host_slots(alloc, index.slots.len(), test.url.host.as_bytes())?;
+    try_every(alloc, finder, union, matchers, test, &mut hits, steps)?;
     try_slots(
         alloc,
         index,
         matchers,
         numbers.as_slice(),
-        url,
-        tags,
+        test,
         &mut hits,
         steps,
     )?;

@@ -10,7 +10,7 @@ use crate::matchers::Matchers;
 use crate::places::SectionRef;
 use crate::sections::Sections;
 use crate::selections::{apply_picked, refs_of};
-use crate::sides::{Side, TagTest};
+use crate::sides::{Side, TagTest, UrlTest};
 use crate::tag_walks::tag_hits;
 use crate::walks::url_hits;
 use px_actions::ActionSet;
@@ -74,8 +74,7 @@ impl<'c> WarmSections<'c> {
             self.finder,
             &mut self.union,
             &mut self.matchers,
-            url,
-            tags,
+            &UrlTest { url, tags },
             steps,
         )
     }

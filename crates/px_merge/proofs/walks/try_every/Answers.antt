@@ -6,7 +6,7 @@ use Rattle.px_merge.proofs.walks.try_every.Goals as goal
 
 pub returns-in_err-try_places-clause-steps : goal.returns-in_err-try_places-clause-steps
 returns-in_err-try_places-clause-steps g c =
-    let costs = cost_at c.args.matchers.now c.args.url.now.host in
+    let costs = cost_at c.args.matchers.now c.args.test.now.url.now.host in
     omega (
       arith,
       c.in_err-try_places.ensures.steps,
@@ -21,12 +21,12 @@ try_paths-requires g c =
 
 pub returns-in_err-try_paths-clause-steps : goal.returns-in_err-try_paths-clause-steps
 returns-in_err-try_paths-clause-steps g c =
-    let costs = cost_at c.args.matchers.now c.args.url.now.host in
+    let costs = cost_at c.args.matchers.now c.args.test.now.url.now.host in
     omega (
       arith,
       c.in_ok-try_places.ensures.steps,
       c.in_err-try_paths.ensures.steps,
-      ap (λ sections. weight (cost_at sections c.args.url.now.host) c.as_slice-paths.result.now) c.in_ok-try_places.ensures.same,
+      ap (λ sections. weight (cost_at sections c.args.test.now.url.now.host) c.as_slice-paths.result.now) c.in_ok-try_places.ensures.same,
       ap (weight costs) c.as_slice-always.ensures,
       ap (weight costs) c.as_slice-paths.ensures,
       weight_append costs c.args.finder.now.index.always c.args.finder.now.paths,
@@ -34,12 +34,12 @@ returns-in_err-try_paths-clause-steps g c =
 
 pub returns-clause-steps : goal.returns-clause-steps
 returns-clause-steps g c =
-    let costs = cost_at c.args.matchers.now c.args.url.now.host in
+    let costs = cost_at c.args.matchers.now c.args.test.now.url.now.host in
     omega (
       arith,
       c.in_ok-try_places.ensures.steps,
       c.in_ok-try_paths.ensures.steps,
-      ap (λ sections. weight (cost_at sections c.args.url.now.host) c.as_slice-paths.result.now) c.in_ok-try_places.ensures.same,
+      ap (λ sections. weight (cost_at sections c.args.test.now.url.now.host) c.as_slice-paths.result.now) c.in_ok-try_places.ensures.same,
       ap (weight costs) c.as_slice-always.ensures,
       ap (weight costs) c.as_slice-paths.ensures,
       weight_append costs c.args.finder.now.index.always c.args.finder.now.paths,

@@ -7,6 +7,6 @@ pub returns-then-not-branch-clause-hits : goal.returns-then-not-branch-clause-hi
 returns-then-not-branch-clause-hits g c =
     let texts = c.args.union.now in
     let hits = c.args.hits.now.items in
-    let none : list_any (λ text. finds text c.args.url.now.path) texts ≡ false =
+    let none : list_any (λ text. finds text c.args.test.now.url.now.path) texts ≡ false =
     subst (λ path. list_any (λ text. finds text path) texts ≡ false) c.as_bytes.ensures (sym c.in_ok-finds_any.ensures.value ∙ c.if-not-branch.true) in
-    sym (ap (λ more. hits ++ more) (c.requires c.args.url.now c.args.tags.now none) ∙ append-nil hits)
+    sym (ap (λ more. hits ++ more) (c.requires c.args.test.now.url.now c.args.test.now.tags.now none) ∙ append-nil hits)

@@ -9,7 +9,7 @@ use Rattle.px_merge.proofs.walks.try_slots.Goals as goal
 pub numbers-preserved : goal.numbers-preserved
 numbers-preserved g c =
     let sections = c.args.matchers.now in
-    let test = is_for_url c.args.url.now c.args.tags.now in
+    let test = is_for_url c.args.test.now.url.now c.args.test.now.tags.now in
     let slots = c.args.index.now.slots.items in
     let cut : c.numbers.rest.now ≡ c.in-Some.number.now ∷ c.in-Some.others.now = grind (arith, common_steps) in
     record {
@@ -23,8 +23,8 @@ numbers-preserved g c =
         arith,
         c.numbers.invariant.steps,
         c.in_ok-try_places.ensures.steps,
-        ap (λ sections. weight (cost_at sections c.args.url.now.host) c.slot.result.now) c.numbers.invariant.sections,
-        slots_weights (cost_at sections c.args.url.now.host) slots c.numbers.rest.now c.in-Some.number.now c.in-Some.others.now c.slot.result.now cut c.slot.ensures,
+        ap (λ sections. weight (cost_at sections c.args.test.now.url.now.host) c.slot.result.now) c.numbers.invariant.sections,
+        slots_weights (cost_at sections c.args.test.now.url.now.host) slots c.numbers.rest.now c.in-Some.number.now c.in-Some.others.now c.slot.result.now cut c.slot.ensures,
       );
     }
 
@@ -36,6 +36,6 @@ returns-in_err-try_places-clause-steps g c =
       arith,
       c.numbers.invariant.steps,
       c.in_err-try_places.ensures.steps,
-      ap (λ sections. weight (cost_at sections c.args.url.now.host) c.slot.result.now) c.numbers.invariant.sections,
-      slots_weights (cost_at c.args.matchers.now c.args.url.now.host) slots c.numbers.rest.now c.in-Some.number.now c.in-Some.others.now c.slot.result.now cut c.slot.ensures,
+      ap (λ sections. weight (cost_at sections c.args.test.now.url.now.host) c.slot.result.now) c.numbers.invariant.sections,
+      slots_weights (cost_at c.args.matchers.now c.args.test.now.url.now.host) slots c.numbers.rest.now c.in-Some.number.now c.in-Some.others.now c.slot.result.now cut c.slot.ensures,
     )

@@ -7,10 +7,10 @@ use Rattle.px_merge.proofs.walks.try_slots.Given as goal
 abbrev pub invariant-numbers : goal.invariant-numbers
 invariant-numbers g l = record {
   sections : l.matchers ≡ l.initial.matchers;
-  same : l.hits.items ++ hits_in l.initial.matchers (is_for_url l.url l.tags) (flat_map (slot_at l.index.slots.items) l.rest)
-      ≡ l.initial.hits.items ++ hits_in l.initial.matchers (is_for_url l.url l.tags) (flat_map (slot_at l.index.slots.items) l.numbers);
-  steps : l.steps + weight (cost_at l.initial.matchers l.url.host) (flat_map (slot_at l.index.slots.items) l.rest)
-      ≤ l.initial.steps + weight (cost_at l.initial.matchers l.url.host) (flat_map (slot_at l.index.slots.items) l.numbers);
+  same : l.hits.items ++ hits_in l.initial.matchers (is_for_url l.test.url.now l.test.tags.now) (flat_map (slot_at l.index.slots.items) l.rest)
+      ≡ l.initial.hits.items ++ hits_in l.initial.matchers (is_for_url l.test.url.now l.test.tags.now) (flat_map (slot_at l.index.slots.items) l.numbers);
+  steps : l.steps + weight (cost_at l.initial.matchers l.test.url.now.host) (flat_map (slot_at l.index.slots.items) l.rest)
+      ≤ l.initial.steps + weight (cost_at l.initial.matchers l.test.url.now.host) (flat_map (slot_at l.index.slots.items) l.numbers);
 }
 
 abbrev pub decreases-numbers : goal.decreases-numbers

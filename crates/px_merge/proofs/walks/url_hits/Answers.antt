@@ -16,41 +16,41 @@ returns-in_err-try_every-clause-steps g c =
     omega (
       arith,
       c.in_err-try_every.ensures.steps,
-      steps_within index c.args.matchers.now c.args.url.now.host c.in_ok-numbers.numbers.items c.requires.finder.indexed c.in_ok-numbers.ensures.rises,
+      steps_within index c.args.matchers.now c.args.test.now.url.now.host c.in_ok-numbers.numbers.items c.requires.finder.indexed c.in_ok-numbers.ensures.rises,
     )
 
 pub returns-in_err-try_slots-clause-steps : goal.returns-in_err-try_slots-clause-steps
 returns-in_err-try_slots-clause-steps g c =
-    let costs = cost_at c.args.matchers.now c.args.url.now.host in
+    let costs = cost_at c.args.matchers.now c.args.test.now.url.now.host in
     let index = with_places c.args.finder.now.index c.args.finder.now.paths in
     omega (
       arith,
       c.in_ok-try_every.ensures.steps,
       c.in_err-try_slots.ensures.steps,
-      ap (λ sections. weight (cost_at sections c.args.url.now.host) (flat_map (slot_at index.slots.items) c.as_slice.result.now)) c.in_ok-try_every.ensures.same,
+      ap (λ sections. weight (cost_at sections c.args.test.now.url.now.host) (flat_map (slot_at index.slots.items) c.as_slice.result.now)) c.in_ok-try_every.ensures.same,
       ap (λ ns. weight costs (flat_map (slot_at index.slots.items) ns)) c.as_slice.ensures.value,
-      steps_within index c.args.matchers.now c.args.url.now.host c.in_ok-numbers.numbers.items c.requires.finder.indexed c.in_ok-numbers.ensures.rises,
+      steps_within index c.args.matchers.now c.args.test.now.url.now.host c.in_ok-numbers.numbers.items c.requires.finder.indexed c.in_ok-numbers.ensures.rises,
     )
 
 pub returns-clause-steps : goal.returns-clause-steps
 returns-clause-steps g c =
-    let costs = cost_at c.args.matchers.now c.args.url.now.host in
+    let costs = cost_at c.args.matchers.now c.args.test.now.url.now.host in
     let index = with_places c.args.finder.now.index c.args.finder.now.paths in
     omega (
       arith,
       c.in_ok-try_every.ensures.steps,
       c.in_ok-try_slots.ensures.steps,
-      ap (λ sections. weight (cost_at sections c.args.url.now.host) (flat_map (slot_at index.slots.items) c.as_slice.result.now)) c.in_ok-try_every.ensures.same,
+      ap (λ sections. weight (cost_at sections c.args.test.now.url.now.host) (flat_map (slot_at index.slots.items) c.as_slice.result.now)) c.in_ok-try_every.ensures.same,
       ap (λ ns. weight costs (flat_map (slot_at index.slots.items) ns)) c.as_slice.ensures.value,
-      steps_within index c.args.matchers.now c.args.url.now.host c.in_ok-numbers.numbers.items c.requires.finder.indexed c.in_ok-numbers.ensures.rises,
+      steps_within index c.args.matchers.now c.args.test.now.url.now.host c.in_ok-numbers.numbers.items c.requires.finder.indexed c.in_ok-numbers.ensures.rises,
     )
 
 pub returns-clause-selects : goal.returns-clause-selects
 returns-clause-selects g c =
     let index = with_places c.args.finder.now.index c.args.finder.now.paths in
     let sections = c.args.matchers.now in
-    let url = c.args.url.now in
-    let tags = c.args.tags.now in
+    let url = c.args.test.now.url.now in
+    let tags = c.args.test.now.tags.now in
     let hits = hits_in sections (is_for_url url tags) in
     let slots = index.slots.items in
     let numbers = c.in_ok-numbers.numbers.items in
