@@ -5,7 +5,7 @@ ghost use Rattle.px_taggers.specs.Places.{AreInForce};
 ghost use Rattle.px_taggers.specs.Tagging.{TagsLike, after_lines, rules, state, tag_headers};
 
 use crate::taggers::{action_of, filters_of, run_taggers};
-use crate::turns::Turn;
+use crate::turns::{TaggerLines, Turn};
 use px_actions::ActionSet;
 use px_base::{List, Mem, Text};
 use px_filter_files::{Filters, WarmFilters};
@@ -55,22 +55,20 @@ fn tag_lines(
     filters: &mut WarmFilters<'_>,
     set: &mut ActionSet,
     tags: &mut List<Text>,
-    lines: &[Text],
-    side: Side,
-    vars: &Vars,
+    headers: &TaggerLines<'_>,
 ) -> Result<(), Mem>
-    ensures done { OnOk result (state set.new tags.new ≡ after_lines (rules sections.old.sections filters.old side vars.now) (state set.old tags.old) lines.now) }
-    ensures err { OnErr result (IsWithinLines (rules sections.old.sections filters.old side vars.now) (state set.old tags.old) lines.now (state set.new tags.new)) }
+    ensures done { OnOk result (state set.new tags.new ≡ after_lines (rules sections.old.sections filters.old headers.now.side headers.now.vars.now) (state set.old tags.old) headers.now.lines.now) }
+    ensures err { OnErr result (IsWithinLines (rules sections.old.sections filters.old headers.now.side headers.now.vars.now) (state set.old tags.old) headers.now.lines.now (state set.new tags.new)) }
     ensures sections { sections.new ≡ sections.old }
     ensures filters { filters.new ≡ filters.old }
 {
-    let mut places = places_in_force(alloc, filters, set, side)?;
-    let mut rest = lines;
+    let mut places = places_in_force(alloc, filters, set, headers.side)?;
+    let mut rest = headers.lines;
     'lines: while let Some((line, others)) = rest.split_first() {
         let turn = Turn {
             line: line.as_bytes(),
-            side,
-            vars,
+            side: headers.side,
+            vars: headers.vars,
         };
         let is_new = run_taggers(
             alloc,
@@ -81,7 +79,7 @@ fn tag_lines(
             places.as_slice(),
             &turn,
         )?;
-        places = places_behind(alloc, filters, places, is_new, set, side)?;
+        places = places_behind(alloc, filters, places, is_new, set, headers.side)?;
         rest = others;
     }
     Ok(())
@@ -118,7 +116,8 @@ pub fn tag_headers_with(
     ensures sections { sections.new ≡ sections.old }
     ensures filters { filters.new ≡ filters.old }
 {
-    tag_lines(alloc, sections, filters, set, tags, lines, side, vars)?;
+    let headers = TaggerLines { lines, side, vars };
+    tag_lines(alloc, sections, filters, set, tags, &headers)?;
     sections.apply_absent(alloc, set, tags.as_slice(), side)
 }
 

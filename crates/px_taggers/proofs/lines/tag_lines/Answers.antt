@@ -9,12 +9,12 @@ use Rattle.px_taggers.proofs.lines.tag_lines.Goals as goal
 pub returns-in_err-places-clause-err : goal.returns-in_err-places-clause-err
 returns-in_err-places-clause-err c =
     on_err_given c.from_residual.result
-    (lines_begin (rules c.args.sections.now.sections c.args.filters.now c.args.side c.args.vars.now) (state c.args.set.now c.args.tags.now) c.args.lines.now)
+    (lines_begin (rules c.args.sections.now.sections c.args.filters.now c.args.headers.now.side c.args.headers.now.vars.now) (state c.args.set.now c.args.tags.now) c.args.headers.now.lines.now)
 
 pub returns-in_err-places-2-clause-err : goal.returns-in_err-places-2-clause-err
 returns-in_err-places-2-clause-err c =
-    let side = c.args.side in
-    let vars = c.args.vars.now in
+    let side = c.args.headers.now.side in
+    let vars = c.args.headers.now.vars.now in
     let sections = c.args.sections.now.sections in
     let all = rules sections c.args.filters.now side vars in
     let start = state c.args.set.now c.args.tags.now in
@@ -28,5 +28,5 @@ returns-in_err-places-2-clause-err c =
     ∙ ap (λ filters. after_line (rules sections filters side vars) before line) c.lines.invariant.filters
     ∙ ap (after_line all before) c.as_bytes.ensures in
     on_err_given c.from_residual-in_err-places-2.result
-    (lines_pause all start c.args.lines.now behind c.in-Some.others.now
-    (runs_more (IsWithinLine all) (after_line all) start c.args.lines.now before behind c.lines.rest.now c.in-Some.others.now c.in-Some.line.now cut is c.lines.invariant.runs))
+    (lines_pause all start c.args.headers.now.lines.now behind c.in-Some.others.now
+    (runs_more (IsWithinLine all) (after_line all) start c.args.headers.now.lines.now before behind c.lines.rest.now c.in-Some.others.now c.in-Some.line.now cut is c.lines.invariant.runs))
