@@ -9,6 +9,7 @@ use crate::faults::HeaderFault;
 use crate::filtering::{filter_lines, filtered_line, has_filters};
 use crate::held_back::{HeldBack, MessageKind, pass_on};
 use crate::rewrites::leads_to;
+use crate::rules::HeaderRules;
 use px_actions::ActionSet;
 use px_base::{List, Mem, Peer};
 use px_fields::Field;
@@ -33,21 +34,19 @@ fn client_fields(
     alloc: Global,
     received: List<Field>,
     url: &Url,
-    set: &ActionSet,
-    filters: &Filters,
+    rules: &HeaderRules<'_>,
     warm: &mut WarmFilters<'_>,
-    vars: &Vars,
     peer: &Peer,
 ) -> Result<List<Field>, Mem>
-    requires { warm.old ≡ filters.now }
-    ensures value { IfOk result (λ fields. fields ≡ client_fields set.now filters.now vars.now url.now peer.now.address received) }
+    requires { warm.old ≡ rules.now.filters.now }
+    ensures value { IfOk result (λ fields. fields ≡ client_fields rules.now.set.now rules.now.filters.now rules.now.vars.now url.now peer.now.address received) }
     ensures same { warm.new ≡ warm.old }
 {
     let held = HeldBack::of(alloc, MessageKind::Request, received.as_slice())?;
     let fields = pass_on(received, &held);
-    let fields = client_rows(alloc, fields, set, url, peer.address.as_bytes())?;
-    let fields = filter_lines(alloc, fields, &held, set, filters, warm, vars)?;
-    add_headers(alloc, fields, set)
+    let fields = client_rows(alloc, fields, rules.set, url, peer.address.as_bytes())?;
+    let fields = filter_lines(alloc, fields, &held, rules, warm)?;
+    add_headers(alloc, fields, rules.set)
 }
 
 /// Where a request goes behind the header filters, or None where its line was rewritten badly.
@@ -56,27 +55,18 @@ fn destination(
     alloc: Global,
     head: &RequestHead,
     url: Url,
-    set: &ActionSet,
-    filters: &Filters,
+    rules: &HeaderRules<'_>,
     warm: &mut WarmFilters<'_>,
-    vars: &Vars,
 ) -> Result<Option<Url>, Mem>
-    requires { warm.old ≡ filters.now }
-    ensures value { IfOk result (λ to. to ≡ destination set.now filters.now vars.now url head.now.method (request_line head.now)) }
+    requires { warm.old ≡ rules.now.filters.now }
+    ensures value { IfOk result (λ to. to ≡ destination rules.now.set.now rules.now.filters.now rules.now.vars.now url head.now.method (request_line head.now)) }
     ensures same { warm.new ≡ warm.old }
 {
-    if !has_filters(MessageKind::Request, set, filters) {
+    if !has_filters(MessageKind::Request, rules) {
         return Ok(Some(url));
     }
     let line = head.first_line(alloc)?;
-    let new = filtered_line(
-        alloc,
-        MessageKind::Request,
-        set,
-        warm,
-        vars,
-        line.as_bytes(),
-    )?;
+    let new = filtered_line(alloc, MessageKind::Request, rules, warm, line.as_bytes())?;
     leads_to(alloc, url, head.method.as_bytes(), line.as_bytes(), new)
 }
 
@@ -112,9 +102,10 @@ pub fn client_headers(
     ensures minor { head.new.minor ≡ head.old.minor }
     ensures same { warm.new ≡ warm.old }
 {
+    let rules = HeaderRules { set, filters, vars };
     let received = mem::replace(&mut head.fields, List::new(alloc));
-    let fields = client_fields(alloc, received, &url, set, filters, warm, vars, peer)?;
-    match destination(alloc, head, url, set, filters, warm, vars)? {
+    let fields = client_fields(alloc, received, &url, &rules, warm, peer)?;
+    match destination(alloc, head, url, &rules, warm)? {
         Some(url) => Ok(ClientOut { url, fields }),
         None => Err(HeaderFault::BadRewrite),
     }

@@ -8,6 +8,7 @@ ghost use Rattle.px_headers.specs.Filtering.{filter_kind, filter_lines, header_f
 
 use crate::held_back::{HeldBack, MessageKind, pass_on};
 use crate::rows::write_line;
+use crate::rules::HeaderRules;
 use px_actions::{ActionSet, Kind};
 use px_base::{List, Mem, Text};
 use px_fields::{Field, read_field_line};
@@ -192,46 +193,47 @@ pub(crate) fn filter_lines(
     alloc: Global,
     fields: List<Field>,
     held: &HeldBack,
-    set: &ActionSet,
-    filters: &Filters,
+    rules: &HeaderRules<'_>,
     warm: &mut WarmFilters<'_>,
-    vars: &Vars,
 ) -> Result<List<Field>, Mem>
-    requires { warm.old ≡ filters.now }
+    requires { warm.old ≡ rules.now.filters.now }
     ensures value { IfOk result (λ kept. (message received : _) → IsHeldBackOf message received held.now
-        → kept ≡ filter_lines message received set.now filters.now vars.now fields) }
+        → kept ≡ filter_lines message received rules.now.set.now rules.now.filters.now rules.now.vars.now fields) }
     ensures same { warm.new ≡ warm.old }
 {
     let kind = filter_kind(held.message);
-    let names = filter_names(held.message, set);
-    if some_found(filters, kind, names) {
-        filtered_fields(alloc, fields, held, warm, kind, names, vars)
+    let names = filter_names(held.message, rules.set);
+    if some_found(rules.filters, kind, names) {
+        filtered_fields(alloc, fields, held, warm, kind, names, rules.vars)
     } else {
         Ok(fields)
     }
 }
 
 /// Whether there is one of the header filters that are in force for a message.
-pub(crate) fn has_filters(message: MessageKind, set: &ActionSet, filters: &Filters) -> bool
-    ensures { result ≡ some_found filters.now (filter_kind message) (header_filter_names message set.now) }
+pub(crate) fn has_filters(message: MessageKind, rules: &HeaderRules<'_>) -> bool
+    ensures { result ≡ some_found rules.now.filters.now (filter_kind message) (header_filter_names message rules.now.set.now) }
 {
-    some_found(filters, filter_kind(message), filter_names(message, set))
+    some_found(
+        rules.filters,
+        filter_kind(message),
+        filter_names(message, rules.set),
+    )
 }
 
 /// A first line behind the header filters that are in force.
 pub(crate) fn filtered_line(
     alloc: Global,
     message: MessageKind,
-    set: &ActionSet,
+    rules: &HeaderRules<'_>,
     warm: &mut WarmFilters<'_>,
-    vars: &Vars,
     line: &[u8],
 ) -> Result<Text, Mem>
-    ensures value { IfOk result (λ done. done ≡ run_all warm.old (filter_kind message) vars.now (header_filter_names message set.now) line.now) }
+    ensures value { IfOk result (λ done. done ≡ run_all warm.old (filter_kind message) rules.now.vars.now (header_filter_names message rules.now.set.now) line.now) }
     ensures same { warm.new ≡ warm.old }
 {
-    let names = filter_names(message, set);
-    match run_all(alloc, warm, filter_kind(message), names, line, vars)? {
+    let names = filter_names(message, rules.set);
+    match run_all(alloc, warm, filter_kind(message), names, line, rules.vars)? {
         Some(text) => Ok(text),
         None => Text::from_bytes(alloc, line),
     }

@@ -12,6 +12,7 @@ mod kinds;
 mod referrers;
 mod rewrites;
 mod rows;
+mod rules;
 mod server;
 mod server_rows;
 

@@ -6,6 +6,7 @@ ghost use Rattle.px_headers.specs.ServerRows.{server_fields, server_out};
 use crate::filtering::{filter_lines, filtered_line, has_filters};
 use crate::held_back::{HeldBack, MessageKind, pass_on};
 use crate::rewrites::kept_status_line;
+use crate::rules::HeaderRules;
 use crate::server_rows::{new_content_type, server_rows};
 use px_actions::ActionSet;
 use px_base::{List, Mem, Text};
@@ -29,21 +30,19 @@ pub struct ServerOut {
 fn server_fields(
     alloc: Global,
     received: List<Field>,
-    set: &ActionSet,
-    filters: &Filters,
+    rules: &HeaderRules<'_>,
     warm: &mut WarmFilters<'_>,
-    vars: &Vars,
     moment: u64,
 ) -> Result<List<Field>, Mem>
-    requires { warm.old ≡ filters.now }
-    ensures value { IfOk result (λ fields. fields ≡ server_fields set.now filters.now vars.now moment received) }
+    requires { warm.old ≡ rules.now.filters.now }
+    ensures value { IfOk result (λ fields. fields ≡ server_fields rules.now.set.now rules.now.filters.now rules.now.vars.now moment received) }
     ensures same { warm.new ≡ warm.old }
 {
     let held = HeldBack::of(alloc, MessageKind::Response, received.as_slice())?;
-    let content_type = new_content_type(set, received.as_slice());
+    let content_type = new_content_type(rules.set, received.as_slice());
     let fields = pass_on(received, &held);
-    let fields = server_rows(alloc, fields, set, moment, content_type)?;
-    filter_lines(alloc, fields, &held, set, filters, warm, vars)
+    let fields = server_rows(alloc, fields, rules.set, moment, content_type)?;
+    filter_lines(alloc, fields, &held, rules, warm)
 }
 
 /// The status line behind the header filters.
@@ -51,27 +50,18 @@ fn server_fields(
 fn answer_line(
     alloc: Global,
     head: &ResponseHead,
-    set: &ActionSet,
-    filters: &Filters,
+    rules: &HeaderRules<'_>,
     warm: &mut WarmFilters<'_>,
-    vars: &Vars,
 ) -> Result<Text, Mem>
-    requires { warm.old ≡ filters.now }
-    ensures value { IfOk result (λ line. line ≡ answer_line set.now filters.now vars.now head.now) }
+    requires { warm.old ≡ rules.now.filters.now }
+    ensures value { IfOk result (λ line. line ≡ answer_line rules.now.set.now rules.now.filters.now rules.now.vars.now head.now) }
     ensures same { warm.new ≡ warm.old }
 {
     let line = head.first_line(alloc)?;
-    if !has_filters(MessageKind::Response, set, filters) {
+    if !has_filters(MessageKind::Response, rules) {
         return Ok(line);
     }
-    let new = filtered_line(
-        alloc,
-        MessageKind::Response,
-        set,
-        warm,
-        vars,
-        line.as_bytes(),
-    )?;
+    let new = filtered_line(alloc, MessageKind::Response, rules, warm, line.as_bytes())?;
     Ok(kept_status_line(head.status, line, new))
 }
 
@@ -101,8 +91,9 @@ pub fn server_headers(
     ensures reason { head.new.reason ≡ head.old.reason }
     ensures same { warm.new ≡ warm.old }
 {
+    let rules = HeaderRules { set, filters, vars };
     let received = mem::replace(&mut head.fields, List::new(alloc));
-    let first_line = answer_line(alloc, head, set, filters, warm, vars)?;
-    let fields = server_fields(alloc, received, set, filters, warm, vars, moment)?;
+    let first_line = answer_line(alloc, head, &rules, warm)?;
+    let fields = server_fields(alloc, received, &rules, warm, moment)?;
     Ok(ServerOut { first_line, fields })
 }
