@@ -10,13 +10,11 @@ use crate::filtering::{filter_lines, filtered_line, has_filters};
 use crate::held_back::{HeldBack, MessageKind, pass_on};
 use crate::rewrites::leads_to;
 use crate::rules::HeaderRules;
-use px_actions::ActionSet;
 use px_base::{List, Mem, Peer};
 use px_fields::Field;
-use px_filter_files::{Filters, WarmFilters};
+use px_filter_files::WarmFilters;
 use px_head::RequestHead;
 use px_patterns::Url;
-use px_subst::Vars;
 use std::alloc::Global;
 use std::mem;
 
@@ -70,8 +68,8 @@ fn destination(
     leads_to(alloc, url, head.method.as_bytes(), line.as_bytes(), new)
 }
 
-/// Where a request goes and with which fields, by its actions (Privoxy's manual, "Actions"). `url` is its target; `vars` are
-/// the values of a job's words; `warm` is the store of the filters. The fields are taken out of the head, also where the call
+/// Where a request goes and with which fields, by its actions (Privoxy's manual, "Actions"). `url` is its target;
+/// `warm` is the store of the filters. The fields are taken out of the head, also where the call
 /// is refused, and those that nothing changes are moved.
 ///
 /// Host, Expect, Proxy-Authorization, the fields that speak of one connection and those that a Connection field names are
@@ -87,25 +85,22 @@ pub fn client_headers(
     alloc: Global,
     head: &mut RequestHead,
     url: Url,
-    set: &ActionSet,
-    filters: &Filters,
+    rules: &HeaderRules<'_>,
     warm: &mut WarmFilters<'_>,
-    vars: &Vars,
     peer: &Peer,
 ) -> Result<ClientOut, HeaderFault>
-    requires { warm.old ≡ filters.now }
-    ensures out { IfOk result (λ out. client_out set.now filters.now vars.now url peer.now.address head.old ≡ Some out) }
-    ensures refused { IfErr result (IsClientRefusal (client_out set.now filters.now vars.now url peer.now.address head.old)) }
+    requires { warm.old ≡ rules.now.filters.now }
+    ensures out { IfOk result (λ out. client_out rules.now.set.now rules.now.filters.now rules.now.vars.now url peer.now.address head.old ≡ Some out) }
+    ensures refused { IfErr result (IsClientRefusal (client_out rules.now.set.now rules.now.filters.now rules.now.vars.now url peer.now.address head.old)) }
     ensures taken { head.new.fields ≡ [] }
     ensures method { head.new.method ≡ head.old.method }
     ensures target { head.new.target ≡ head.old.target }
     ensures minor { head.new.minor ≡ head.old.minor }
     ensures same { warm.new ≡ warm.old }
 {
-    let rules = HeaderRules { set, filters, vars };
     let received = mem::replace(&mut head.fields, List::new(alloc));
-    let fields = client_fields(alloc, received, &url, &rules, warm, peer)?;
-    match destination(alloc, head, url, &rules, warm)? {
+    let fields = client_fields(alloc, received, &url, rules, warm, peer)?;
+    match destination(alloc, head, url, rules, warm)? {
         Some(url) => Ok(ClientOut { url, fields }),
         None => Err(HeaderFault::BadRewrite),
     }

@@ -19,4 +19,5 @@ mod server_rows;
 pub use client::{ClientOut, client_headers};
 pub use faults::HeaderFault;
 pub use kinds::is_text;
+pub use rules::HeaderRules;
 pub use server::{ServerOut, server_headers};

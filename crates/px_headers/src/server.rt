@@ -8,12 +8,10 @@ use crate::held_back::{HeldBack, MessageKind, pass_on};
 use crate::rewrites::kept_status_line;
 use crate::rules::HeaderRules;
 use crate::server_rows::{new_content_type, server_rows};
-use px_actions::ActionSet;
 use px_base::{List, Mem, Text};
 use px_fields::Field;
-use px_filter_files::{Filters, WarmFilters};
+use px_filter_files::WarmFilters;
 use px_head::ResponseHead;
-use px_subst::Vars;
 use std::alloc::Global;
 use std::mem;
 
@@ -66,7 +64,7 @@ fn answer_line(
 }
 
 /// The status line and the fields of an answer that is returned, by the actions of its request (Privoxy's manual, "Actions").
-/// `moment` is in seconds since 1970; `vars` are the values of a job's words; `warm` is the store of the filters. The fields
+/// `moment` is in seconds since 1970; `warm` is the store of the filters. The fields
 /// are taken out of the head, also where memory is wanting, and those that nothing changes are moved.
 ///
 /// The fields that speak of one connection, Content-Length and the fields that a Connection field names are taken out first.
@@ -77,23 +75,20 @@ fn answer_line(
 pub fn server_headers(
     alloc: Global,
     head: &mut ResponseHead,
-    set: &ActionSet,
-    filters: &Filters,
+    rules: &HeaderRules<'_>,
     warm: &mut WarmFilters<'_>,
-    vars: &Vars,
     moment: u64,
 ) -> Result<ServerOut, Mem>
-    requires { warm.old ≡ filters.now }
-    ensures out { IfOk result (λ out. out ≡ server_out set.now filters.now vars.now moment head.old) }
+    requires { warm.old ≡ rules.now.filters.now }
+    ensures out { IfOk result (λ out. out ≡ server_out rules.now.set.now rules.now.filters.now rules.now.vars.now moment head.old) }
     ensures taken { head.new.fields ≡ [] }
     ensures minor { head.new.minor ≡ head.old.minor }
     ensures status { head.new.status ≡ head.old.status }
     ensures reason { head.new.reason ≡ head.old.reason }
     ensures same { warm.new ≡ warm.old }
 {
-    let rules = HeaderRules { set, filters, vars };
     let received = mem::replace(&mut head.fields, List::new(alloc));
-    let first_line = answer_line(alloc, head, &rules, warm)?;
-    let fields = server_fields(alloc, received, &rules, warm, moment)?;
+    let first_line = answer_line(alloc, head, rules, warm)?;
+    let fields = server_fields(alloc, received, rules, warm, moment)?;
     Ok(ServerOut { first_line, fields })
 }

@@ -20,7 +20,7 @@ use px_config::{InsidePage, Running};
 use px_decide::{Decision, decide};
 use px_framing::{BodyFault, BodyRule};
 use px_head::{HeadFault, RequestHead};
-use px_headers::{HeaderFault, client_headers};
+use px_headers::{HeaderFault, HeaderRules, client_headers};
 use px_patterns::Url;
 use px_sending::expects_continue;
 use px_subst::Vars;
@@ -132,16 +132,19 @@ fn judge_headers(
         vars,
     } = request;
     let port = url.port;
-    match client_headers(
+    let out = client_headers(
         alloc,
         &mut head,
         url,
-        &tags.set,
-        &config.filters,
+        &HeaderRules {
+            set: &tags.set,
+            filters: &config.filters,
+            vars: &vars,
+        },
         &mut running.filters,
-        &vars,
         peer,
-    ) {
+    );
+    match out {
         Ok(out) => Ok(Judgement::Forward(plan_by(
             alloc,
             config,

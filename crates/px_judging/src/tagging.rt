@@ -14,7 +14,7 @@ use px_head::RequestHead;
 use px_merge::{Side, WarmSections};
 use px_patterns::Url;
 use px_subst::Vars;
-use px_taggers::{has_taggers, tag_headers_with};
+use px_taggers::{TaggerLines, has_taggers, tag_headers_with};
 use std::alloc::Global;
 use std::marker::Brand;
 use std::sync::ledger::{Blank, Ledger};
@@ -110,9 +110,11 @@ pub fn tag_request(
         &mut running.filters,
         &mut set,
         &mut tags,
-        lines.as_slice(),
-        Side::Request,
-        &request.vars,
+        &TaggerLines {
+            lines: lines.as_slice(),
+            side: Side::Request,
+            vars: &request.vars,
+        },
     )?;
     Ok(RequestTags { set, tags })
 }

@@ -12,11 +12,11 @@ use px_config::Running;
 use px_fields::Field;
 use px_framing::BodyRule;
 use px_head::ResponseHead;
-use px_headers::{ServerOut, is_text, server_headers};
+use px_headers::{HeaderRules, ServerOut, is_text, server_headers};
 use px_merge::Side;
 use px_notes::Asked;
 use px_subst::Vars;
-use px_taggers::{has_taggers, tag_headers_with};
+use px_taggers::{TaggerLines, has_taggers, tag_headers_with};
 use std::alloc::Global;
 
 /// The version of a returned head.
@@ -77,9 +77,11 @@ fn response_set(
         &mut running.filters,
         &mut set,
         &mut tags,
-        lines.as_slice(),
-        Side::Response,
-        vars,
+        &TaggerLines {
+            lines: lines.as_slice(),
+            side: Side::Response,
+            vars,
+        },
     )?;
     Ok(set)
 }
@@ -171,10 +173,12 @@ pub fn settle(
     let out = server_headers(
         alloc,
         &mut head,
-        &set,
-        &config.filters,
+        &HeaderRules {
+            set: &set,
+            filters: &config.filters,
+            vars: &vars,
+        },
         &mut running.filters,
-        &vars,
         moment,
     )?;
     let lines = returned_lines(alloc, out)?;

@@ -7,3 +7,4 @@ mod tags;
 mod turns;
 
 pub use lines::{has_taggers, tag_headers, tag_headers_with};
+pub use turns::TaggerLines;

@@ -10,7 +10,6 @@ use px_actions::ActionSet;
 use px_base::{List, Mem, Text};
 use px_filter_files::{Filters, WarmFilters};
 use px_merge::{Sections, Side, WarmSections};
-use px_subst::Vars;
 use std::alloc::Global;
 
 /// The places of the taggers in force among the filters. A name that no filter has gives none.
@@ -92,13 +91,12 @@ pub fn has_taggers(set: &ActionSet, side: Side) -> bool
     !set.values(action_of(side)).is_empty()
 }
 
-/// Makes tags of header lines and applies what the sections set for them. The lines are the first line and the lines of the
-/// fields, all as received. On each line the taggers run that are in force when its turn begins, in the order of the list. A
-/// tagger makes a tag where it hits and its text isn't empty, unless the set at that moment has the same text, with case, as a
-/// value of `suppress-tag`; a tag that isn't among `tags` goes last, and the sections that apply to it are applied at once.
-/// Behind the last line those on absent tags of the side are applied. A name that no filter has does nothing. After `Mem` set
-/// and tags are those of a front of this work (Privoxy's manual, "Actions Files", `client-header-tagger`,
-/// `server-header-tagger`, `suppress-tag` and "The Tag Pattern").
+/// Makes tags of header lines and applies what the sections set for them. On each line the taggers run that are in force
+/// when its turn begins, in the order of the list. A tagger makes a tag where it hits and its text isn't empty, unless the
+/// set at that moment has the same text, with case, as a value of `suppress-tag`; a tag that isn't among `tags` goes last,
+/// and the sections that apply to it are applied at once. Behind the last line those on absent tags of the side are
+/// applied. A name that no filter has does nothing. After `Mem` set and tags are those of a front of this work (Privoxy's
+/// manual, "Actions Files", `client-header-tagger`, `server-header-tagger`, `suppress-tag` and "The Tag Pattern").
 #[tactic(auto, unfolding(crate::specs::Tagging::tag_headers))]
 pub fn tag_headers_with(
     alloc: Global,
@@ -106,19 +104,16 @@ pub fn tag_headers_with(
     filters: &mut WarmFilters<'_>,
     set: &mut ActionSet,
     tags: &mut List<Text>,
-    lines: &[Text],
-    side: Side,
-    vars: &Vars,
+    headers: &TaggerLines<'_>,
 ) -> Result<(), Mem>
-    ensures set { OnOk result (set.new ≡ (tag_headers sections.old.sections filters.old set.old tags.old lines.now side vars.now).set) }
-    ensures tags { OnOk result (tags.new ≡ (tag_headers sections.old.sections filters.old set.old tags.old lines.now side vars.now).tags) }
-    ensures err { OnErr result (IsWithinTagging (rules sections.old.sections filters.old side vars.now) (state set.old tags.old) lines.now (state set.new tags.new)) }
+    ensures set { OnOk result (set.new ≡ (tag_headers sections.old.sections filters.old set.old tags.old headers.now.lines.now headers.now.side headers.now.vars.now).set) }
+    ensures tags { OnOk result (tags.new ≡ (tag_headers sections.old.sections filters.old set.old tags.old headers.now.lines.now headers.now.side headers.now.vars.now).tags) }
+    ensures err { OnErr result (IsWithinTagging (rules sections.old.sections filters.old headers.now.side headers.now.vars.now) (state set.old tags.old) headers.now.lines.now (state set.new tags.new)) }
     ensures sections { sections.new ≡ sections.old }
     ensures filters { filters.new ≡ filters.old }
 {
-    let headers = TaggerLines { lines, side, vars };
-    tag_lines(alloc, sections, filters, set, tags, &headers)?;
-    sections.apply_absent(alloc, set, tags.as_slice(), side)
+    tag_lines(alloc, sections, filters, set, tags, headers)?;
+    sections.apply_absent(alloc, set, tags.as_slice(), headers.side)
 }
 
 /// The same, where nothing is kept from search to search.
@@ -128,15 +123,13 @@ pub fn tag_headers(
     filters: &Filters,
     set: &mut ActionSet,
     tags: &mut List<Text>,
-    lines: &[Text],
-    side: Side,
-    vars: &Vars,
+    headers: &TaggerLines<'_>,
 ) -> Result<(), Mem>
-    ensures set { OnOk result (set.new ≡ (tag_headers sections.now.sections filters.now set.old tags.old lines.now side vars.now).set) }
-    ensures tags { OnOk result (tags.new ≡ (tag_headers sections.now.sections filters.now set.old tags.old lines.now side vars.now).tags) }
-    ensures err { OnErr result (IsWithinTagging (rules sections.now.sections filters.now side vars.now) (state set.old tags.old) lines.now (state set.new tags.new)) }
+    ensures set { OnOk result (set.new ≡ (tag_headers sections.now.sections filters.now set.old tags.old headers.now.lines.now headers.now.side headers.now.vars.now).set) }
+    ensures tags { OnOk result (tags.new ≡ (tag_headers sections.now.sections filters.now set.old tags.old headers.now.lines.now headers.now.side headers.now.vars.now).tags) }
+    ensures err { OnErr result (IsWithinTagging (rules sections.now.sections filters.now headers.now.side headers.now.vars.now) (state set.old tags.old) headers.now.lines.now (state set.new tags.new)) }
 {
     let mut warm = sections.warm(alloc)?;
     let mut kept = filters.warm(alloc)?;
-    tag_headers_with(alloc, &mut warm, &mut kept, set, tags, lines, side, vars)
+    tag_headers_with(alloc, &mut warm, &mut kept, set, tags, headers)
 }

@@ -9,7 +9,7 @@ use px_fields::{Field, is_held_back_of_response};
 use px_filter_files::Filters;
 use px_framing::response_body;
 use px_head::ResponseHead;
-use px_headers::{ServerOut, is_text, server_headers};
+use px_headers::{HeaderRules, ServerOut, is_text, server_headers};
 use std::alloc::Global;
 
 /// The status line and the fields of an answer with that head, behind the actions of the row's words at its moment.
@@ -18,9 +18,12 @@ fn changed(row: &Row<'_>, filters: &Filters, mut head: ResponseHead) -> Result<S
     let set = set_of(row)?;
     let vars = vars_of(row.alloc, b"")?;
     let mut warm = filters.warm(row.alloc)?;
-    let out = server_headers(
-        row.alloc, &mut head, &set, filters, &mut warm, &vars, moment,
-    )?;
+    let rules = HeaderRules {
+        set: &set,
+        filters,
+        vars: &vars,
+    };
+    let out = server_headers(row.alloc, &mut head, &rules, &mut warm, moment)?;
     Ok(out)
 }
 

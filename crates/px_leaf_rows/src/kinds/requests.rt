@@ -9,11 +9,11 @@ use px_actions::ActionSet;
 use px_base::{List, Peer, Text};
 use px_filter_files::Filters;
 use px_head::RequestHead;
-use px_headers::{ClientOut, client_headers};
+use px_headers::{ClientOut, HeaderRules, client_headers};
 use px_merge::Sections;
 use px_patterns::Url;
 use px_subst::Vars;
-use px_taggers::tag_headers;
+use px_taggers::{TaggerLines, tag_headers};
 use std::alloc::Global;
 
 /// Where a request with that head goes and its fields, behind the actions of the row's words. The client's address is 127.0.0.1.
@@ -35,7 +35,8 @@ fn sent_by(
     };
     let url = Url::read(alloc, head.target.as_bytes())?;
     let mut warm = filters.warm(alloc)?;
-    let out = client_headers(alloc, head, url, set, filters, &mut warm, vars, &peer)?;
+    let rules = HeaderRules { set, filters, vars };
+    let out = client_headers(alloc, head, url, &rules, &mut warm, &peer)?;
     Ok(out)
 }
 
@@ -65,16 +66,12 @@ fn tags_by(
     let lines = row.items("lines")?;
     let vars = vars_of(row.alloc, b"")?;
     let mut tags = List::new(row.alloc);
-    tag_headers(
-        row.alloc,
-        sections,
-        filters,
-        set,
-        &mut tags,
-        lines.as_slice(),
+    let headers = TaggerLines {
+        lines: lines.as_slice(),
         side,
-        &vars,
-    )?;
+        vars: &vars,
+    };
+    tag_headers(row.alloc, sections, filters, set, &mut tags, &headers)?;
     Ok(tags)
 }
 

@@ -9,8 +9,8 @@ use Rattle.px_taggers.proofs.lines.tag_headers_with.Goals as goal
 
 pub returns-clause-err : goal.returns-clause-err
 returns-clause-err c =
-    let side = c.args.side in
-    let all = rules c.args.sections.now.sections c.args.filters.now side c.args.vars.now in
+    let side = c.args.headers.now.side in
+    let all = rules c.args.sections.now.sections c.args.filters.now side c.args.headers.now.vars.now in
     let set = c.tag_lines.new.set in
     let tags = c.tag_lines.new.tags in
     let new = c.apply_absent.new.set in
