@@ -1,5 +1,5 @@
 -- Lists of hosts as sections with the URL patterns of their hosts.
-use Rattle.std.specs.Prelude.{ℕ, List, [], ◌∷◌, ◌++◌, ◌×◌, Result, Ok, Err}
+use Rattle.std.specs.Prelude.{ℕ, List, [], ◌∷◌, ◌++◌, Result, Ok, Err}
 use Rattle.std.specs.List.{flat_map}
 use Rattle.px_host_lists.specs.Hosts.{HostEntry, SameLines}
 use Rattle.px_host_lists.specs.Readings.{list_entries}
