@@ -14,29 +14,30 @@ use Rattle.px_config.specs.declared.main_files.MainFile.{MainFile}
 use Rattle.px_config.specs.declared.names.Places.{Places}
 use Rattle.px_config.specs.declared.sets.FileSet.{FileSet}
 use Rattle.px_config.specs.declared.sets.TheConstants.{FILE_LIMIT}
-use Rattle.px_config.specs.Gathering.{IsReadFault, OnlyReads, ReadsEach, ReadsOneOf, all_items, gathered, item_of, items_by, named_items, names_behind, names_by, names_read, with_files, with_item}
+use Rattle.px_config.specs.Gathering.{IsReadFault, OnlyReads, ReadsEach, ReadsOneOf, all_items, gathered, item_of, named_items, names_by, names_read, names_with_lists, set_behind, set_by, with_files, with_item}
 use Rattle.px_config.specs.MainFiles.{IsMainOf}
 use Rattle.px_config.specs.Names.{full_name, is_rooted, places_of, template_names}
 use Rattle.px_config.specs.Parts.{content_lines, file_lines}
-use Rattle.px_config.specs.Sets.{FitsItem, Item, all_included, content_in, is_in}
+use Rattle.px_config.specs.Sets.{FitsWithin, Item, all_included, content_in, is_in}
 use Rattle.px_config.specs.declared.faults.LoadFault.{LoadFault}
 use Rattle.px_config.specs.declared.faults.LoadFault.TheVariants as fault
 
-pub item_same : (a b : Contents) (items : List Item) (name : List ℕ) → Unchanged a b → with_item b items name ≡ with_item a items name
-item_same a b items name same = rw (same name) refl
+pub item_same : (limit : ℕ) (a b : Contents) (items : List Item) (name : List ℕ) → Unchanged a b → with_item limit b items name ≡ with_item limit a items name
+item_same limit a b items name same = rw (same name) refl
 
-pub files_same : (a b : Contents) (folder : Option (List ℕ)) (items : List Item) (names : List (List ℕ)) → Unchanged a b → with_files b folder items names ≡ with_files a folder items names
+pub files_same : (limit : ℕ) (a b : Contents) (folder : Option (List ℕ)) (items : List Item) (names : List (List ℕ)) → Unchanged a b →
+    with_files limit b folder items names ≡ with_files limit a folder items names
 unfolding with_files
-files_same a b folder items [] same = refl
-files_same a b folder items (name ∷ names) same =
-    files_same a b folder (with_item b items (full_name folder name)) names same
-    ∙ ap (λ i. with_files a folder i names) (item_same a b items (full_name folder name) same)
+files_same limit a b folder items [] same = refl
+files_same limit a b folder items (name ∷ names) same =
+    files_same limit a b folder (with_item limit b items (full_name folder name)) names same
+    ∙ ap (λ i. with_files limit a folder i names) (item_same limit a b items (full_name folder name) same)
 
-pub files_append : (contents : Contents) (folder : Option (List ℕ)) (items : List Item) (first second : List (List ℕ)) →
-    with_files contents folder (with_files contents folder items first) second ≡ with_files contents folder items (first ++ second)
+pub files_append : (limit : ℕ) (contents : Contents) (folder : Option (List ℕ)) (items : List Item) (first second : List (List ℕ)) →
+    with_files limit contents folder (with_files limit contents folder items first) second ≡ with_files limit contents folder items (first ++ second)
 unfolding with_files
-files_append contents folder items [] second = refl
-files_append contents folder items (name ∷ names) second = files_append contents folder (with_item contents items (full_name folder name)) names second
+files_append limit contents folder items [] second = refl
+files_append limit contents folder items (name ∷ names) second = files_append limit contents folder (with_item limit contents items (full_name folder name)) names second
 
 -- contents that are the same at each name are the same
 pub contents_same : {a b : Contents} → Unchanged a b → b ≡ a
@@ -83,63 +84,63 @@ abbrev pub Among : List (List ℕ) → List (List ℕ) → Type 0
 Among rest names = (f : LoadFault) → ReadsOneOf rest f → ReadsOneOf names f
 
 -- some of the names are still to be read
-pub record Gathers (old new : FilesState) (folder : Option (List ℕ)) (before items : List Item) (names rest : List (List ℕ)) : Type 0 where
+pub record Gathers (limit : ℕ) (old new : FilesState) (folder : Option (List ℕ)) (before items : List Item) (names rest : List (List ℕ)) : Type 0 where
   pub reads : OnlyReads old new
   pub goes_on : FilesGoOn old new
   pub faults_same : new.read_faults ≡ old.read_faults
   pub once : ReadsEach old new before items
-  pub items_are : IsTrue old.tells → with_files old.contents folder before names ≡ with_files old.contents folder items rest
-  pub fits : All FitsItem before → All FitsItem items
+  pub items_are : IsTrue old.tells → with_files limit old.contents folder before names ≡ with_files limit old.contents folder items rest
+  pub fits : All (FitsWithin limit) before → All (FitsWithin limit) items
   pub among : Among rest names
 
-pub gathers_more : {old mid new : FilesState} {folder : Option (List ℕ)} {before items after : List Item} {names rest others : List (List ℕ)} {name full : List ℕ}
-    → Gathers old mid folder before items names rest → rest ≡ name ∷ others → full ≡ full_name folder name
-    → OnlyReads mid new → FilesGoOn mid new → new.read_faults ≡ mid.read_faults → (IsTrue mid.tells → after ≡ with_item mid.contents items full) → (All FitsItem items → All FitsItem after) → ReadsEach mid new items after
-    → Gathers old new folder before after names others
+pub gathers_more : {limit : ℕ} {old mid new : FilesState} {folder : Option (List ℕ)} {before items after : List Item} {names rest others : List (List ℕ)} {name full : List ℕ}
+    → Gathers limit old mid folder before items names rest → rest ≡ name ∷ others → full ≡ full_name folder name
+    → OnlyReads mid new → FilesGoOn mid new → new.read_faults ≡ mid.read_faults → (IsTrue mid.tells → after ≡ with_item limit mid.contents items full) → (All (FitsWithin limit) items → All (FitsWithin limit) after) → ReadsEach mid new items after
+    → Gathers limit old new folder before after names others
 unfolding with_files
-gathers_more {old} {mid} {new} {folder} {before} {items} {after} {names} {rest} {others} {name} {full} h first whole reads goes_on same added fits once = record {
+gathers_more {limit} {old} {mid} {new} {folder} {before} {items} {after} {names} {rest} {others} {name} {full} h first whole reads goes_on same added fits once = record {
   goes_on = go_on h.goes_on goes_on;
   reads = reads_twice h.reads reads;
   faults_same = same ∙ h.faults_same;
   once = omega (arith, h.once, once);
   items_are = λ t.
-      h.items_are t ∙ ap (with_files old.contents folder items) first
-      ∙ ap (λ i. with_files old.contents folder i others)
-      (sym (added (h.reads.tells_same ∙ t) ∙ item_same old.contents mid.contents items full (h.reads.unchanged t) ∙ ap (with_item old.contents items) whole));
+      h.items_are t ∙ ap (with_files limit old.contents folder items) first
+      ∙ ap (λ i. with_files limit old.contents folder i others)
+      (sym (added (h.reads.tells_same ∙ t) ∙ item_same limit old.contents mid.contents items full (h.reads.unchanged t) ∙ ap (with_item limit old.contents items) whole));
   fits = λ f. fits (h.fits f);
   among = λ f is. h.among f (subst (λ r. ReadsOneOf r f) (sym first) (reads_later name others f is));
 }
 
 -- ---- the main file
 
-item_kept : (contents : Contents) (first : Item) (items : List Item) (name : List ℕ) → (more : List Item) × (with_item contents (first ∷ items) name ≡ first ∷ more)
+item_kept : (contents : Contents) (first : Item) (items : List Item) (name : List ℕ) → (more : List Item) × (with_item FILE_LIMIT contents (first ∷ items) name ≡ first ∷ more)
 item_kept contents first items name = by (is_in (first ∷ items) name || not (is_utf8 name))
   where
-    by : (b : Bool) → (more : List Item) × (cond b (first ∷ items) ((first ∷ items) ++ item_of contents name ∷ []) ≡ first ∷ more)
+    by : (b : Bool) → (more : List Item) × (cond b (first ∷ items) ((first ∷ items) ++ item_of FILE_LIMIT contents name ∷ []) ≡ first ∷ more)
     by true = (items, refl)
-    by false = (items ++ item_of contents name ∷ [], refl)
+    by false = (items ++ item_of FILE_LIMIT contents name ∷ [], refl)
 
 -- the first item stays the first
-first_kept : (contents : Contents) (folder : Option (List ℕ)) (first : Item) (items : List Item) (names : List (List ℕ)) → (more : List Item) × (with_files contents folder (first ∷ items) names ≡ first ∷ more)
+first_kept : (contents : Contents) (folder : Option (List ℕ)) (first : Item) (items : List Item) (names : List (List ℕ)) → (more : List Item) × (with_files FILE_LIMIT contents folder (first ∷ items) names ≡ first ∷ more)
 unfolding with_files
 first_kept contents folder first items [] = (items, refl)
 first_kept contents folder first items (name ∷ names) =
     let added = item_kept contents first items (full_name folder name) in
     let rest = first_kept contents folder first added.0 names in
-    (rest.0, ap (λ l. with_files contents folder l names) added.1 ∙ rest.1)
+    (rest.0, ap (λ l. with_files FILE_LIMIT contents folder l names) added.1 ∙ rest.1)
 
-all_kept : (contents : Contents) (main : List ℕ) (places : Places) → (more : List Item) × (all_items contents main places ≡ item_of contents main ∷ more)
+all_kept : (contents : Contents) (main : List ℕ) (places : Places) → (more : List Item) × (all_items contents main places ≡ item_of FILE_LIMIT contents main ∷ more)
 unfolding all_items named_items
 all_kept contents main places =
-    let first = item_of contents main in
+    let first = item_of FILE_LIMIT contents main in
     let listed = first_kept contents places.confdir first [] (places.action_files ++ places.filter_files) in
     let named = first_kept contents (Some places.templdir) first listed.0 template_names in
     let included = λ (items : List Item). all_included items places.templdir in
-    let behind : named_items contents main places ≡ first ∷ named.0 = ap (λ l. with_files contents (Some places.templdir) l template_names) listed.1 ∙ named.1 in
+    let behind : named_items contents main places ≡ first ∷ named.0 = ap (λ l. with_files FILE_LIMIT contents (Some places.templdir) l template_names) listed.1 ∙ named.1 in
     let rest = first_kept contents (Some places.templdir) first named.0 (included (first ∷ named.0)) in
-    (rest.0, ap (λ l. with_files contents (Some places.templdir) l (included l)) behind ∙ rest.1)
+    (rest.0, ap (λ l. with_files FILE_LIMIT contents (Some places.templdir) l (included l)) behind ∙ rest.1)
 
-items_kept : (contents : Contents) (main : List ℕ) (lines : Result (List Line) Refused) → (more : List Item) × (items_by contents main lines ≡ item_of contents main ∷ more)
+items_kept : (contents : Contents) (main : List ℕ) (lines : Result (List Line) Refused) → (more : List Item) × ((set_by contents main lines).items ≡ item_of FILE_LIMIT contents main ∷ more)
 items_kept contents main (Ok lines) = all_kept contents main (places_of main lines)
 items_kept contents main (Err refusal) = ([], refl)
 
@@ -172,18 +173,16 @@ main_of_set contents main set read same is =
     subst P (sym same) (subst (λ l. IsMainOf main l read) (sym (main_lines contents main)) is)
 
 module _ (contents : Contents) (main : List ℕ) (content : Content) (whole : content ≡ content_of FILE_LIMIT (contents main)) where
-  pub gathered_behind : (lines : List Line) → content_lines content ≡ Ok lines → gathered contents main ≡ record { main = main; items = all_items contents main (places_of main lines) }
+  pub gathered_behind : (lines : List Line) → content_lines content ≡ Ok lines → gathered contents main ≡ set_behind contents main (places_of main lines)
   unfolding gathered
   gathered_behind lines e =
-      let S : Result (List Line) Refused → FileSet = λ l. record { main = main; items = items_by contents main l } in
-      ap S (ap content_lines (sym whole) ∙ e)
+      ap (set_by contents main) (ap content_lines (sym whole) ∙ e)
 
-  pub gathered_only : (line number : ℕ) → content_lines content ≡ refused line number → gathered contents main ≡ record { main = main; items = (main, content) ∷ [] }
+  pub gathered_only : (line number : ℕ) → content_lines content ≡ refused line number → gathered contents main ≡ record { main = main; items = (main, content) ∷ []; lists = [] }
   unfolding gathered
   gathered_only line number e =
-      let S : Result (List Line) Refused → FileSet = λ l. record { main = main; items = items_by contents main l } in
-      let O : Content → FileSet = λ c. record { main = main; items = (main, c) ∷ [] } in
-      ap S (ap content_lines (sym whole) ∙ e) ∙ ap O (sym whole)
+      let O : Content → FileSet = λ c. record { main = main; items = (main, c) ∷ []; lists = [] } in
+      ap (set_by contents main) (ap content_lines (sym whole) ∙ e) ∙ ap O (sym whole)
 
   pub main_behind : (lines : List Line) (read : Result MainFile FileFault) → content_lines content ≡ Ok lines → IsMainOf main (Ok lines) read → IsMainOf main (content_lines (content_of FILE_LIMIT (contents main))) read
   main_behind lines read e is = subst (λ l. IsMainOf main l read) (sym (ap content_lines (sym whole) ∙ e)) is
@@ -192,7 +191,7 @@ module _ (contents : Contents) (main : List ℕ) (content : Content) (whole : co
   main_refused line number read e is =
       subst (λ r. IsMainOf main (content_lines (content_of FILE_LIMIT (contents main))) r) (sym is) (ap content_lines (sym whole) ∙ e)
 
-  pub names_gathered : (lines : List Line) (f : LoadFault) → content_lines content ≡ Ok lines → ReadsOneOf (names_behind contents main (places_of main lines)) f → ReadsOneOf (names_read contents main) f
+  pub names_gathered : (lines : List Line) (f : LoadFault) → content_lines content ≡ Ok lines → ReadsOneOf (names_with_lists contents main (places_of main lines)) f → ReadsOneOf (names_read contents main) f
   unfolding names_read
   names_gathered lines f e is =
       reads_later main _ f (subst (λ l. ReadsOneOf (names_by contents main l) f) (sym (ap content_lines (sym whole) ∙ e)) is)

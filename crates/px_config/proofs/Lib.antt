@@ -2,6 +2,7 @@ pub mod DirectiveLemmas
 pub mod FaultLemmas
 pub mod GatherLemmas
 pub mod IndexLemmas
+pub mod ListingLemmas
 pub mod MainFileLemmas
 pub mod MainLemmas
 pub mod NameLemmas

@@ -5,7 +5,9 @@ use Rattle.px_action_files.specs.Meanings.{SectionSeen, seen_section}
 use Rattle.px_action_files.specs.declared.files.ActionFile.{ActionFile}
 use Rattle.px_action_files.specs.declared.sections.Section.{Section}
 use Rattle.px_merge.specs.Merged.{Merged, names_of, placed, sections_from, sections_of}
+use Rattle.px_merge.specs.declared.host_lists.ListedHosts.{ListedHosts}
 use Rattle.px_config.specs.Actions.{seen_file}
+use Rattle.px_config.specs.Listings.{seen_list}
 use Rattle.px_config.specs.Spelling.{PlacedSeen, placed_from, placed_seen, sections_seen, seen_placed, seen_sections}
 
 each_placed : (number : ℕ) (sections : List Section) → map seen_placed (map (placed number) sections) ≡ map (placed_seen number) (map seen_section sections)
@@ -23,8 +25,9 @@ names_same : (files : List (List ℕ × ActionFile)) → names_of files ≡ map 
 names_same [] = refl
 names_same (file ∷ files) = ap (λ l. file.0 ∷ l) (names_same files)
 
-pub same_sections : (m : Merged) (files : List (List ℕ × ActionFile)) → m.lists ≡ [] → m.names ≡ names_of files → m.sections ≡ sections_of files → seen_sections m ≡ sections_seen (map seen_file files)
-same_sections m files lists names sections =
-    ap (λ l. record { lists = l; names = m.names; sections = map seen_placed m.sections }) lists
-    ∙ ap (λ n. record { lists = []; names = n; sections = map seen_placed m.sections }) (names ∙ names_same files)
-    ∙ ap (λ s. record { lists = []; names = map (λ file. file.0) (map seen_file files); sections = s }) (ap (map seen_placed) sections ∙ placed_same 0 files)
+pub same_sections : (m : Merged) (lists : List ListedHosts) (files : List (List ℕ × ActionFile)) → m.lists ≡ lists → m.names ≡ names_of files → m.sections ≡ sections_of files →
+    seen_sections m ≡ sections_seen (map seen_list lists) (map seen_file files)
+same_sections m lists files listed names sections =
+    ap (λ l. record { lists = map seen_list l; names = m.names; sections = map seen_placed m.sections }) listed
+    ∙ ap (λ n. record { lists = map seen_list lists; names = n; sections = map seen_placed m.sections }) (names ∙ names_same files)
+    ∙ ap (λ s. record { lists = map seen_list lists; names = map (λ file. file.0) (map seen_file files); sections = s }) (ap (map seen_placed) sections ∙ placed_same 0 files)

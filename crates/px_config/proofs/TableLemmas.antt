@@ -9,6 +9,7 @@ pub found : (d : Directive) → directive_of (row_of d).name ≡ Some d
 unfolding row_of directive_of
 found directive.ActionsFile = refl
 found directive.FilterFile = refl
+found directive.HostList = refl
 found directive.Confdir = refl
 found directive.Templdir = refl
 found directive.ListenAddress = refl

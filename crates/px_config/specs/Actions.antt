@@ -9,6 +9,7 @@ use Rattle.px_action_files.specs.PatternLines.{pattern_lines}
 use Rattle.px_action_files.specs.declared.files.ActionFile.{ActionFile}
 use Rattle.px_config.specs.declared.actions.ActionFiles.{ActionFiles}
 use Rattle.px_config.specs.Faults.{Fault, at_file}
+use Rattle.px_config.specs.Listings.{ListSeen, seen_list}
 use Rattle.px_config.specs.Parts.{file_lines}
 use Rattle.px_config.specs.Sets.{Item}
 use Rattle.px_base.specs.Results.{result_map}
@@ -26,20 +27,21 @@ limited_sections limit so_far lines = and_then (file_sections lines) (within (sl
 abbrev pub ActionsSeen : Type 0
 ActionsSeen = List ℕ × List SectionSeen
 
--- action files, and how many patterns they have
+-- lists of hosts, action files, and how many patterns these have
 pub record ActionsGiven : Type 0 where
+  pub lists : List ListSeen
   pub files : List ActionsSeen
   pub patterns : ℕ
 
--- no action file was read
-abbrev pub no_actions : ActionsGiven
-no_actions = record { files = []; patterns = 0 }
+-- lists of hosts were read, and no action file
+abbrev pub no_actions : List ListSeen → ActionsGiven
+no_actions lists = record { lists = lists; files = []; patterns = 0 }
 
 abbrev pub pattern_total : List SectionSeen → ℕ
 pattern_total sections = sum_by (λ s. length s.patterns) sections
 
 abbrev pub with_sections : ActionsGiven → List ℕ → List SectionSeen → ActionsGiven
-with_sections given name sections = record { files = given.files ++ (name, sections) ∷ []; patterns = given.patterns + pattern_total sections }
+with_sections given name sections = record { lists = given.lists; files = given.files ++ (name, sections) ∷ []; patterns = given.patterns + pattern_total sections }
 
 -- the sections of an actions file, where files before it have so many patterns
 abbrev pub file_actions : List Item → Option (List ℕ) → ℕ → ℕ → List ℕ → Result (List SectionSeen) Refused
@@ -59,4 +61,4 @@ abbrev pub seen_file : List ℕ × ActionFile → ActionsSeen
 seen_file file = (file.0, map seen_section file.1.sections)
 
 abbrev pub seen_actions : ActionFiles → ActionsGiven
-seen_actions a = record { files = map seen_file a.files; patterns = a.patterns }
+seen_actions a = record { lists = map seen_list a.lists; files = map seen_file a.files; patterns = a.patterns }

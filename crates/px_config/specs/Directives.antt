@@ -1,5 +1,5 @@
 -- The lines of the main file: a directive's name, white space, and a value (Privoxy's manual, "The Main Configuration File").
-use Rattle.std.specs.Prelude.{ℕ, List, [], ◌∷◌, ◌++◌, filter_map, Option, Some, None, codes, if◌then◌else◌}
+use Rattle.std.specs.Prelude.{ℕ, List, [], ◌∷◌, ◌++◌, filter_map, Option, Some, None, option_map, codes, if◌then◌else◌}
 use Rattle.std.specs.List.{before_first, after_first}
 use Rattle.px_base.specs.Blanks.{is_blank, trimmed}
 use Rattle.px_text.specs.declared.lines.Line.{Line}
@@ -25,6 +25,17 @@ value_for word line = value_given word (name_in line.text) (value_in line.text)
 -- the values of a directive, in the order of its lines
 unfoldable pub values_of : List ℕ → List Line → List (List ℕ)
 values_of word lines = filter_map (value_for word) lines
+
+-- the name of the file of a list of hosts that a name and a value give: the first word of the value
+abbrev pub list_file_given : List ℕ → List ℕ → Option (List ℕ)
+list_file_given name value = option_map name_in (value_given (codes "host-list") name value)
+
+abbrev pub list_file_for : Line → Option (List ℕ)
+list_file_for line = list_file_given (name_in line.text) (value_in line.text)
+
+-- the names of the files of lists of hosts, in the order of the lines
+unfoldable pub list_files_of : List Line → List (List ℕ)
+list_files_of lines = filter_map list_file_for lines
 
 -- values with one more behind them, if there is one
 abbrev pub with_given_value : List (List ℕ) → Option (List ℕ) → List (List ℕ)

@@ -13,6 +13,7 @@ pub mod Seen
 pub mod Mains
 pub mod MainFiles
 pub mod Filters
+pub mod Listings
 pub mod Spelling
 pub mod Loading
 pub mod FaultLines

@@ -19,6 +19,7 @@ use Rattle.px_config.specs.declared.mains.Address.{Address}
 use Rattle.px_config.specs.declared.mains.Main.{Main}
 use Rattle.px_config.specs.declared.mains.TheConstants.{DEFAULT_PATTERNS, MOST_PATTERNS}
 use Rattle.px_config.specs.declared.names.TheConstants.{FILES_OF_A_KIND}
+use Rattle.px_config.specs.declared.settings.ListLine.{ListLine}
 use Rattle.px_config.specs.declared.settings.MainParts.{MainParts}
 use Rattle.px_config.specs.declared.settings.Note.{Note}
 use Rattle.px_config.specs.declared.settings.Settings.{Settings}
@@ -97,6 +98,16 @@ adds_tag line m value =
     if length (value_in value) == 0 || list_any (λ tag. bytes_eq tag (name_in value)) m.tags then refused line 29
     else Ok (record m { tags = m.tags ++ name_in value ∷ [] })
 
+abbrev pub list_line : ℕ → List ℕ → ListLine
+list_line line value = record { number = line; name = name_in value; reason = value_in value }
+
+-- a file's name, white space and a reason, and each line adds a list; the seventeenth is refused
+abbrev pub adds_list : ℕ → Main → List ℕ → Result Main Refused
+adds_list line m value =
+    if length (value_in value) == 0 then refused line 29
+    else if nat_lt (length m.lists) FILES_OF_A_KIND then Ok (record m { lists = m.lists ++ list_line line value ∷ [] })
+    else refused line 31
+
 -- ---- the table of directives
 
 pub record Row : Type 0 where
@@ -120,6 +131,7 @@ nothing_set = record {
   forwards = [];
   action_files = 0;
   filter_files = 0;
+  lists = [];
   notes = [];
 }
 
@@ -127,6 +139,7 @@ nothing_set = record {
 unfoldable pub row_of : Directive → Row
 row_of directive.ActionsFile = row (codes "actionsfile") (adds_file (λ m. m.action_files) (λ n m. record m { action_files = n }))
 row_of directive.FilterFile = row (codes "filterfile") (adds_file (λ m. m.filter_files) (λ n m. record m { filter_files = n }))
+row_of directive.HostList = row (codes "host-list") (λ file. adds_list)
 row_of directive.Confdir = row (codes "confdir") names_folder
 row_of directive.Templdir = row (codes "templdir") names_folder
 row_of directive.ListenAddress = row (codes "listen-address") listens
@@ -188,4 +201,4 @@ settings_of m = record {
 
 -- what the main file gives
 abbrev pub main_parts : Main → MainParts
-main_parts m = record { settings = settings_of m; forwards = m.forwards; notes = m.notes }
+main_parts m = record { settings = settings_of m; forwards = m.forwards; lists = m.lists; notes = m.notes }

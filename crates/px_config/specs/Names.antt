@@ -5,7 +5,7 @@ use Rattle.px_templates.specs.declared.pages.TheConstants.{PAGES}
 use Rattle.px_templates.specs.Pages.{page_name}
 use Rattle.px_config.specs.declared.names.Places.{Places}
 use Rattle.px_config.specs.declared.names.TheConstants.{SLASH, FILES_OF_A_KIND}
-use Rattle.px_config.specs.Directives.{last_value, values_of}
+use Rattle.px_config.specs.Directives.{last_value, list_files_of, values_of}
 
 -- one byte more in front of a folder; without a folder, the empty one where the byte is a slash
 abbrev pub in_front_of_folder : ℕ → Option (List ℕ) → Option (List ℕ)
@@ -34,7 +34,7 @@ abbrev pub or_else : Option (List ℕ) → Option (List ℕ) → Option (List �
 or_else None other = other
 or_else (Some folder) other = Some folder
 
--- where action files and filter files stand: the last confdir, or the main file's folder
+-- where action files, filter files and lists of hosts stand: the last confdir, or the main file's folder
 unfoldable pub confdir : List ℕ → List Line → Option (List ℕ)
 confdir main lines = or_else (last_value (codes "confdir") lines) (folder_of main)
 
@@ -49,11 +49,16 @@ action_names lines = take FILES_OF_A_KIND (values_of (codes "actionsfile") lines
 unfoldable pub filter_names : List Line → List (List ℕ)
 filter_names lines = take FILES_OF_A_KIND (values_of (codes "filterfile") lines)
 
+-- and of the lists of hosts
+unfoldable pub list_file_names : List Line → List (List ℕ)
+list_file_names lines = take FILES_OF_A_KIND (list_files_of lines)
+
 -- what the lines of the main file say of other files
 abbrev pub places_of : List ℕ → List Line → Places
 places_of main lines = record {
   action_files = action_names lines;
   filter_files = filter_names lines;
+  host_lists = list_file_names lines;
   confdir = confdir main lines;
   templdir = templdir main lines;
 }

@@ -22,9 +22,13 @@ content_in (item ∷ items) name = if bytes_eq item.0 name then item.1 else cont
 abbrev pub is_in : List Item → List ℕ → Bool
 is_in items name = list_any (λ item. bytes_eq item.0 name) items
 
--- what is found is within the limit
+-- what is found is within a limit
+abbrev pub FitsWithin : ℕ → Item → Type 0
+FitsWithin limit item = FitsLimit limit item.1
+
+-- what is found is within the limit of the files that are no lists of hosts
 abbrev pub FitsItem : Item → Type 0
-FitsItem item = FitsLimit FILE_LIMIT item.1
+FitsItem = FitsWithin FILE_LIMIT
 
 -- a text may be included by a name without a slash
 abbrev pub may_include : List ℕ → Bool

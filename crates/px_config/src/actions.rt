@@ -4,18 +4,21 @@ ghost use Rattle.px_action_files.specs.Faults.{IsReported};
 ghost use Rattle.px_action_files.specs.Meanings.{seen_section};
 ghost use Rattle.px_config.specs.Actions.{action_files, file_actions, no_actions, pattern_total, limited_sections, seen_actions, with_actions, with_sections};
 ghost use Rattle.px_config.specs.Faults.{IsFault};
+ghost use Rattle.px_config.specs.Listings.{seen_list};
 ghost use Rattle.px_config.specs.Sets.{FitsItem};
 
 use crate::contents::{fault_in, file_lines};
 use crate::faults::{LoadFault, TOO_LARGE};
 use px_action_files::{ActionFile, FileFault, Section};
 use px_base::{Content, List, Mem, Text};
+use px_merge::ListedHosts;
 use px_text::Line;
 use std::alloc::Global;
 
-/// Action files by their names, and how many patterns they have.
+/// Lists of hosts, action files by their names, and how many patterns these have.
 #[derive(Drop)]
 pub(crate) struct ActionFiles {
+    pub(crate) lists: List<ListedHosts>,
     pub(crate) files: List<(Text, ActionFile)>,
     pub(crate) patterns: usize,
 }
@@ -80,7 +83,7 @@ fn read_file(
 }
 
 impl ActionFiles {
-    /// Reads the action files of these names, which may have so many patterns together. The first fault is answered.
+    /// Reads the action files of these names, which may have so many patterns together, behind lists of hosts. The first fault is answered.
     #[tactic(auto, unfolding(crate::specs::Actions::action_files))]
     pub(crate) fn read(
         alloc: Global,
@@ -88,12 +91,14 @@ impl ActionFiles {
         folder: Option<&[u8]>,
         limit: usize,
         names: &[Text],
+        lists: List<ListedHosts>,
     ) -> Result<ActionFiles, LoadFault>
         requires { All FitsItem items.now }
-        ensures files { IfOk result (λ files. action_files items.now (option_copied folder.entry) limit no_actions names.now ≡ Ok (seen_actions files)) }
-        ensures refused { IfErr result (IsFault (action_files items.now (option_copied folder.entry) limit no_actions names.now)) }
+        ensures files { IfOk result (λ files. action_files items.now (option_copied folder.entry) limit (no_actions (map seen_list lists)) names.now ≡ Ok (seen_actions files)) }
+        ensures refused { IfErr result (IsFault (action_files items.now (option_copied folder.entry) limit (no_actions (map seen_list lists)) names.now)) }
     {
         let mut files = ActionFiles {
+            lists,
             files: List::new(alloc),
             patterns: 0,
         };

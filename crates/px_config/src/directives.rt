@@ -1,6 +1,6 @@
 // The directives of the main file, and its lines.
 ghost use Rattle.std.specs.Prelude.{◌≡◌, OnOk, option_copied};
-ghost use Rattle.px_config.specs.Directives.{name_in, value_given, value_in, with_given_value};
+ghost use Rattle.px_config.specs.Directives.{list_file_given, name_in, value_given, value_in, with_given_value};
 ghost use Rattle.px_config.specs.Mains.{directive_of, row_of};
 ghost use Rattle.px_config.specs.Names.{or_else};
 ghost use Rattle.px_base.specs.Lists.{nonempty};
@@ -15,6 +15,8 @@ pub(crate) enum Directive {
     ActionsFile,
     /// `filterfile`: a file's name.
     FilterFile,
+    /// `host-list`: the name of a file of hosts, and the reason for which they are blocked.
+    HostList,
     /// `confdir`: a folder's name.
     Confdir,
     /// `templdir`: a folder's name.
@@ -46,9 +48,10 @@ pub(crate) enum Directive {
 }
 
 /// All directives.
-pub(crate) const DIRECTIVES: [Directive; 16] = [
+pub(crate) const DIRECTIVES: [Directive; 17] = [
     Directive::ActionsFile,
     Directive::FilterFile,
+    Directive::HostList,
     Directive::Confdir,
     Directive::Templdir,
     Directive::ListenAddress,
@@ -73,6 +76,7 @@ impl Directive {
         match self {
             Directive::ActionsFile => "actionsfile",
             Directive::FilterFile => "filterfile",
+            Directive::HostList => "host-list",
             Directive::Confdir => "confdir",
             Directive::Templdir => "templdir",
             Directive::ListenAddress => "listen-address",
@@ -143,6 +147,24 @@ pub(crate) fn add_value(
 {
     match value_given(word, name, value) {
         Some(value) => values.add(Text::from_bytes(alloc, value)?),
+        None => Ok(()),
+    }
+}
+
+/// Adds the name of the file of a list of hosts, if a line of this name and value gives one.
+pub(crate) fn add_list_file(
+    alloc: Global,
+    name: &[u8],
+    value: &[u8],
+    files: &mut List<Text>,
+) -> Result<(), Mem>
+    ensures { OnOk result (files.new ≡ with_given_value files.old (list_file_given name.now value.now)) }
+{
+    match value_given(b"host-list", name, value) {
+        Some(value) => {
+            let (file, _) = split_directive(value);
+            files.add(Text::from_bytes(alloc, file)?)
+        }
         None => Ok(()),
     }
 }

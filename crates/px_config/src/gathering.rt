@@ -1,11 +1,11 @@
 // Reading the files of a configuration.
 ghost use Rattle.std.specs.Prelude.{◌≡◌, ◌≤◌, ◌+◌, ◌++◌, ◌∷◌, [], ℕ, All, Err, IfOk, IfErr, IsTrue, Ok, OnOk, Some, option_copied};
 ghost use Rattle.px_base.specs.Contents.{FilesGoOn, FitsLimit, content_of};
-ghost use Rattle.px_config.specs.Gathering.{GatherCause, GatherCauses, IsReadFault, OnlyReads, ReadsEach, ReadsOneOf, all_items, gathered, item_of, names_behind, names_read, with_files, with_item};
+ghost use Rattle.px_config.specs.Gathering.{GatherCause, GatherCauses, IsReadFault, OnlyReads, ReadsEach, ReadsOneOf, ReadsSet, all_items, all_lists, gathered, item_of, names_behind, names_read, names_with_lists, set_behind, with_files, with_item};
 ghost use Rattle.px_config.specs.MainFiles.{IsMainOf};
 ghost use Rattle.px_config.specs.Names.{places_of, template_names};
 ghost use Rattle.px_config.specs.Parts.{content_lines};
-ghost use Rattle.px_config.specs.Sets.{FitsItem, all_included};
+ghost use Rattle.px_config.specs.Sets.{FitsItem, FitsWithin, all_included};
 ghost use Rattle.px_base.specs.Causes.{Rose};
 
 use crate::contents::content_lines;
@@ -13,28 +13,29 @@ use crate::faults::LoadFault;
 use crate::indexes::Gathered;
 use crate::main_files::MainFile;
 use crate::names::{Places, full_name, template_names};
-use crate::sets::{FILE_LIMIT, FileSet, all_included};
+use crate::sets::{FILE_LIMIT, FileSet, LIST_LIMIT, all_included};
 use px_action_files::FileFault;
 use px_base::{Content, Files, FilesFault, List, Mem, Text, as_text};
 use px_text::Line;
 use std::alloc::Global;
 
-/// Reads a file, whose name is written so in the configuration.
+/// Reads a file up to a limit, whose name is written so in the configuration.
 fn read_content<F: Files>(
     alloc: Global,
     files: &mut F,
+    limit: u64,
     name: &str,
     written: &[u8],
 ) -> Result<Content, LoadFault>
-    ensures content { IsTrue (F.state files.old).tells → IfOk result (λ c. c ≡ content_of FILE_LIMIT ((F.state files.old).contents name.now)) }
-    ensures fits { IfOk result (FitsLimit FILE_LIMIT) }
+    ensures content { IsTrue (F.state files.old).tells → IfOk result (λ c. c ≡ content_of limit ((F.state files.old).contents name.now)) }
+    ensures fits { IfOk result (FitsLimit limit) }
     ensures once { (F.state files.new).reads ≤ (F.state files.old).reads + 1 }
     ensures named { IfErr result (IsReadFault written.now) }
     ensures cause { GatherCauses (F.state files.old) (F.state files.new) result }
     ensures only_reads { OnlyReads (F.state files.old) (F.state files.new) }
     ensures go_on { FilesGoOn (F.state files.old) (F.state files.new) }
 {
-    match files.read(name, FILE_LIMIT) {
+    match files.read(name, limit) {
         Ok(content) => Ok(content),
         Err(fault) => match fault {
             FilesFault::Failed => Err(read_fault(alloc, written)),
@@ -54,16 +55,17 @@ fn read_fault(alloc: Global, written: &[u8]) -> LoadFault
     }
 }
 
-/// Reads a file, unless it was read.
+/// Reads a file up to a limit, unless it was read.
 fn read_item<F: Files>(
     alloc: Global,
     files: &mut F,
+    limit: u64,
     name: Text,
     written: &[u8],
     items: &mut Gathered,
 ) -> Result<(), LoadFault>
-    ensures items { IsTrue (F.state files.old).tells → OnOk result (items.new ≡ with_item (F.state files.old).contents items.old name) }
-    ensures fits { OnOk result (All FitsItem items.old → All FitsItem items.new) }
+    ensures items { IsTrue (F.state files.old).tells → OnOk result (items.new ≡ with_item limit (F.state files.old).contents items.old name) }
+    ensures fits { OnOk result (All (FitsWithin limit) items.old → All (FitsWithin limit) items.new) }
     ensures once { OnOk result (ReadsEach (F.state files.old) (F.state files.new) items.old items.new) }
     ensures named { IfErr result (IsReadFault written.now) }
     ensures cause { GatherCauses (F.state files.old) (F.state files.new) result }
@@ -75,7 +77,7 @@ fn read_item<F: Files>(
     }
     match as_text(name.as_bytes()) {
         Some(text) => {
-            let content = read_content(alloc, files, text, written)?;
+            let content = read_content(alloc, files, limit, text, written)?;
             items.add(alloc, name, content)?;
             Ok(())
         }
@@ -83,17 +85,18 @@ fn read_item<F: Files>(
     }
 }
 
-/// Reads the files of these names in a folder, each unless it was read.
+/// Reads the files of these names in a folder up to a limit, each unless it was read.
 #[tactic(auto, unfolding(crate::specs::Gathering::with_files))]
 fn read_files<F: Files>(
     alloc: Global,
     files: &mut F,
+    limit: u64,
     folder: Option<&[u8]>,
     names: &[Text],
     items: &mut Gathered,
 ) -> Result<(), LoadFault>
-    ensures items { IsTrue (F.state files.old).tells → OnOk result (items.new ≡ with_files (F.state files.old).contents (option_copied folder.entry) items.old names.now) }
-    ensures fits { OnOk result (All FitsItem items.old → All FitsItem items.new) }
+    ensures items { IsTrue (F.state files.old).tells → OnOk result (items.new ≡ with_files limit (F.state files.old).contents (option_copied folder.entry) items.old names.now) }
+    ensures fits { OnOk result (All (FitsWithin limit) items.old → All (FitsWithin limit) items.new) }
     ensures once { OnOk result (ReadsEach (F.state files.old) (F.state files.new) items.old items.new) }
     ensures named { IfErr result (ReadsOneOf names.now) }
     ensures cause { GatherCauses (F.state files.old) (F.state files.new) result }
@@ -103,7 +106,7 @@ fn read_files<F: Files>(
     let mut rest = names;
     'names: while let Some((name, others)) = rest.split_first() {
         let full = full_name(alloc, folder, name.as_bytes())?;
-        read_item(alloc, files, full, name.as_bytes(), items)?;
+        read_item(alloc, files, limit, full, name.as_bytes(), items)?;
         rest = others;
     }
     Ok(())
@@ -125,10 +128,10 @@ fn read_named<F: Files>(
     places: &Places,
     items: &mut Gathered,
 ) -> Result<(), LoadFault>
-    ensures items { IsTrue (F.state files.old).tells → items.old ≡ item_of (F.state files.old).contents main.now ∷ [] → OnOk result (items.new ≡ all_items (F.state files.old).contents main.now places.now) }
+    ensures items { IsTrue (F.state files.old).tells → items.old ≡ item_of FILE_LIMIT (F.state files.old).contents main.now ∷ [] → OnOk result (items.new ≡ all_items (F.state files.old).contents main.now places.now) }
     ensures fits { OnOk result (All FitsItem items.old → All FitsItem items.new) }
     ensures once { OnOk result (ReadsEach (F.state files.old) (F.state files.new) items.old items.new) }
-    ensures named { IsTrue (F.state files.old).tells → items.old ≡ item_of (F.state files.old).contents main.now ∷ [] → IfErr result (ReadsOneOf (names_behind (F.state files.old).contents main.now places.now)) }
+    ensures named { IsTrue (F.state files.old).tells → items.old ≡ item_of FILE_LIMIT (F.state files.old).contents main.now ∷ [] → IfErr result (ReadsOneOf (names_behind (F.state files.old).contents main.now places.now)) }
     ensures cause { GatherCauses (F.state files.old) (F.state files.new) result }
     ensures only_reads { OnlyReads (F.state files.old) (F.state files.new) }
     ensures go_on { FilesGoOn (F.state files.old) (F.state files.new) }
@@ -148,7 +151,7 @@ fn read_listed<F: Files>(
     places: &Places,
     items: &mut Gathered,
 ) -> Result<(), LoadFault>
-    ensures items { IsTrue (F.state files.old).tells → OnOk result (items.new ≡ with_files (F.state files.old).contents places.now.confdir items.old (places.now.action_files ++ places.now.filter_files)) }
+    ensures items { IsTrue (F.state files.old).tells → OnOk result (items.new ≡ with_files FILE_LIMIT (F.state files.old).contents places.now.confdir items.old (places.now.action_files ++ places.now.filter_files)) }
     ensures fits { OnOk result (All FitsItem items.old → All FitsItem items.new) }
     ensures once { OnOk result (ReadsEach (F.state files.old) (F.state files.new) items.old items.new) }
     ensures named { IfErr result (ReadsOneOf (places.now.action_files ++ places.now.filter_files)) }
@@ -157,8 +160,10 @@ fn read_listed<F: Files>(
     ensures go_on { FilesGoOn (F.state files.old) (F.state files.new) }
 {
     let folder = places.folder();
-    read_files(alloc, files, folder, places.action_files.as_slice(), items)?;
-    read_files(alloc, files, folder, places.filter_files.as_slice(), items)?;
+    let names = places.action_files.as_slice();
+    read_files(alloc, files, FILE_LIMIT, folder, names, items)?;
+    let names = places.filter_files.as_slice();
+    read_files(alloc, files, FILE_LIMIT, folder, names, items)?;
     Ok(())
 }
 
@@ -169,7 +174,7 @@ fn read_templates<F: Files>(
     folder: &[u8],
     items: &mut Gathered,
 ) -> Result<(), LoadFault>
-    ensures items { IsTrue (F.state files.old).tells → OnOk result (items.new ≡ with_files (F.state files.old).contents (Some folder.now) items.old template_names) }
+    ensures items { IsTrue (F.state files.old).tells → OnOk result (items.new ≡ with_files FILE_LIMIT (F.state files.old).contents (Some folder.now) items.old template_names) }
     ensures fits { OnOk result (All FitsItem items.old → All FitsItem items.new) }
     ensures once { OnOk result (ReadsEach (F.state files.old) (F.state files.new) items.old items.new) }
     ensures named { IfErr result (ReadsOneOf template_names) }
@@ -178,7 +183,14 @@ fn read_templates<F: Files>(
     ensures go_on { FilesGoOn (F.state files.old) (F.state files.new) }
 {
     let names = template_names(alloc)?;
-    read_files(alloc, files, Some(folder), names.as_slice(), items)
+    read_files(
+        alloc,
+        files,
+        FILE_LIMIT,
+        Some(folder),
+        names.as_slice(),
+        items,
+    )
 }
 
 /// Reads the texts that the templates include.
@@ -188,7 +200,7 @@ fn read_included<F: Files>(
     folder: &[u8],
     items: &mut Gathered,
 ) -> Result<(), LoadFault>
-    ensures items { IsTrue (F.state files.old).tells → OnOk result (items.new ≡ with_files (F.state files.old).contents (Some folder.now) items.old (all_included items.old folder.now)) }
+    ensures items { IsTrue (F.state files.old).tells → OnOk result (items.new ≡ with_files FILE_LIMIT (F.state files.old).contents (Some folder.now) items.old (all_included items.old folder.now)) }
     ensures fits { OnOk result (All FitsItem items.old → All FitsItem items.new) }
     ensures once { OnOk result (ReadsEach (F.state files.old) (F.state files.new) items.old items.new) }
     ensures named { IfErr result (ReadsOneOf (all_included items.old folder.now)) }
@@ -197,7 +209,14 @@ fn read_included<F: Files>(
     ensures go_on { FilesGoOn (F.state files.old) (F.state files.new) }
 {
     let names = all_included(alloc, items.as_slice(), folder)?;
-    read_files(alloc, files, Some(folder), names.as_slice(), items)
+    read_files(
+        alloc,
+        files,
+        FILE_LIMIT,
+        Some(folder),
+        names.as_slice(),
+        items,
+    )
 }
 
 /// The items of the main file and of the files that its lines name.
@@ -222,7 +241,28 @@ fn read_items<F: Files>(
     Ok(items.into_items())
 }
 
+/// Reads the lists of hosts that the main file's lines name.
+#[tactic(auto, unfolding(crate::specs::Gathering::all_lists))]
+fn read_lists<F: Files>(
+    alloc: Global,
+    files: &mut F,
+    places: &Places,
+) -> Result<List<(Text, Content)>, LoadFault>
+    ensures lists { IsTrue (F.state files.old).tells → IfOk result (λ lists. lists ≡ all_lists (F.state files.old).contents places.now) }
+    ensures once { IfOk result (ReadsEach (F.state files.old) (F.state files.new) []) }
+    ensures named { IfErr result (ReadsOneOf places.now.host_lists) }
+    ensures cause { GatherCauses (F.state files.old) (F.state files.new) result }
+    ensures only_reads { OnlyReads (F.state files.old) (F.state files.new) }
+    ensures go_on { FilesGoOn (F.state files.old) (F.state files.new) }
+{
+    let mut lists = Gathered::new(alloc);
+    let names = places.host_lists.as_slice();
+    read_files(alloc, files, LIST_LIMIT, places.folder(), names, &mut lists)?;
+    Ok(lists.into_items())
+}
+
 /// Goes on with a main file whose lines can be read.
+#[tactic(auto, using(crate::proofs::GatherLemmas::reads_rules))]
 fn read_behind<F: Files>(
     alloc: Global,
     files: &mut F,
@@ -230,20 +270,21 @@ fn read_behind<F: Files>(
     content: Content,
     lines: List<Line>,
 ) -> Result<FilesRead, LoadFault>
-    ensures set { IsTrue (F.state files.old).tells → content ≡ content_of FILE_LIMIT ((F.state files.old).contents main.now) → IfOk result (λ read. read.set ≡ record { main = main.now; items = all_items (F.state files.old).contents main.now (places_of main.now lines) }) }
+    ensures set { IsTrue (F.state files.old).tells → content ≡ content_of FILE_LIMIT ((F.state files.old).contents main.now) → IfOk result (λ read. read.set ≡ set_behind (F.state files.old).contents main.now (places_of main.now lines)) }
     ensures file { IfOk result (λ read. IsMainOf main.now (Ok lines) read.main) }
     ensures fits { FitsLimit FILE_LIMIT content → IfOk result (λ read. All FitsItem read.set.items) }
-    ensures once { IfOk result (λ read. ReadsEach (F.state files.old) (F.state files.new) ((main.now, content) ∷ []) read.set.items) }
-    ensures named { IsTrue (F.state files.old).tells → content ≡ content_of FILE_LIMIT ((F.state files.old).contents main.now) → IfErr result (ReadsOneOf (names_behind (F.state files.old).contents main.now (places_of main.now lines))) }
+    ensures once { IfOk result (λ read. ReadsSet (F.state files.old) (F.state files.new) ((main.now, content) ∷ []) read.set) }
+    ensures named { IsTrue (F.state files.old).tells → content ≡ content_of FILE_LIMIT ((F.state files.old).contents main.now) → IfErr result (ReadsOneOf (names_with_lists (F.state files.old).contents main.now (places_of main.now lines))) }
     ensures cause { GatherCauses (F.state files.old) (F.state files.new) result }
     ensures only_reads { OnlyReads (F.state files.old) (F.state files.new) }
     ensures go_on { FilesGoOn (F.state files.old) (F.state files.new) }
 {
     let file = MainFile::of(alloc, main, lines)?;
     let items = read_items(alloc, files, main, content, &file.places)?;
+    let lists = read_lists(alloc, files, &file.places)?;
     let main = Text::from_bytes(alloc, main)?;
     Ok(FilesRead {
-        set: FileSet { main, items },
+        set: FileSet { main, items, lists },
         main: Ok(file),
     })
 }
@@ -255,14 +296,18 @@ fn only_main(
     content: Content,
     refusal: FileFault,
 ) -> Result<FilesRead, Mem>
-    ensures set { IfOk result (λ read. read.set ≡ record { main = main.now; items = (main.now, content) ∷ [] }) }
+    ensures set { IfOk result (λ read. read.set ≡ record { main = main.now; items = (main.now, content) ∷ []; lists = [] }) }
     ensures file { IfOk result (λ read. read.main ≡ Err refusal) }
 {
     let mut items = List::new(alloc);
     items.add((Text::from_bytes(alloc, main)?, content))?;
     let main = Text::from_bytes(alloc, main)?;
     Ok(FilesRead {
-        set: FileSet { main, items },
+        set: FileSet {
+            main,
+            items,
+            lists: List::new(alloc),
+        },
         main: Err(refusal),
     })
 }
@@ -277,13 +322,13 @@ pub(crate) fn gather_files<F: Files>(
     ensures set { IsTrue (F.state files.old).tells → IfOk result (λ read. read.set ≡ gathered (F.state files.old).contents main.now) }
     ensures file { IsTrue (F.state files.old).tells → IfOk result (λ read. IsMainOf main.now (content_lines (content_of FILE_LIMIT ((F.state files.old).contents main.now))) read.main) }
     ensures fits { IfOk result (λ read. All FitsItem read.set.items) }
-    ensures once { IfOk result (λ read. ReadsEach (F.state files.old) (F.state files.new) [] read.set.items) }
+    ensures once { IfOk result (λ read. ReadsSet (F.state files.old) (F.state files.new) [] read.set) }
     ensures named { IsTrue (F.state files.old).tells → IfErr result (ReadsOneOf (names_read (F.state files.old).contents main.now)) }
     ensures cause { GatherCauses (F.state files.old) (F.state files.new) result }
     ensures only_reads { OnlyReads (F.state files.old) (F.state files.new) }
     ensures go_on { FilesGoOn (F.state files.old) (F.state files.new) }
 {
-    let content = read_content(alloc, files, main, main.as_bytes())?;
+    let content = read_content(alloc, files, FILE_LIMIT, main, main.as_bytes())?;
     match content_lines(alloc, &content) {
         Ok(lines) => read_behind(alloc, files, main.as_bytes(), content, lines),
         Err(FileFault::Mem) => Err(LoadFault::Mem),
@@ -295,8 +340,9 @@ pub(crate) fn gather_files<F: Files>(
 }
 
 /// Reads the files of a configuration: the main file of this name, the action files and the filter files that its lines
-/// name, the templates and the two images, and the texts that the templates include. Each is read once, and what reading
-/// gave is kept; so on a disk, where a file may change meanwhile, one reading of a file gives both what it names and what it says.
+/// name, the templates and the two images, the texts that the templates include, and the lists of hosts. Each is read once, and
+/// what reading gave is kept; so on a disk, where a file may change meanwhile, one reading of a file gives both what it names and
+/// what it says.
 /// Where the main file has no lines that can be read, it is the only one.
 ///
 /// `Read` comes only where the files' count of faults rose, with the name of one of these files as it is written, and no other
@@ -304,7 +350,7 @@ pub(crate) fn gather_files<F: Files>(
 pub fn gather<F: Files>(alloc: Global, files: &mut F, main: &str) -> Result<FileSet, LoadFault>
     ensures set { IsTrue (F.state files.old).tells → IfOk result (λ set. set ≡ gathered (F.state files.old).contents main.now) }
     ensures fits { IfOk result (λ set. All FitsItem set.items) }
-    ensures once { IfOk result (λ set. ReadsEach (F.state files.old) (F.state files.new) [] set.items) }
+    ensures once { IfOk result (λ set. ReadsSet (F.state files.old) (F.state files.new) [] set) }
     ensures named { IsTrue (F.state files.old).tells → IfErr result (ReadsOneOf (names_read (F.state files.old).contents main.now)) }
     ensures cause { GatherCauses (F.state files.old) (F.state files.new) result }
     ensures only_reads { OnlyReads (F.state files.old) (F.state files.new) }

@@ -3,7 +3,7 @@ ghost use Rattle.std.specs.Prelude.{◌≡◌, IfOk, OnOk, codes, option_copied,
 ghost use Rattle.px_config.specs.MainFiles.{nothing_named, places_with, with_named};
 ghost use Rattle.px_config.specs.Names.{folder_of, joined_path, or_else, places_of};
 
-use crate::directives::{add_value, keep_value, split_directive};
+use crate::directives::{add_list_file, add_value, keep_value, split_directive};
 use crate::names::{FILES_OF_A_KIND, Places, bytes_of, folder_of, joined};
 use px_base::{List, Mem, Text};
 use px_text::Line;
@@ -21,6 +21,7 @@ pub(crate) struct MainFile {
 pub(crate) struct Named {
     pub(crate) action_files: List<Text>,
     pub(crate) filter_files: List<Text>,
+    pub(crate) host_lists: List<Text>,
     /// The last `confdir`.
     pub(crate) confdir: Option<Text>,
     /// The last `templdir`.
@@ -61,6 +62,7 @@ impl Named {
         Named {
             action_files: List::new(alloc),
             filter_files: List::new(alloc),
+            host_lists: List::new(alloc),
             confdir: None,
             templdir: None,
         }
@@ -72,6 +74,7 @@ impl Named {
     {
         add_value(alloc, b"actionsfile", name, value, &mut self.action_files)?;
         add_value(alloc, b"filterfile", name, value, &mut self.filter_files)?;
+        add_list_file(alloc, name, value, &mut self.host_lists)?;
         keep_value(alloc, b"confdir", name, value, &mut self.confdir)?;
         keep_value(alloc, b"templdir", name, value, &mut self.templdir)
     }
@@ -83,6 +86,7 @@ impl Named {
         let Named {
             action_files,
             filter_files,
+            host_lists,
             confdir,
             templdir,
         } = self;
@@ -91,6 +95,7 @@ impl Named {
         Ok(Places {
             action_files: first_names(action_files),
             filter_files: first_names(filter_files),
+            host_lists: first_names(host_lists),
             confdir,
             templdir,
         })

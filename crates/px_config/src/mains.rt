@@ -5,13 +5,13 @@ ghost use Rattle.std.specs.List.{list_any};
 ghost use Rattle.std.specs.Str.{bytes_eq};
 ghost use Rattle.px_base.specs.Numbers.{decimal};
 ghost use Rattle.px_decide.specs.Forwards.{forward_line, socks_line};
-ghost use Rattle.px_config.specs.Mains.{address_or, directive_of, main_of, nothing_set, one_more, main_parts, row_of, seen_fault, switch, with_address, with_directive, with_forward, with_line, with_note, adds_forward, adds_tag, listens};
+ghost use Rattle.px_config.specs.Mains.{address_or, directive_of, main_of, nothing_set, one_more, main_parts, row_of, seen_fault, switch, with_address, with_directive, with_forward, with_line, with_note, adds_forward, adds_list, adds_tag, listens};
 
 use crate::addresses::{DEFAULT_PORT, read_address};
 use crate::directives::{Directive, split_directive};
 use crate::faults::{BAD_VALUE, TOO_LARGE};
 use crate::names::FILES_OF_A_KIND;
-use crate::settings::{MainParts, Note, Settings};
+use crate::settings::{ListLine, MainParts, Note, Settings};
 use px_action_files::FileFault;
 use px_base::{List, Mem, Text, as_text, read_decimal};
 use px_decide::{ForwardFault, Forwards};
@@ -65,6 +65,8 @@ pub(crate) struct Main {
     /// How many lines name an actions file, and how many a filter file.
     pub(crate) action_files: usize,
     pub(crate) filter_files: usize,
+    /// The lists of hosts.
+    pub(crate) lists: List<ListLine>,
     pub(crate) notes: List<Note>,
 }
 
@@ -159,6 +161,7 @@ impl Main {
             forwards: Forwards::empty(alloc),
             action_files: 0,
             filter_files: 0,
+            lists: List::new(alloc),
             notes: List::new(alloc),
         }
     }
@@ -197,6 +200,7 @@ impl Main {
             forwards,
             action_files: _,
             filter_files: _,
+            lists,
             notes,
         } = self;
         let address = address_or(alloc, listen)?;
@@ -212,6 +216,7 @@ impl Main {
                 tags,
             },
             forwards,
+            lists,
             notes,
         })
     }
@@ -276,6 +281,7 @@ impl Main {
                 self.filter_files = one_more(line, self.filter_files)?;
                 Ok(())
             }
+            Directive::HostList => self.add_list(alloc, line, value),
             Directive::Confdir => Ok(()),
             Directive::Templdir => Ok(()),
             Directive::ListenAddress => self.add_address(alloc, file, line, value),
@@ -420,6 +426,29 @@ impl Main {
             return Err(bad_value(line));
         }
         self.tags.add(Text::from_bytes(alloc, name)?)?;
+        Ok(())
+    }
+
+    /// Adds a list of hosts: a file's name, white space and a reason. The seventeenth is refused.
+    fn add_list(&mut self, alloc: Global, line: u32, value: &[u8]) -> Result<(), FileFault>
+        ensures added { OnOk result (adds_list line self.old value.now ≡ Ok self.new) }
+        ensures refused { IfErr result (IsReported (adds_list line self.old value.now)) }
+    {
+        let (name, reason) = split_directive(value);
+        if reason.is_empty() {
+            return Err(bad_value(line));
+        }
+        if self.lists.len() >= FILES_OF_A_KIND {
+            return Err(FileFault::At {
+                line,
+                number: TOO_LARGE,
+            });
+        }
+        self.lists.add(ListLine {
+            number: line,
+            name: Text::from_bytes(alloc, name)?,
+            reason: Text::from_bytes(alloc, reason)?,
+        })?;
         Ok(())
     }
 }

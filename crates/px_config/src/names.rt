@@ -10,7 +10,7 @@ use std::alloc::Global;
 /// The byte between folders and names.
 pub(crate) const SLASH: u8 = b'/';
 
-/// The most action files, and the most filter files.
+/// The most action files, the most filter files, and the most lists of hosts.
 pub(crate) const FILES_OF_A_KIND: usize = 16;
 
 /// The name of the image of one transparent dot, in the templates' folder.
@@ -26,14 +26,16 @@ pub(crate) struct Places {
     pub(crate) action_files: List<Text>,
     /// The names of the filter files. More than sixteen are refused, and left out here.
     pub(crate) filter_files: List<Text>,
-    /// The folder of action files and filter files: the last `confdir`, or the main file's folder.
+    /// The names of the files of lists of hosts. More than sixteen are refused, and left out here.
+    pub(crate) host_lists: List<Text>,
+    /// The folder of action files, filter files and lists of hosts: the last `confdir`, or the main file's folder.
     pub(crate) confdir: Option<Text>,
     /// The folder of templates and images: the last `templdir`, or `templates` in confdir.
     pub(crate) templdir: Text,
 }
 
 impl Places {
-    /// The folder of action files and filter files, if there is one.
+    /// The folder of action files, filter files and lists of hosts, if there is one.
     pub(crate) fn folder(&self) -> Option<&[u8]>
         ensures { option_copied result ≡ self.now.confdir }
     {

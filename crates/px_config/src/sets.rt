@@ -9,8 +9,11 @@ use px_base::{Content, List, Mem, Text, is_text};
 use px_templates::included_names;
 use std::alloc::Global;
 
-/// The most bytes of a configuration file, a template or an image.
+/// The most bytes of a configuration file that is no list of hosts, a template or an image.
 pub const FILE_LIMIT: u64 = 1_048_576;
+
+/// The most bytes of a file of a list of hosts.
+pub const LIST_LIMIT: u64 = 67_108_864;
 
 /// The files of a configuration by their names, with what reading each gave. The first item of a name counts, and a file
 /// without an item is missing.
@@ -19,6 +22,8 @@ pub struct FileSet {
     /// The name of the main file.
     pub main: Text,
     pub items: List<(Text, Content)>,
+    /// The files of lists of hosts, in the same way.
+    pub lists: List<(Text, Content)>,
 }
 
 /// What a set has of a name. A name without an item is missing.

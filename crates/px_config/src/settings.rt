@@ -32,10 +32,22 @@ pub struct Note {
     pub text: Text,
 }
 
+/// A line that names a list of hosts.
+#[derive(Drop)]
+pub(crate) struct ListLine {
+    /// The line's number, from 1.
+    pub(crate) number: u32,
+    /// The name of the list's file.
+    pub(crate) name: Text,
+    /// The reason for which its hosts are blocked.
+    pub(crate) reason: Text,
+}
+
 /// What the main file gives.
 #[derive(Drop)]
 pub(crate) struct MainParts {
     pub(crate) settings: Settings,
     pub(crate) forwards: Forwards,
+    pub(crate) lists: List<ListLine>,
     pub(crate) notes: List<Note>,
 }

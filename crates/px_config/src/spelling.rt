@@ -3,12 +3,13 @@ ghost use Rattle.std.specs.Prelude.{◌≡◌, [], All, IsTrue, Ok, None, IfErr,
 ghost use Rattle.px_base.specs.Contents.{FilesGoOn};
 ghost use Rattle.px_config.specs.Actions.{seen_actions};
 ghost use Rattle.px_config.specs.Faults.{IsFault, IsNoRead};
-ghost use Rattle.px_config.specs.Gathering.{GatherCauses, OnlyReads, ReadsEach, ReadsOneOf, gathered, names_read};
+ghost use Rattle.px_config.specs.Gathering.{GatherCauses, OnlyReads, ReadsOneOf, ReadsSet, gathered, names_read};
+ghost use Rattle.px_config.specs.Listings.{seen_lists};
 ghost use Rattle.px_config.specs.MainFiles.{IsMainOf};
 ghost use Rattle.px_config.specs.Names.{places_of};
 ghost use Rattle.px_config.specs.Parts.{file_lines};
 ghost use Rattle.px_config.specs.Sets.{FitsItem};
-ghost use Rattle.px_config.specs.Spelling.{behind_filters, behind_lines, behind_main, behind_actions, behind_sizes, config_of, filters_seen, seen_config, sizes, spelled};
+ghost use Rattle.px_config.specs.Spelling.{behind_filters, behind_lines, behind_lists, behind_main, behind_actions, behind_sizes, config_of, filters_seen, seen_config, sizes, spelled};
 ghost use Rattle.px_config.specs.Loading.{IsLoadFault, LoadCauses};
 
 use crate::actions::ActionFiles;
@@ -18,11 +19,12 @@ use crate::faults::LoadFault;
 use crate::filters::FilterFiles;
 use crate::gathering::{FilesRead, gather_files};
 use crate::indexes::Index;
+use crate::listings::HostLists;
 use crate::main_files::MainFile;
 use crate::mains::Main;
 use crate::names::{IMAGE_BLANK, IMAGE_PATTERN, Places, template_names};
 use crate::sets::{FileSet, all_included};
-use crate::settings::{MainParts, Settings};
+use crate::settings::{MainParts, Note, Settings};
 use crate::templates::{check_sizes, image_in, read_pages};
 use px_action_files::FileFault;
 use px_base::{Content, Files, List, Mem, Text};
@@ -33,7 +35,7 @@ use px_templates::Template;
 use std::alloc::Global;
 
 /// The configuration for which a set of files stands, or its first fault, in this order: the main file as a whole, its
-/// lines, the action files, the filter files, the sizes of templates, images and included texts, and the templates.
+/// lines, the lists of hosts, the action files, the filter files, the sizes of templates, images and included texts, and the templates.
 pub fn spell(alloc: Global, set: &FileSet) -> Result<Config, LoadFault>
     requires { All FitsItem set.now.items }
     ensures config { IfOk result (λ config. spelled set.now ≡ Ok (seen_config config)) }
@@ -85,15 +87,15 @@ fn spell_lines(alloc: Global, set: &FileSet, main: &MainFile) -> Result<Config, 
     match Main::read(alloc, file, main.lines.as_slice()) {
         Ok(lines) => {
             let parts = lines.into_parts(alloc)?;
-            spell_actions(alloc, set, &main.places, parts)
+            spell_lists(alloc, set, &main.places, parts)
         }
         Err(fault) => Err(fault_in(alloc, file, fault)),
     }
 }
 
-/// Goes on with the action files.
+/// Goes on with the lists of hosts.
 #[tactic(auto, unfolding(crate::specs::Spelling::behind_main))]
-fn spell_actions(
+fn spell_lists(
     alloc: Global,
     set: &FileSet,
     places: &Places,
@@ -103,10 +105,42 @@ fn spell_actions(
     ensures config { IfOk result (λ config. behind_main set.now places.now parts ≡ Ok (seen_config config)) }
     ensures refused { IfErr result (IsFault (behind_main set.now places.now parts)) }
 {
+    let MainParts {
+        settings,
+        forwards,
+        lists,
+        notes,
+    } = parts;
+    match HostLists::read(alloc, set, places.folder(), lists.as_slice(), notes) {
+        Ok(lists) => spell_actions(alloc, set, places, settings, forwards, lists),
+        Err(fault) => Err(fault),
+    }
+}
+
+/// Goes on with the action files.
+#[tactic(auto, unfolding(crate::specs::Spelling::behind_lists))]
+fn spell_actions(
+    alloc: Global,
+    set: &FileSet,
+    places: &Places,
+    settings: Settings,
+    forwards: Forwards,
+    lists: HostLists,
+) -> Result<Config, LoadFault>
+    requires { All FitsItem set.now.items }
+    ensures config { IfOk result (λ config. behind_lists set.now places.now settings forwards (seen_lists lists) ≡ Ok (seen_config config)) }
+    ensures refused { IfErr result (IsFault (behind_lists set.now places.now settings forwards (seen_lists lists))) }
+{
+    let HostLists {
+        lists,
+        totals: _,
+        notes,
+    } = lists;
+    let items = set.items.as_slice();
     let names = places.action_files.as_slice();
-    let limit = parts.settings.pattern_limit as usize;
-    match ActionFiles::read(alloc, set.items.as_slice(), places.folder(), limit, names) {
-        Ok(actions) => spell_filters(alloc, set, places, parts, actions),
+    let limit = settings.pattern_limit as usize;
+    match ActionFiles::read(alloc, items, places.folder(), limit, names, lists) {
+        Ok(actions) => spell_filters(alloc, set, places, settings, forwards, notes, actions),
         Err(fault) => Err(fault),
     }
 }
@@ -117,21 +151,18 @@ fn spell_filters(
     alloc: Global,
     set: &FileSet,
     places: &Places,
-    parts: MainParts,
+    settings: Settings,
+    forwards: Forwards,
+    notes: List<Note>,
     actions: ActionFiles,
 ) -> Result<Config, LoadFault>
     requires { All FitsItem set.now.items }
-    ensures config { IfOk result (λ config. behind_actions set.now places.now parts (seen_actions actions) ≡ Ok (seen_config config)) }
-    ensures refused { IfErr result (IsFault (behind_actions set.now places.now parts (seen_actions actions))) }
+    ensures config { IfOk result (λ config. behind_actions set.now places.now settings forwards notes (seen_actions actions) ≡ Ok (seen_config config)) }
+    ensures refused { IfErr result (IsFault (behind_actions set.now places.now settings forwards notes (seen_actions actions))) }
 {
     let names = places.filter_files.as_slice();
     let templates = places.templdir.as_bytes();
     let items = set.items.as_slice();
-    let MainParts {
-        settings,
-        forwards,
-        notes,
-    } = parts;
     match FilterFiles::read(alloc, items, places.folder(), names, notes) {
         Ok(filters) => {
             spell_templates(
@@ -218,8 +249,12 @@ fn build(
 {
     let image_blank = image_in(alloc, items, folder, IMAGE_BLANK)?;
     let image_pattern = image_in(alloc, items, folder, IMAGE_PATTERN)?;
-    let ActionFiles { files, patterns: _ } = actions;
-    let sections = Sections::new(alloc, List::new(alloc), files)?;
+    let ActionFiles {
+        lists,
+        files,
+        patterns: _,
+    } = actions;
+    let sections = Sections::new(alloc, lists, files)?;
     let FilterFiles { files, notes } = filters;
     let filters = join_filters(alloc, files)?;
     Ok(Config {
@@ -267,7 +302,7 @@ pub fn load<F: Files>(alloc: Global, files: &mut F, main: &str) -> Result<Config
     ensures config { IsTrue (F.state files.old).tells → IfOk result (λ config. spelled (gathered (F.state files.old).contents main.now) ≡ Ok (seen_config config)) }
     ensures refused { IsTrue (F.state files.old).tells → IfErr result (IsLoadFault (spelled (gathered (F.state files.old).contents main.now))) }
     ensures named { IsTrue (F.state files.old).tells → IfErr result (ReadsOneOf (names_read (F.state files.old).contents main.now)) }
-    ensures once { IsTrue (F.state files.old).tells → OnOk result (ReadsEach (F.state files.old) (F.state files.new) [] (gathered (F.state files.old).contents main.now).items) }
+    ensures once { IsTrue (F.state files.old).tells → OnOk result (ReadsSet (F.state files.old) (F.state files.new) [] (gathered (F.state files.old).contents main.now)) }
     ensures cause { LoadCauses (F.state files.old) (F.state files.new) result }
     ensures only_reads { OnlyReads (F.state files.old) (F.state files.new) }
     ensures go_on { FilesGoOn (F.state files.old) (F.state files.new) }

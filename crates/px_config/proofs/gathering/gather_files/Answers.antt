@@ -3,7 +3,7 @@ use Rattle.std.specs.Prelude.{IsTrue}
 use Rattle.px_base.specs.Contents.{Contents, content_of}
 use Rattle.px_config.specs.declared.sets.FileSet.{FileSet}
 use Rattle.px_config.specs.declared.sets.TheConstants.{FILE_LIMIT}
-use Rattle.px_config.specs.Gathering.{all_items}
+use Rattle.px_config.specs.Gathering.{set_behind}
 use Rattle.px_config.specs.Names.{places_of}
 use Rattle.px_config.specs.Parts.{content_lines}
 use Rattle.px_config.proofs.GatherLemmas.{contents_same, gathered_behind}
@@ -24,5 +24,5 @@ returns-in-Ok-clause-set g c = λ tells.
     let still : content ≡ content_of FILE_LIMIT (now name) =
     whole ∙ ap (λ k. content_of FILE_LIMIT (k main)) (sym same) ∙ ap (λ n. content_of FILE_LIMIT (now n)) (sym named) in
     let read : content_lines content ≡ Ok lines = c.in-Ok.ensures.lines in
-    let S : Contents → List ℕ → FileSet = λ k n. record { main = n; items = all_items k n (places_of n lines) } in
+    let S : Contents → List ℕ → FileSet = λ k n. set_behind k n (places_of n lines) in
     subst (λ set. IfOk c.read_behind.result (λ x. x.set ≡ set)) (ap (S now) named ∙ ap (λ k. S k main) same ∙ sym (gathered_behind before main content whole lines read)) (c.read_behind.ensures.set told still)
