@@ -42,7 +42,7 @@ impl Making for Brand {
       doors = untold_doors None 0 0;
       err = untold_sink 0 0;
       main = [];
-      loaded = record { main = []; items = [] };
+      loaded = record { main = []; items = []; lists = [] };
       pair = record { number = 0; log_name = 0; cells_name = 0 };
       most = 0;
     } };
