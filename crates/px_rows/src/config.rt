@@ -1,5 +1,5 @@
 //! The lines of the main file (Privoxy's manual, "The Main Configuration File").
-#![tactic(auto, unfolding(core::specs::Fmt::digits, core::specs::Str::chars, core::specs::Str::is_utf8, px_action_files::specs::Faults::refusal_name, px_actions::specs::Hops::is_hop_address_byte, px_actions::specs::Hops::is_host_byte, px_actions::specs::Hops::next_hop, px_base::specs::Blanks::trimmed, px_base::specs::Numbers::decimal, px_base::specs::Ports::item, px_base::specs::Ports::port, px_base::specs::Ports::port_list, px_config::specs::Addresses::address_of, px_config::specs::Directives::values_of, px_config::specs::FaultLines::load_name, px_config::specs::Mains::directive_of, px_config::specs::Mains::with_line, px_config::specs::Mains::with_lines, px_config::specs::Mains::row_of, px_config::specs::Names::action_names, px_config::specs::Names::confdir, px_config::specs::Names::folder_of, px_config::specs::Names::templdir, px_decide::specs::Forwards::first_word, px_decide::specs::Forwards::forward_line, px_decide::specs::Forwards::two_words, px_patterns::specs::Expressions::pattern_expression, px_patterns::specs::Globs::items_from, px_patterns::specs::Globs::label_of, px_patterns::specs::Globs::class_ranges, px_patterns::specs::Hosts::host_pattern, px_patterns::specs::Patterns::path_expression, px_patterns::specs::Patterns::ports_of, px_patterns::specs::Patterns::url_pattern))]
+#![tactic(auto, unfolding(core::specs::Fmt::digits, core::specs::Str::chars, core::specs::Str::is_utf8, px_action_files::specs::Faults::refusal_name, px_actions::specs::Hops::is_hop_address_byte, px_actions::specs::Hops::is_host_byte, px_actions::specs::Hops::next_hop, px_base::specs::Blanks::trimmed, px_base::specs::Numbers::decimal, px_base::specs::Ports::item, px_base::specs::Ports::port, px_base::specs::Ports::port_list, px_config::specs::Addresses::address_of, px_config::specs::Directives::list_files_of, px_config::specs::Directives::values_of, px_config::specs::FaultLines::load_name, px_config::specs::Mains::directive_of, px_config::specs::Mains::with_line, px_config::specs::Mains::with_lines, px_config::specs::Mains::row_of, px_config::specs::Names::action_names, px_config::specs::Names::confdir, px_config::specs::Names::folder_of, px_config::specs::Names::list_file_names, px_config::specs::Names::templdir, px_decide::specs::Forwards::first_word, px_decide::specs::Forwards::forward_line, px_decide::specs::Forwards::two_words, px_patterns::specs::Expressions::pattern_expression, px_patterns::specs::Globs::items_from, px_patterns::specs::Globs::label_of, px_patterns::specs::Globs::class_ranges, px_patterns::specs::Hosts::host_pattern, px_patterns::specs::Patterns::path_expression, px_patterns::specs::Patterns::ports_of, px_patterns::specs::Patterns::url_pattern))]
 
 ghost use Rattle.std.specs.Prelude.{◌≡◌, ◌∷◌, ◌*◌, [], Some, None, Ok, Err, true, false, codes};
 ghost use Rattle.px_action_files.specs.Faults.{refused};
@@ -7,7 +7,7 @@ ghost use Rattle.px_config.specs.Addresses.{address_of};
 ghost use Rattle.px_config.specs.Directives.{last_value, name_in, value_in, values_of};
 ghost use Rattle.px_config.specs.FaultLines.{fault_line, load_name};
 ghost use Rattle.px_config.specs.Mains.{directive_of, is_other, main_of, nothing_set, with_line};
-ghost use Rattle.px_config.specs.Names.{action_names, confdir, folder_of, full_name, templdir};
+ghost use Rattle.px_config.specs.Names.{action_names, confdir, folder_of, full_name, list_file_names, templdir};
 ghost use Rattle.px_rows.specs.Rows.{file_line};
 
 /// Connections are taken on this machine alone.
@@ -55,6 +55,9 @@ fn lines_of_main_files()
     ensures no_description { with_line (codes "c") nothing_set (file_line 3 (codes "client-specific-tag t")) ≡ refused 3 29 }
     ensures tag_twice { with_line (codes "c") (record nothing_set { tags = codes "t" ∷ [] }) (file_line 4 (codes "client-specific-tag t again"))
         ≡ refused 4 29 }
+    ensures list { with_line (codes "c") nothing_set (file_line 3 (codes "host-list my.hosts it shows ads"))
+        ≡ Ok (record nothing_set { lists = record { number = 3; name = codes "my.hosts"; reason = codes "it shows ads" } ∷ [] }) }
+    ensures no_reason { with_line (codes "c") nothing_set (file_line 3 (codes "host-list my.hosts")) ≡ refused 3 29 }
     ensures ignored { with_line (codes "c") nothing_set (file_line 4 (codes "logfile logfile"))
         ≡ Ok (record nothing_set { notes = record { file = codes "c"; line = 4; text = codes "directive ignored: logfile" } ∷ [] }) }
     ensures sixteen { with_line (codes "c") (record nothing_set { action_files = 15 }) (file_line 16 (codes "actionsfile a"))
@@ -81,6 +84,7 @@ fn names_of_files()
     ensures templates { templdir (codes "/etc/p/c") [] ≡ codes "/etc/p/templates" }
     ensures templates_alone { templdir (codes "c") [] ≡ codes "templates" }
     ensures action_files { action_names (file_line 1 (codes "actionsfile u.action") ∷ []) ≡ codes "u.action" ∷ [] }
+    ensures lists { list_file_names (file_line 1 (codes "host-list a.hosts ads") ∷ file_line 2 (codes "Host-List b.hosts") ∷ []) ≡ codes "a.hosts" ∷ codes "b.hosts" ∷ [] }
 {}
 
 /// How a fault is printed.
