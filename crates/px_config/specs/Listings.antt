@@ -84,10 +84,14 @@ more_totals line t hosts bytes =
     if nat_lt HOST_LIMIT (t.hosts + hosts) || nat_lt BYTE_LIMIT (t.bytes + bytes) then refused line 31
     else Ok (record { hosts = t.hosts + hosts; bytes = t.bytes + bytes })
 
--- the note on lines that name no host: how many they are, at the first of them
+-- the note on lines that name no host, at the first of them
+abbrev pub note_at : List ℕ → ℕ → ℕ → Note
+note_at name passed line = record { file = name; line = line; text = codes "lines that name no host: " ++ decimal passed }
+
+-- where there are such lines, there is one note
 abbrev pub note_on_lines : List ℕ → ℕ → Option ℕ → List Note
 note_on_lines name passed None = []
-note_on_lines name passed (Some line) = record { file = name; line = line; text = codes "lines that name no host: " ++ decimal passed } ∷ []
+note_on_lines name passed (Some line) = note_at name passed line ∷ []
 
 abbrev pub file_notes : List ℕ → ListNotes → List Note
 file_notes name notes = note_on_lines name notes.passed notes.first_passed

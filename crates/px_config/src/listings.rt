@@ -4,7 +4,7 @@ ghost use Rattle.px_action_files.specs.Faults.{IsReported, reported_word};
 ghost use Rattle.px_action_files.specs.Meanings.{seen_update};
 ghost use Rattle.px_host_lists.specs.Readings.{list_refusal};
 ghost use Rattle.px_config.specs.Faults.{IsFault};
-ghost use Rattle.px_config.specs.Listings.{block_update, block_word, content_hosts, file_hosts, file_notes, host_lists, hosts_or, more_totals, no_lists, note_on_lines, seen_hosts, seen_list, seen_list_fault, seen_lists, with_hosts, with_list, with_list_file, with_listed};
+ghost use Rattle.px_config.specs.Listings.{block_update, block_word, content_hosts, file_hosts, host_lists, hosts_or, more_totals, no_lists, note_at, note_on_lines, seen_hosts, seen_list, seen_list_fault, seen_lists, with_hosts, with_list, with_list_file, with_listed};
 
 use crate::contents::fault_in;
 use crate::faults::{LoadFault, MISSING, TOO_LARGE};
@@ -15,7 +15,7 @@ use itoa::Buffer;
 use px_action_files::FileFault;
 use px_actions::{ActionFault, Update};
 use px_base::{Content, List, Mem, Text};
-use px_host_lists::{BYTE_LIMIT, HOST_LIMIT, ListFault, ListNotes, ReadList, read_list};
+use px_host_lists::{BYTE_LIMIT, HOST_LIMIT, ListFault, ReadList, read_list};
 use px_merge::ListedHosts;
 use std::alloc::Global;
 
@@ -148,17 +148,28 @@ fn file_hosts(
     }
 }
 
-/// Adds the note on the lines of a file that name no host, if there are any.
-fn add_note(alloc: Global, name: &[u8], lines: ListNotes, notes: &mut List<Note>) -> Result<(), Mem>
-    ensures { OnOk result (notes.new ≡ notes.old ++ file_notes name.now lines) }
+/// The note on lines of a file that name no host, by how many they are and the first of them.
+fn note_at(alloc: Global, name: &[u8], passed: u32, line: u32) -> Result<Note, Mem>
+    ensures { IfOk result (λ note. note ≡ note_at name.now passed line) }
 {
-    match lines.first_passed {
-        Some(line) => {
-            let mut text = Text::from_bytes(alloc, b"lines that name no host: ")?;
-            text.push_all(Buffer::new().format(lines.passed).as_bytes())?;
-            let file = Text::from_bytes(alloc, name)?;
-            notes.add(Note { file, line, text })
-        }
+    let mut text = Text::from_bytes(alloc, b"lines that name no host: ")?;
+    text.push_all(Buffer::new().format(passed).as_bytes())?;
+    let file = Text::from_bytes(alloc, name)?;
+    Ok(Note { file, line, text })
+}
+
+/// Adds the note on the lines of a file that name no host, if there are any.
+fn add_note(
+    alloc: Global,
+    name: &[u8],
+    passed: u32,
+    first: Option<u32>,
+    notes: &mut List<Note>,
+) -> Result<(), Mem>
+    ensures { OnOk result (notes.new ≡ notes.old ++ note_on_lines name.now passed first) }
+{
+    match first {
+        Some(line) => notes.add(note_at(alloc, name, passed, line)?),
         None => Ok(()),
     }
 }
@@ -289,7 +300,13 @@ impl HostLists {
     {
         let HostsFile { read, bytes: _ } = file;
         let ReadList { list, notes } = read;
-        add_note(alloc, name, notes, &mut self.notes)?;
+        add_note(
+            alloc,
+            name,
+            notes.passed,
+            notes.first_passed,
+            &mut self.notes,
+        )?;
         let name = Text::from_bytes(alloc, name)?;
         self.lists.add(ListedHosts {
             name,
