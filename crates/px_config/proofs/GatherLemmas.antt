@@ -1,7 +1,7 @@
 -- Files that are read one after another.
 use Rattle.std.proofs.Common.{◌≡◌, ℕ, Bool, true, false, ◌||◌, not, cond, List, [], ◌∷◌, ◌++◌, Option, None, Some, Result, Ok, Err, refl, sym, ap, subst, rules, ◌∙◌, arith}
 use Rattle.std.specs.Cmp.Lexicographic.{bytes_decides}
-use Rattle.std.specs.Prelude.{All, Contains, IsTrue}
+use Rattle.std.specs.Prelude.{All, Contains, IfErr, IsTrue}
 use Rattle.std.specs.Str.{is_utf8}
 use Rattle.std.proofs.lemmas.List.Elements.{Contains-append_left, Contains-append_right, Contains-push}
 use Rattle.px_base.specs.Contents.{Contents, FilesGoOn, FilesState, Unchanged, content_of}
@@ -14,7 +14,7 @@ use Rattle.px_config.specs.declared.main_files.MainFile.{MainFile}
 use Rattle.px_config.specs.declared.names.Places.{Places}
 use Rattle.px_config.specs.declared.sets.FileSet.{FileSet}
 use Rattle.px_config.specs.declared.sets.TheConstants.{FILE_LIMIT}
-use Rattle.px_config.specs.Gathering.{IsReadFault, OnlyReads, ReadsEach, ReadsOneOf, all_items, gathered, item_of, named_items, names_by, names_read, names_with_lists, set_behind, set_by, with_files, with_item}
+use Rattle.px_config.specs.Gathering.{IsReadFault, OnlyReads, ReadsEach, ReadsOneOf, all_items, gathered, item_of, items_by, lists_by, named_items, names_by, names_read, names_with_lists, set_behind, with_files, with_item}
 use Rattle.px_config.specs.MainFiles.{IsMainOf}
 use Rattle.px_config.specs.Names.{full_name, is_rooted, places_of, template_names}
 use Rattle.px_config.specs.Parts.{content_lines, file_lines}
@@ -140,7 +140,7 @@ all_kept contents main places =
     let rest = first_kept contents (Some places.templdir) first named.0 (included (first ∷ named.0)) in
     (rest.0, ap (λ l. with_files FILE_LIMIT contents (Some places.templdir) l (included l)) behind ∙ rest.1)
 
-items_kept : (contents : Contents) (main : List ℕ) (lines : Result (List Line) Refused) → (more : List Item) × ((set_by contents main lines).items ≡ item_of FILE_LIMIT contents main ∷ more)
+items_kept : (contents : Contents) (main : List ℕ) (lines : Result (List Line) Refused) → (more : List Item) × (items_by contents main lines ≡ item_of FILE_LIMIT contents main ∷ more)
 items_kept contents main (Ok lines) = all_kept contents main (places_of main lines)
 items_kept contents main (Err refusal) = ([], refl)
 
@@ -176,13 +176,15 @@ module _ (contents : Contents) (main : List ℕ) (content : Content) (whole : co
   pub gathered_behind : (lines : List Line) → content_lines content ≡ Ok lines → gathered contents main ≡ set_behind contents main (places_of main lines)
   unfolding gathered
   gathered_behind lines e =
-      ap (set_by contents main) (ap content_lines (sym whole) ∙ e)
+      let S : Result (List Line) Refused → FileSet = λ l. record { main = main; items = items_by contents main l; lists = lists_by contents main l } in
+      ap S (ap content_lines (sym whole) ∙ e)
 
   pub gathered_only : (line number : ℕ) → content_lines content ≡ refused line number → gathered contents main ≡ record { main = main; items = (main, content) ∷ []; lists = [] }
   unfolding gathered
   gathered_only line number e =
+      let S : Result (List Line) Refused → FileSet = λ l. record { main = main; items = items_by contents main l; lists = lists_by contents main l } in
       let O : Content → FileSet = λ c. record { main = main; items = (main, c) ∷ []; lists = [] } in
-      ap (set_by contents main) (ap content_lines (sym whole) ∙ e) ∙ ap O (sym whole)
+      ap S (ap content_lines (sym whole) ∙ e) ∙ ap O (sym whole)
 
   pub main_behind : (lines : List Line) (read : Result MainFile FileFault) → content_lines content ≡ Ok lines → IsMainOf main (Ok lines) read → IsMainOf main (content_lines (content_of FILE_LIMIT (contents main))) read
   main_behind lines read e is = subst (λ l. IsMainOf main l read) (sym (ap content_lines (sym whole) ∙ e)) is
@@ -195,3 +197,8 @@ module _ (contents : Contents) (main : List ℕ) (content : Content) (whole : co
   unfolding names_read
   names_gathered lines f e is =
       reads_later main _ f (subst (λ l. ReadsOneOf (names_by contents main l) f) (sym (ap content_lines (sym whole) ∙ e)) is)
+
+  pub names_of_result : {T : Type 0} (lines : List Line) (result : Result T LoadFault) → content_lines content ≡ Ok lines →
+      IfErr result (ReadsOneOf (names_with_lists contents main (places_of main lines))) → IfErr result (ReadsOneOf (names_read contents main))
+  names_of_result lines (Ok x) e is = tt
+  names_of_result lines (Err f) e is = names_gathered lines f e is

@@ -1,5 +1,5 @@
 -- What is read of lists of hosts.
-use Rattle.std.proofs.Common.{◌≡◌, ◌≢◌, ℕ, List, length, Option, None, Some, Result, Ok, Err, sym, ap, ◌∙◌}
+use Rattle.std.proofs.Common.{◌≡◌, ◌≢◌, ℕ, List, length, Option, None, Result, Ok, Err, sym, ap, ◌∙◌}
 use Rattle.px_actions.specs.declared.faults.ActionFault.{ActionFault}
 use Rattle.px_actions.specs.declared.faults.ActionFault.TheVariants as action
 use Rattle.px_action_files.specs.Faults.{IsReported, at_line, reported_word, word_number}

@@ -49,13 +49,20 @@ abbrev pub set_behind : Contents → List ℕ → Places → FileSet
 set_behind contents main places = record { main = main; items = all_items contents main places; lists = all_lists contents places }
 
 -- a main file whose lines can't be read names no other file
-abbrev pub set_by : Contents → List ℕ → Result (List Line) Refused → FileSet
-set_by contents main (Ok lines) = set_behind contents main (places_of main lines)
-set_by contents main (Err refusal) = record { main = main; items = item_of FILE_LIMIT contents main ∷ []; lists = [] }
+abbrev pub items_by : Contents → List ℕ → Result (List Line) Refused → List Item
+items_by contents main (Ok lines) = all_items contents main (places_of main lines)
+items_by contents main (Err refusal) = item_of FILE_LIMIT contents main ∷ []
+
+-- nor a list of hosts
+abbrev pub lists_by : Contents → List ℕ → Result (List Line) Refused → List Item
+lists_by contents main (Ok lines) = all_lists contents (places_of main lines)
+lists_by contents main (Err refusal) = []
 
 -- the files of a configuration, and what each holds: each file once, and each list of hosts once, in the order in which it is named first
 unfoldable pub gathered : Contents → List ℕ → FileSet
-gathered contents main = set_by contents main (content_lines (content_of FILE_LIMIT (contents main)))
+gathered contents main =
+    let lines = content_lines (content_of FILE_LIMIT (contents main)) in
+    record { main = main; items = items_by contents main lines; lists = lists_by contents main lines }
 
 -- files that were only read
 pub record OnlyReads (old new : FilesState) : Type 0 where

@@ -1,5 +1,5 @@
 -- What the lists of hosts of a set give: each list with what it sets for its hosts, and notes, or the first fault.
-use Rattle.std.specs.Prelude.{◌≡◌, ℕ, ◌+◌, ◌||◌, nat_lt, List, [], ◌∷◌, ◌++◌, length, map, decimal, Option, Some, None, Result, Ok, codes, if◌then◌else◌}
+use Rattle.std.specs.Prelude.{ℕ, ◌+◌, ◌||◌, nat_lt, List, [], ◌∷◌, ◌++◌, length, map, decimal, Option, Some, None, Result, Ok, codes, if◌then◌else◌}
 use Rattle.px_base.specs.Results.{result_map}
 use Rattle.px_base.specs.declared.files.Content.{Content}
 use Rattle.px_base.specs.declared.files.Content.TheVariants as content
