@@ -45,9 +45,13 @@ url_asked text = or_decoded text (url_of text)
 abbrev pub url_info_page : Config → List (List ℕ) → List ℕ → InsidePage
 url_info_page config tags text = shown_page config tags (url_asked text)
 
+-- which pages there are
+abbrev pub index_text : List ℕ
+index_text = codes "pages:\n/show-status\n/show-url-info?url=\n"
+
 -- the page that is asked for, of the configuration of that number and for a client with these tags
 abbrev pub page_for : Config → ℕ → List (List ℕ) → PageSeen → InsidePage
-page_for config number tags index = found_page (codes "pages:\n/show-status\n/show-url-info?url=\n")
+page_for config number tags index = found_page index_text
 page_for config number tags status = found_page (status_lines config number)
 page_for config number tags (url_info text) = url_info_page config tags text
 page_for config number tags other = missing_page (codes "no such page\n")

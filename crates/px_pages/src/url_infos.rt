@@ -56,7 +56,7 @@ fn read_decoded(alloc: Global, text: &[u8]) -> Result<Url, UrlFault>
 }
 
 /// The bytes with each escape read.
-fn decoded(alloc: Global, text: &[u8]) -> Result<Text, Mem>
+pub(crate) fn decoded(alloc: Global, text: &[u8]) -> Result<Text, Mem>
     ensures { IfOk result (λ decoded. decoded ≡ percent_decode text.now) }
 {
     let mut bytes = Vec::new(alloc);
