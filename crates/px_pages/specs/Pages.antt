@@ -25,8 +25,11 @@ abbrev pub missing_page : List ℕ → InsidePage
 missing_page text = record { found = false; body = text }
 
 -- why a text is no URL: NUMBER NAME
+abbrev pub url_fault_line : UrlFault → List ℕ
+url_fault_line fault = decimal (url_fault_number fault) ++ codes " " ++ url_fault_name fault ++ codes "\n"
+
 abbrev pub refused_page : UrlFault → InsidePage
-refused_page fault = missing_page (decimal (url_fault_number fault) ++ codes " " ++ url_fault_name fault ++ codes "\n")
+refused_page fault = missing_page (url_fault_line fault)
 
 -- what is shown of a URL with these tags, or why there is none
 abbrev pub shown_page : Config → List (List ℕ) → Result Url UrlFault → InsidePage

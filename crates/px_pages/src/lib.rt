@@ -12,3 +12,4 @@ mod wishes;
 pub use boards::BoardPages;
 pub use insides::{BarePages, Pages};
 pub use pages::inside_page;
+pub use url_infos::url_fault_line;

@@ -4,9 +4,9 @@ ghost use Rattle.percent_encoding.specs.Percent.{percent_decode};
 ghost use Rattle.px_pages.specs.Wishes.{change_in, is_declared, shed_wish, url_wish, wear_wish, wish_at};
 
 use crate::pages::is_own;
-use crate::url_infos::decoded;
 use px_base::{Mem, Text};
 use px_config::Config;
+use px_decide::decoded;
 use px_patterns::Url;
 use px_tag_board::TagChange;
 use std::alloc::Global;
