@@ -14,7 +14,8 @@ use Rattle.px_patterns.specs.Urls.{url_of}
 use Rattle.px_show.specs.Showing.{checked, shown}
 use Rattle.px_commands.specs.declared.statuses.Status.{Status}
 use Rattle.px_commands.specs.declared.statuses.Status.TheVariants as status
-use Rattle.px_commands.specs.Loads.{FailsToLoad, IsFaultOf, Loads, Prints, ReportsOrWants, RunsCheck, RunsShow, ShowsBy, load_status, url_fault_line}
+use Rattle.px_commands.specs.Loads.{FailsToLoad, IsFaultOf, Loads, Prints, ReportsOrWants, RunsCheck, RunsShow, ShowsBy, load_status}
+use Rattle.px_pages.specs.Pages.{url_fault_line}
 use Rattle.px_commands.specs.Passes.{GivesUp, Outside, ReportCause, Reports, ReportsOn}
 use Rattle.px_commands.specs.Passing.{RunsPass}
 

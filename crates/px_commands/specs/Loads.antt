@@ -1,8 +1,7 @@
 -- What the commands do that load a configuration and print: `check` and `show`.
-use Rattle.std.specs.Prelude.{◌≡◌, ℕ, ◌⊎◌, List, [], ◌∷◌, ◌++◌, Ok, Err, decimal, IsTrue}
+use Rattle.std.specs.Prelude.{◌≡◌, ℕ, ◌⊎◌, List, Ok, Err, IsTrue}
 use Rattle.px_base.specs.Sinks.{SinkState}
 use Rattle.px_base.specs.Contents.{Contents, FilesState, Unchanged}
-use Rattle.px_patterns.specs.Faults.{url_fault_name, url_fault_number}
 use Rattle.px_patterns.specs.Urls.{url_of}
 use Rattle.px_patterns.specs.declared.faults.UrlFault.{UrlFault}
 use Rattle.px_patterns.specs.declared.urls.Url.{Url}
@@ -13,6 +12,7 @@ use Rattle.px_config.specs.Spelling.{spelled, seen_config}
 use Rattle.px_config.specs.declared.configs.Config.{Config}
 use Rattle.px_config.specs.declared.faults.LoadFault.{LoadFault}
 use Rattle.px_config.specs.declared.faults.LoadFault.TheVariants as fault
+use Rattle.px_pages.specs.Pages.{url_fault_line}
 use Rattle.px_show.specs.Showing.{checked, shown}
 use Rattle.px_commands.specs.declared.statuses.Status.{Status}
 use Rattle.px_commands.specs.declared.statuses.Status.TheVariants as status
@@ -63,10 +63,6 @@ pub record Checks (config : List ℕ) (old new : Outside) (s : Status) : Type 0 
 -- with the words of `check`
 abbrev pub RunsCheck : List ℕ → Outside → Outside → Status → Type 0
 RunsCheck config old new s = FailsToLoad config old new s ⊎ (Checks config old new s ⊎ GivesUp old new s)
-
--- why a URL isn't read, as it is printed: NUMBER NAME, and LF
-abbrev pub url_fault_line : UrlFault → List ℕ
-url_fault_line f = decimal (url_fault_number f) ++ 32 ∷ url_fault_name f ++ 10 ∷ []
 
 -- the URL isn't read
 pub record RefusesUrl (url : List ℕ) (old new : Outside) (s : Status) : Type 0 where

@@ -5,16 +5,17 @@ ghost use Rattle.px_base.specs.Moments.{ClockState};
 ghost use Rattle.px_base.specs.Sinks.{SinkGoesOn};
 ghost use Rattle.px_base.specs.Sources.{SourceState};
 ghost use Rattle.px_config.specs.FaultLines.{fault_text};
-ghost use Rattle.px_commands.specs.Loads.{ReportsOrWants, RunsCheck, RunsShow, ShowsBy, load_status, url_fault_line};
+ghost use Rattle.px_commands.specs.Loads.{ReportsOrWants, RunsCheck, RunsShow, ShowsBy, load_status};
+ghost use Rattle.px_pages.specs.Pages.{url_fault_line};
 ghost use Rattle.px_show.specs.Showing.{shown};
 
 use crate::reports::report;
 use crate::statuses::Status;
 use crate::texts::tag_texts;
 use crate::words::ShowWords;
-use itoa::Buffer;
 use px_base::{Files, Mem, Sink, Text};
 use px_config::{Config, LoadFault, load};
+use px_pages::url_fault_line;
 use px_patterns::{Url, UrlFault};
 use px_show::{check, show};
 use std::alloc::Global;
@@ -132,16 +133,4 @@ fn report_url<E: Sink>(alloc: Global, err: &mut E, fault: UrlFault) -> Status
         Ok(text) => report(err, text.as_bytes(), Status::NoUrl),
         Err(Mem) => Status::NoMemory,
     }
-}
-
-/// The line NUMBER NAME, ended by LF.
-fn url_fault_line(alloc: Global, fault: UrlFault) -> Result<Text, Mem>
-    requires { fault ≢ UrlFault.Mem }
-    ensures { IfOk result (λ text. text ≡ url_fault_line fault) }
-{
-    let mut text = Text::from_bytes(alloc, Buffer::new().format(fault.number()).as_bytes())?;
-    text.push(b' ')?;
-    text.push_all(fault.name().as_bytes())?;
-    text.push(b'\n')?;
-    Ok(text)
 }

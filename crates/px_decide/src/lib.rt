@@ -18,3 +18,4 @@ pub use forwards::Forwards;
 pub use laws::dial_names_are_read;
 pub use routes::Route;
 pub use routing::route;
+pub use targets::decoded;

@@ -14,8 +14,8 @@ const HTTP: &[u8] = b"http://";
 
 const HTTPS: &[u8] = b"https://";
 
-/// The bytes with each escape read.
-pub(crate) fn decoded(alloc: Global, bytes: &[u8]) -> Result<Text, Mem>
+/// The bytes with each escape `%` and two hexadecimal digits read.
+pub fn decoded(alloc: Global, bytes: &[u8]) -> Result<Text, Mem>
     ensures { IfOk result (λ text. text ≡ percent_decode bytes.now) }
 {
     let mut text = Vec::new(alloc);

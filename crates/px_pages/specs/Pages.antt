@@ -25,8 +25,11 @@ abbrev pub missing_page : List ℕ → InsidePage
 missing_page text = record { found = false; body = text }
 
 -- why a text is no URL: NUMBER NAME
+abbrev pub url_fault_line : UrlFault → List ℕ
+url_fault_line fault = decimal (url_fault_number fault) ++ codes " " ++ url_fault_name fault ++ codes "\n"
+
 abbrev pub refused_page : UrlFault → InsidePage
-refused_page fault = missing_page (decimal (url_fault_number fault) ++ codes " " ++ url_fault_name fault ++ codes "\n")
+refused_page fault = missing_page (url_fault_line fault)
 
 -- what is shown of a URL with these tags, or why there is none
 abbrev pub shown_page : Config → List (List ℕ) → Result Url UrlFault → InsidePage
@@ -45,9 +48,13 @@ url_asked text = or_decoded text (url_of text)
 abbrev pub url_info_page : Config → List (List ℕ) → List ℕ → InsidePage
 url_info_page config tags text = shown_page config tags (url_asked text)
 
+-- which pages there are
+abbrev pub index_text : List ℕ
+index_text = codes "pages:\n/show-status\n/show-url-info?url=\n"
+
 -- the page that is asked for, of the configuration of that number and for a client with these tags
 abbrev pub page_for : Config → ℕ → List (List ℕ) → PageSeen → InsidePage
-page_for config number tags index = found_page (codes "pages:\n/show-status\n/show-url-info?url=\n")
+page_for config number tags index = found_page index_text
 page_for config number tags status = found_page (status_lines config number)
 page_for config number tags (url_info text) = url_info_page config tags text
 page_for config number tags other = missing_page (codes "no such page\n")

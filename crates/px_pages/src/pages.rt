@@ -1,6 +1,6 @@
 // The pages of the proxy's own.
 ghost use Rattle.std.specs.Prelude.{◌≡◌, IfOk, codes};
-ghost use Rattle.px_pages.specs.Pages.{found_page, is_own, missing_page, page_for, inside_page};
+ghost use Rattle.px_pages.specs.Pages.{found_page, index_text, inside_page, is_own, missing_page, page_for};
 ghost use Rattle.px_pages.specs.Paths.{asked_at};
 
 use crate::paths::AskedPage;
@@ -31,7 +31,7 @@ pub fn inside_page(
 }
 
 /// Whether a URL is the proxy's own: its host is `config.privoxy.org` or `p.p`, and its port that of HTTP.
-fn is_own(url: &Url) -> bool
+pub(crate) fn is_own(url: &Url) -> bool
     ensures { result ≡ is_own url.now }
 {
     let host = url.host.as_bytes();
@@ -58,8 +58,8 @@ fn page_at(
 }
 
 /// `/`: which pages there are.
-fn index_page(alloc: Global) -> Result<InsidePage, Mem>
-    ensures { IfOk result (λ page. page ≡ found_page (codes "pages:\n/show-status\n/show-url-info?url=\n")) }
+pub(crate) fn index_page(alloc: Global) -> Result<InsidePage, Mem>
+    ensures { IfOk result (λ page. page ≡ found_page index_text) }
 {
     let body = Text::from_bytes(alloc, b"pages:\n/show-status\n/show-url-info?url=\n")?;
     Ok(InsidePage { found: true, body })

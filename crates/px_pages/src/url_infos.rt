@@ -3,12 +3,12 @@ ghost use Rattle.std.specs.Prelude.{◌≡◌, ◌≢◌, IfErr, IfOk, Ok, OnOk}
 ghost use Rattle.percent_encoding.specs.Percent.{percent_decode};
 ghost use Rattle.px_patterns.specs.Faults.{IsUrlRefusal};
 ghost use Rattle.px_patterns.specs.Urls.{url_of};
-ghost use Rattle.px_pages.specs.Pages.{refused_page, url_asked, url_info_page};
+ghost use Rattle.px_pages.specs.Pages.{refused_page, url_asked, url_fault_line, url_info_page};
 
 use itoa::Buffer;
-use percent_encoding::percent_decode;
 use px_base::{Mem, Text};
 use px_config::{Config, InsidePage};
+use px_decide::decoded;
 use px_patterns::{Url, UrlFault};
 use px_show::show;
 use std::alloc::Global;
@@ -55,16 +55,7 @@ fn read_decoded(alloc: Global, text: &[u8]) -> Result<Url, UrlFault>
     }
 }
 
-/// The bytes with each escape read.
-fn decoded(alloc: Global, text: &[u8]) -> Result<Text, Mem>
-    ensures { IfOk result (λ decoded. decoded ≡ percent_decode text.now) }
-{
-    let mut bytes = Vec::new(alloc);
-    percent_decode(text).append_to(&mut bytes)?;
-    Ok(Text::from_vec(bytes))
-}
-
-/// Why a text is no URL: NUMBER NAME, as the command `show` prints it.
+/// Why a text is no URL.
 fn refused_page(alloc: Global, fault: UrlFault) -> Result<InsidePage, Mem>
     ensures refusal { OnOk result (fault ≢ UrlFault.Mem) }
     ensures page { IfOk result (λ page. page ≡ refused_page fault) }
@@ -72,9 +63,18 @@ fn refused_page(alloc: Global, fault: UrlFault) -> Result<InsidePage, Mem>
     if fault == UrlFault::Mem {
         return Err(Mem);
     }
-    let mut body = Text::from_bytes(alloc, Buffer::new().format(fault.number()).as_bytes())?;
-    body.push(b' ')?;
-    body.push_all(fault.name().as_bytes())?;
-    body.push(b'\n')?;
+    let body = url_fault_line(alloc, fault)?;
     Ok(InsidePage { found: false, body })
+}
+
+/// Why a text is no URL, as a line: NUMBER NAME.
+pub fn url_fault_line(alloc: Global, fault: UrlFault) -> Result<Text, Mem>
+    requires { fault ≢ UrlFault.Mem }
+    ensures { IfOk result (λ text. text ≡ url_fault_line fault) }
+{
+    let mut text = Text::from_bytes(alloc, Buffer::new().format(fault.number()).as_bytes())?;
+    text.push(b' ')?;
+    text.push_all(fault.name().as_bytes())?;
+    text.push(b'\n')?;
+    Ok(text)
 }
