@@ -1,5 +1,6 @@
 -- Values that stand in rows: lines, fields, URLs, heads, symbols and configurations.
-use Rattle.std.specs.Prelude.{◌≡◌, ℕ, List, [], length, None}
+use Rattle.std.specs.Prelude.{◌≡◌, ℕ, true, List, [], ◌∷◌, codes, length, None}
+use Rattle.px_config.specs.Insides.{Asked, asked}
 use Rattle.px_config.specs.Mains.{nothing_set, settings_of}
 use Rattle.px_config.specs.declared.configs.Config.{Config}
 use Rattle.px_config.specs.declared.settings.Settings.{Settings}
@@ -52,6 +53,14 @@ empty_config pages all = record {
   notes = [];
   all_pages = all;
 }
+
+-- a configuration that lets clients have the one tag `ads`
+abbrev pub with_ads : Config → Config
+with_ads c = record c { settings = record c.settings { tags = codes "ads" ∷ [] } }
+
+-- a request of a path of the proxy's own under such a configuration, by a client at 127.0.0.1
+abbrev pub own_request : Config → List ℕ → Asked
+own_request c path = asked (with_ads c) 0 (url_at (codes "p.p") 80 path) true (codes "127.0.0.1")
 
 -- what an empty main file sets but for where connections are taken
 abbrev pub settings_at : List ℕ → ℕ → Settings
