@@ -1,6 +1,4 @@
 // What a dialer had dialled before a pool was made over it.
-use std::marker::Brand;
-
 /// What the inner dialer of a pool had dialled when the pool was made.
 pub trait Base {
     ghost use Rattle.std.specs.Prelude.{List};
@@ -13,13 +11,6 @@ pub trait Base {
 pub struct Anew;
 
 impl Base for Anew {
-    ghost use Rattle.std.specs.Prelude.{[]};
-
-    ghost dialled = { [] };
-}
-
-/// A call that makes a pool over any dialer picks it.
-impl Base for Brand {
     ghost use Rattle.std.specs.Prelude.{[]};
 
     ghost dialled = { [] };

@@ -5,10 +5,9 @@ ghost use Rattle.px_base.specs.Sinks.{SinkState};
 ghost use Rattle.px_base.specs.Dials.{linked, dialed, finish, traffic};
 ghost use Rattle.px_link_pool.specs.Joins.{over, inner_at_end, anew, joined_with, inner_by, with_joined, dials_over, is_home, are_home, again_over, fresh_over};
 ghost use Rattle.px_base.specs.declared.dials.Dial.{Dial};
-ghost use Rattle.px_pool_ends.specs.Answers.{is_lost};
 ghost use Rattle.px_pool_ends.specs.Incomings.{Hearing, outer_source, inner_source};
 ghost use Rattle.px_pool_ends.specs.Outgoings.{Sending, outer_sink, inner_sink};
-ghost use Rattle.px_link_pool.specs.Histories.{Views, dials_of, inner_of, kept_links, are_due, with_closed, gone_from, has_place, back_on, may_keep, from_there, counted_up, wanting_count, all_closed, IsJudged, AreJudged};
+ghost use Rattle.px_link_pool.specs.Histories.{Views, dials_of, inner_of, kept_links, are_due, with_closed, gone_from, has_place, back_on, may_keep, from_there, counted_up, is_link_wanting, wanting_count, all_closed, IsJudged, AreJudged};
 ghost use Rattle.px_link_pool.specs.Shelves.{items};
 ghost use Rattle.px_link_pool.specs.Standing.{kept_states};
 
@@ -137,7 +136,7 @@ pub fn hung_up<S: LocalSource, O: LocalSink>(
     ensures joined { (base : List Dial) (v : Views S O) → inner_by base v result ≡ with_joined v.ins v.outs (over v result) closing.now (inner_by base v before.now) }
     ensures home { (v : Views S O) → are_home v result ≡ are_home v before.now }
     ensures lent { (v : Views S O) → dials_over v result ≡ finish (outer_source link_in.value).mark (traffic (outer_source link_in.value) (outer_sink link_out.value)) (dials_over v before.now) }
-    ensures wanted { wanting_count result ≡ counted_up (is_lost link_in.value.following) (wanting_count before.now) }
+    ensures wanted { wanting_count result ≡ counted_up (is_link_wanting link_in.value link_out.value) (wanting_count before.now) }
     ensures judged { IsJudged link_in.value link_out.value → AreJudged before.now → AreJudged result }
 {
     History::HungUp {

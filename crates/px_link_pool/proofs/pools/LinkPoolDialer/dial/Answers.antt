@@ -8,6 +8,7 @@ use Rattle.px_link_pool.specs.Shelves.{items}
 use Rattle.px_link_pool.specs.Standing.{kept_state, kept_states}
 use Rattle.px_link_pool.proofs.StandingLemmas.{TakenOff, taken_by, none_taken_by, ready_parts, again_on, again_new, told_parts, dialled_ok, dialled_err, stands_told, stands_seen}
 use Rattle.px_base.specs.Dials.{LinkState}
+use Rattle.px_link_pool.proofs.BalanceLemmas.{balanced_others, balanced_again, balanced_dialled, balanced_refused}
 use Rattle.px_link_pool.proofs.JoinLemmas.{there_by, same_label, joins_again, joins_dialled, joins_refused, told_by, unknown, fresh_given, tells_seen, joins_seen}
 use mathlib.Core.Logic.{∥∥₁_map}
 use Rattle.px_link_pool.proofs.HandingLemmas.{gone_by, found_by, none_found_by, again_tells, dialled_tells}
@@ -39,6 +40,7 @@ invariant_of-self g c =
           (same_label c.lend.result.0.host c.in-Some.kept.host c.lend.result.0.port c.in-Some.kept.port (g.D.In.Source.state c.in-Some.kept.source) (g.D.Out.Sink.state c.in-Some.kept.sink) (c.taken_again.ensures.host ∙ c.of-noted.ensures ∙ c.in_ok-name.ensures ∙ sym (rw c.in-Some.is at c.take_resting-rest.ensures.host)) (c.taken_again.ensures.port ∙ sym (rw c.in-Some.is at c.take_resting-rest.ensures.port))) refl refl ((off was).told (c.args.self.now.stands.told was)).0 (ready_parts (kept_state g.D.In.Source.state g.D.Out.Sink.state c.in-Some.kept) (rw c.in-Some.is at c.take_resting-rest.ensures.ready)).1 (off was).joined;
       counts = c.args.self.now.counts ∙ sym c.taken_again.ensures.wanted;
       judged = λ t. ∥∥₁_map (c.args.self.now.judged (sym c.take_resting-rest.ensures.tells ∙ t)) c.taken_again.ensures.judged;
+      balance = rw c.fill.ensures (balanced_again (g.D.Dialer.state c.take_resting-rest.new.inner) _ _ _ _ (balanced_others _ _ _ _ _ _ c.args.self.now.balance (rw (c.replace-shelf.ensures.value, c.in-Some.is) at c.take_resting-rest.ensures.hung_up) c.take_resting-rest.ensures.goes_on.hung_up_later) c.raised-self.ensures.exact);
     }
 
 pub invariant_of-self-in-Ok : goal.invariant_of-self-in-Ok
@@ -59,6 +61,7 @@ invariant_of-self-in-Ok g c =
           (rw (c.lend-in-Ok.ensures.source, c.lend-in-Ok.ensures.begun, c.lend-in-Ok.ensures.begun_out) at (c.dialled.ensures.dials outer_source outer_sink)) (rw c.lend-in-Ok.ensures.source at (c.dialled.ensures.dials inner_source inner_sink)) refl c.dialled.ensures.host c.dialled.ensures.port fresh.nothing_read refl told.in_tells (fresh_given i.link_in fresh.nothing_read) fresh.nothing_taken new.0 new.1 (ap (kept_states g.D.In.Source.state g.D.Out.Sink.state) (same was));
       counts = c.args.self.now.counts ∙ sym c.dialled.ensures.wanted;
       judged = λ n. let t = sym c.dial-asked.ensures.goes_on.tells_same ∙ n in ∥∥₁_map (c.args.self.now.judged (sym c.take_resting-rest.ensures.tells ∙ t)) c.dialled.ensures.judged;
+      balance = rw c.fill.ensures (balanced_dialled (g.D.Dialer.state c.take_resting-rest.new.inner) (g.D.Dialer.state c.dial-asked.new.self) _ _ _ _ (balanced_others _ _ _ _ _ _ c.args.self.now.balance (rw (c.replace-shelf.ensures.value, c.in-None.is) at c.take_resting-rest.ensures.hung_up) c.take_resting-rest.ensures.goes_on.hung_up_later) (rw c.in-Ok.is at c.dial-asked.ensures.cause.opened) c.dial-asked.ensures.cause.hung_up_same c.raised-self-in-Ok.ensures.exact);
     }
 
 pub invariant_of-self-in-Err : goal.invariant_of-self-in-Err
@@ -74,6 +77,7 @@ invariant_of-self-in-Err g c =
           (c.dialled-in-Err.ensures.dials outer_source outer_sink) (c.dialled-in-Err.ensures.dials inner_source inner_sink) (ap (kept_states g.D.In.Source.state g.D.Out.Sink.state) (same was));
       counts = c.args.self.now.counts ∙ sym c.dialled-in-Err.ensures.wanted;
       judged = λ n. let t = sym c.dial-asked.ensures.goes_on.tells_same ∙ n in ∥∥₁_map (c.args.self.now.judged (sym c.take_resting-rest.ensures.tells ∙ t)) c.dialled-in-Err.ensures.judged;
+      balance = rw c.fill.ensures (balanced_refused (g.D.Dialer.state c.take_resting-rest.new.inner) (g.D.Dialer.state c.dial-asked.new.self) _ _ _ (balanced_others _ _ _ _ _ _ c.args.self.now.balance (rw (c.replace-shelf.ensures.value, c.in-None.is) at c.take_resting-rest.ensures.hung_up) c.take_resting-rest.ensures.goes_on.hung_up_later) (rw c.in-Err.is at c.dial-asked.ensures.cause.opened) c.dial-asked.ensures.cause.hung_up_same);
     }
 
 pub returns-in-Some-clause-told : goal.returns-in-Some-clause-told
