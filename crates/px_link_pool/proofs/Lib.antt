@@ -6,3 +6,4 @@ pub mod JoinLemmas
 pub mod BalanceLemmas
 pub mod KeepingLemmas
 pub mod Crossing
+pub mod ComingLemmas

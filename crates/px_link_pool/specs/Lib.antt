@@ -5,4 +5,5 @@ pub mod Shelves
 pub mod Histories
 pub mod Keeping
 pub mod Joins
+pub mod Coming
 pub mod Pools

@@ -1,5 +1,6 @@
 // The dialer that keeps links.
 ghost use Rattle.std.specs.Prelude.{◌≡◌, ◌≤◌, ◌-◌, length, ◌++◌, ◌∷◌, [], List, true, false, not, ◌==◌, ◌&&◌, IsTrue, IfOk, ℕ};
+ghost use Rattle.std.specs.Option.{ForSome};
 ghost use Rattle.px_base.specs.Causes.{RisesWith, IsOneMore};
 ghost use Rattle.px_base.specs.Dials.{DialerGoesOn, DialCause, HangsUp, IsFresh, IsTold, linked, dialed, is_open};
 ghost use Rattle.px_base.specs.declared.dials.Dial.{Dial};
@@ -7,6 +8,7 @@ ghost use Rattle.px_pool_ends.specs.Incomings.{outer_source, inner_source};
 ghost use Rattle.px_pool_ends.specs.Outgoings.{outer_sink, inner_sink};
 ghost use Rattle.px_link_pool.specs.Histories.{dials_of, are_due, inner_of, kept_links, all_closed, wanting_count, HistoryTells, AreJudged};
 ghost use Rattle.px_link_pool.specs.Joins.{Joins, dials_over, are_home, inner_at_end};
+ghost use Rattle.px_link_pool.specs.Coming.{MeetsComing};
 ghost use Rattle.px_link_pool.specs.Pools.{pool_state};
 ghost use Rattle.px_link_pool.specs.declared.histories.History.{Start};
 ghost use Rattle.px_link_pool.specs.Balances.{HangsUpOthers, IsBalanced};
@@ -43,6 +45,8 @@ pub struct LinkPool<D: LocalDialer, N: Base = Anew> {
     ghost joins: { IsTrue (D.state inner).tells → Joins (record { ins = D.In.state; outs = D.Out.state }) N.dialled (D.state inner).dials (kept_states D.In.state D.Out.state (items kept)) history },
     ghost counts: { wanting ≡ wanting_count history },
     ghost judged: { IsTrue (D.state inner).tells → ∥ AreJudged history ∥₁ },
+    ghost servers: { ForSome N.first (λ d. (D.state inner).through_servers ≡ d.through_servers) },
+    ghost coming: { ForSome N.first (λ d. IsTrue (D.state inner).tells → IsTrue (D.state inner).tells_coming → ∥ MeetsComing (record { ins = D.In.state; outs = D.Out.state }) d history (D.state inner).coming ∥₁) },
     ghost balance: { IsBalanced (D.state inner) opened hung_up (length (items kept)) },
 }
 
@@ -50,6 +54,7 @@ impl<D: LocalDialer, N: Base> LinkPool<D, N> {
     /// A pool over a dialer that has hung up as many links as it opened, with no kept links. It takes no memory.
     pub fn new(alloc: Global, inner: D) -> LinkPool<D, N>
         requires base { (D.state inner).dials ≡ N.dialled }
+        requires first { ForSome N.first (λ d. D.state inner ≡ d) }
         requires none_open { (D.state inner).opened ≡ (D.state inner).hung_up }
         ensures inner { result.inner ≡ inner }
         ensures history { result.history ≡ Start }
@@ -96,6 +101,7 @@ impl<D: LocalDialer, N: Base> LinkPool<D, N> {
         ensures kept { IsTrue (D.state self.inner).tells → kept_states D.In.state D.Out.state (items self.kept) ≡ kept_links (record { ins = D.In.state; outs = D.Out.state }) self.history }
         ensures dials { IsTrue (D.state self.inner).tells → (D.state result).dials ≡ all_closed (kept_states D.In.state D.Out.state (items self.kept)) (inner_of N.dialled D.In.state D.Out.state self.history) }
         ensures judged { IsTrue (D.state self.inner).tells → ∥ AreJudged self.history ∥₁ }
+        ensures coming { ForSome N.first (λ d. IsTrue (D.state self.inner).tells → IsTrue (D.state self.inner).tells_coming → ∥ MeetsComing (record { ins = D.In.state; outs = D.Out.state }) d self.history (D.state result).coming ∥₁) }
         ensures balance { IsBalanced (D.state result) self.opened self.hung_up 0 }
         ensures goes_on { DialerGoesOn (D.state self.inner) (D.state result) }
     {
@@ -136,6 +142,7 @@ fn close_all<D: LocalDialer>(inner: &mut D, kept: Shelf<KeptLink<D::In, D::Out>>
     requires { (outer : List Dial) × PoolStands (D.state inner.old) outer (kept_states D.In.state D.Out.state (items kept)) }
     ensures stands { (outer : List Dial) → PoolStands (D.state inner.old) outer (kept_states D.In.state D.Out.state (items kept)) → PoolStands (D.state inner.new) outer [] }
     ensures dials { IsTrue (D.state inner.old).tells → (D.state inner.new).dials ≡ all_closed (kept_states D.In.state D.Out.state (items kept)) (D.state inner.old).dials }
+    ensures coming { IsTrue (D.state inner.old).tells_coming → (D.state inner.new).coming ≡ (D.state inner.old).coming }
     ensures hung_up { HangsUpOthers (D.state inner.old) (D.state inner.new) (length (items kept)) 0 }
     ensures tells { (D.state inner.new).tells ≡ (D.state inner.old).tells }
     ensures names { (D.state inner.new).names ≡ (D.state inner.old).names }
@@ -161,6 +168,7 @@ fn close_oldest<D: LocalDialer>(
     ensures names { (D.state inner.new).names ≡ (D.state inner.old).names }
     ensures reach { (D.state inner.new).reach ≡ (D.state inner.old).reach }
     ensures goes_on { DialerGoesOn (D.state inner.old) (D.state inner.new) }
+    ensures coming { IsTrue (D.state inner.old).tells_coming → (D.state inner.new).coming ≡ (D.state inner.old).coming }
     ensures hung_up { HangsUpOthers (D.state inner.old) (D.state inner.new) (length (items kept)) (length (items result)) }
     ensures fewer { length (items result) ≡ length (items kept) - 1 }
     ensures most { length (items kept) ≤ 4 }

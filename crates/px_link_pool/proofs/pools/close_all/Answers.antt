@@ -33,3 +33,10 @@ returns-clause-hung_up g c =
     let two = hangs_on _ _ _ _ _ _ _ (length (items c.close_oldest-kept-2.result)) c.close_oldest-kept.ensures.hung_up c.close_oldest-kept-2.ensures.hung_up (omega arith) c.close_oldest-kept-2.ensures.goes_on.hung_up_later in
     let three = hangs_on _ _ _ _ _ _ _ (length (items c.close_oldest-kept-3.result)) two c.close_oldest-kept-3.ensures.hung_up (omega arith) c.close_oldest-kept-3.ensures.goes_on.hung_up_later in
     hangs_on _ _ _ _ _ _ _ _ three c.close_oldest-kept-4.ensures.hung_up (omega (arith, none)) c.close_oldest-kept-4.ensures.goes_on.hung_up_later
+
+pub returns-clause-coming : goal.returns-clause-coming
+returns-clause-coming g c = λ t.
+    let two = c.close_oldest-kept.ensures.goes_on.tells_coming_same ∙ t in
+    let three = c.close_oldest-kept-2.ensures.goes_on.tells_coming_same ∙ two in
+    let four = c.close_oldest-kept-3.ensures.goes_on.tells_coming_same ∙ three in
+    c.close_oldest-kept-4.ensures.coming four ∙ c.close_oldest-kept-3.ensures.coming three ∙ c.close_oldest-kept-2.ensures.coming two ∙ c.close_oldest-kept.ensures.coming t
