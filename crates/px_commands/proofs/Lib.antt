@@ -4,5 +4,4 @@ pub mod ReadLemmas
 pub mod PassLemmas
 pub mod LoadLemmas
 pub mod ClientLemmas
-pub mod Crossing
 pub mod ExerciseLemmas

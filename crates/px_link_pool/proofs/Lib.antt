@@ -3,3 +3,7 @@ pub mod MarkLemmas
 pub mod StandingLemmas
 pub mod HandingLemmas
 pub mod JoinLemmas
+pub mod BalanceLemmas
+pub mod KeepingLemmas
+pub mod Crossing
+pub mod ComingLemmas

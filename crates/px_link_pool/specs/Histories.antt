@@ -5,6 +5,8 @@ use Rattle.std.specs.Str.{bytes_eq}
 use Rattle.px_base.specs.declared.dials.Dial.{Dial}
 use Rattle.px_base.specs.Sources.{SourceState}
 use Rattle.px_base.specs.Sinks.{SinkState}
+use Rattle.px_base.specs.declared.faults.SinkFault.{SinkFault}
+use Rattle.px_base.specs.declared.faults.SinkFault.TheVariants as fault
 use Rattle.px_base.specs.Dials.{linked, dialed, finish, traffic}
 use Rattle.px_pool_ends.specs.Answers.{IsAnswer, is_answered, is_lost}
 use Rattle.px_pool_ends.specs.Incomings.{Hearing, IsLaterSource, inner_source, heard}
@@ -111,12 +113,22 @@ abbrev pub counted_up : Bool → ℕ → ℕ
 counted_up true n = min (n + 1) (2 ^ 64 - 1)
 counted_up false n = n
 
--- how many links were handed back for which memory was wanting while their answer was followed
+-- a sending was refused, the last time that one was, for want of memory
+abbrev pub is_sending_wanting : Option SinkFault → Bool
+is_sending_wanting None = false
+is_sending_wanting (Some fault.Failed) = false
+is_sending_wanting (Some fault.Mem) = true
+
+-- memory was wanting while the answer was followed, or for a sending of bytes that were taken
+abbrev pub is_link_wanting : Hearing → Sending → Bool
+is_link_wanting h s = is_lost h.following || is_sending_wanting s.stopped
+
+-- how many links were handed back for which memory was wanting
 abbrev pub wanting_count : {S T : Type 0} → History Hearing Sending S T → ℕ
 wanting_count Start = 0
 wanting_count (Dialled' shape before host port asked given) = wanting_count before
 wanting_count (Again' shape before host port given) = wanting_count before
-wanting_count (HungUp' shape before host port link_in link_out closing) = counted_up (is_lost link_in.value.following) (wanting_count before)
+wanting_count (HungUp' shape before host port link_in link_out closing) = counted_up (is_link_wanting link_in.value link_out.value) (wanting_count before)
 wanting_count (Rested' shape before kept) = wanting_count before
 
 -- What is so of a link that was handed back, where it tells: an answer is known exactly where one was heard, unless memory was

@@ -2,13 +2,13 @@
 ghost use Rattle.std.specs.Prelude.{◌≡◌, ◌++◌, ◌&&◌, ◌==◌, not, ℕ, List, [], IfOk};
 ghost use Rattle.px_base.specs.Sources.{SourceState};
 ghost use Rattle.px_base.specs.Sinks.{SinkState};
-ghost use Rattle.px_base.specs.Dials.{linked, dialed, finish, traffic};
+ghost use Rattle.px_base.specs.Dials.{DialerState, Coming, linked, dialed, finish, traffic, met, agrees, LeavesComing};
+ghost use Rattle.px_link_pool.specs.Coming.{with_coming, MeetsComing};
 ghost use Rattle.px_link_pool.specs.Joins.{over, inner_at_end, anew, joined_with, inner_by, with_joined, dials_over, is_home, are_home, again_over, fresh_over};
 ghost use Rattle.px_base.specs.declared.dials.Dial.{Dial};
-ghost use Rattle.px_pool_ends.specs.Answers.{is_lost};
 ghost use Rattle.px_pool_ends.specs.Incomings.{Hearing, outer_source, inner_source};
 ghost use Rattle.px_pool_ends.specs.Outgoings.{Sending, outer_sink, inner_sink};
-ghost use Rattle.px_link_pool.specs.Histories.{Views, dials_of, inner_of, kept_links, are_due, with_closed, gone_from, has_place, back_on, may_keep, from_there, counted_up, wanting_count, all_closed, IsJudged, AreJudged};
+ghost use Rattle.px_link_pool.specs.Histories.{Views, dials_of, inner_of, kept_links, are_due, with_closed, gone_from, has_place, back_on, may_keep, from_there, counted_up, is_link_wanting, wanting_count, all_closed, IsJudged, AreJudged};
 ghost use Rattle.px_link_pool.specs.Shelves.{items};
 ghost use Rattle.px_link_pool.specs.Standing.{kept_states};
 
@@ -78,6 +78,8 @@ pub fn dialled<S: LocalSource, O: LocalSink>(
     ensures lent { (v : Views S O) → dials_over v result ≡ dials_over v before.now ++ fresh_over host.value port (linked v.ins v.outs asked.value) }
     ensures wanted { wanting_count result ≡ wanting_count before.now }
     ensures judged { AreJudged before.now → AreJudged result }
+    ensures coming { (v : Views S O) (first : DialerState) (was left : List Coming) → MeetsComing v first before.now was → agrees (met (with_coming first was) host.value) (linked v.ins v.outs asked.value)
+        → LeavesComing (with_coming first was) (with_coming first left) host.value (linked v.ins v.outs asked.value) → MeetsComing v first result left }
     ensures host { IfOk link.now (λ l. l.0.host ≡ host.value) }
     ensures port { IfOk link.now (λ l. l.0.port ≡ port) }
 {
@@ -109,6 +111,7 @@ pub fn taken_again<S: LocalSource, O: LocalSink>(
     ensures lent { (v : Views S O) → dials_over v result ≡ dials_over v before.now ++ again_over host.value port (over v before.now) (from_there host.value port (kept_links v before.now)) }
     ensures wanted { wanting_count result ≡ wanting_count before.now }
     ensures judged { AreJudged before.now → AreJudged result }
+    ensures coming { (v : Views S O) (first : DialerState) (left : List Coming) → MeetsComing v first before.now left → MeetsComing v first result left }
     ensures host { IfOk link.now (λ l. l.0.host ≡ host.value) }
     ensures port { IfOk link.now (λ l. l.0.port ≡ port) }
 {
@@ -137,8 +140,9 @@ pub fn hung_up<S: LocalSource, O: LocalSink>(
     ensures joined { (base : List Dial) (v : Views S O) → inner_by base v result ≡ with_joined v.ins v.outs (over v result) closing.now (inner_by base v before.now) }
     ensures home { (v : Views S O) → are_home v result ≡ are_home v before.now }
     ensures lent { (v : Views S O) → dials_over v result ≡ finish (outer_source link_in.value).mark (traffic (outer_source link_in.value) (outer_sink link_out.value)) (dials_over v before.now) }
-    ensures wanted { wanting_count result ≡ counted_up (is_lost link_in.value.following) (wanting_count before.now) }
+    ensures wanted { wanting_count result ≡ counted_up (is_link_wanting link_in.value link_out.value) (wanting_count before.now) }
     ensures judged { IsJudged link_in.value link_out.value → AreJudged before.now → AreJudged result }
+    ensures coming { (v : Views S O) (first : DialerState) (left : List Coming) → MeetsComing v first before.now left → MeetsComing v first result left }
 {
     History::HungUp {
         before: Snapshot::of(before),
@@ -165,6 +169,7 @@ pub fn rested<S: LocalSource, O: LocalSink>(
     ensures lent { (v : Views S O) → dials_over v result ≡ dials_over v before.now }
     ensures wanted { wanting_count result ≡ wanting_count before.now }
     ensures judged { AreJudged before.now → AreJudged result }
+    ensures coming { (v : Views S O) (first : DialerState) (left : List Coming) → MeetsComing v first before.now left → MeetsComing v first result left }
 {
     History::Rested {
         before: Snapshot::of(before),

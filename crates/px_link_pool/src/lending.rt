@@ -4,10 +4,10 @@ ghost use Rattle.px_base.specs.Sources.{given};
 ghost use Rattle.px_pool_ends.specs.Answers.{IsAnswer, is_answered, is_lost};
 ghost use Rattle.px_pool_ends.specs.Incomings.{IsLaterSource, heard};
 ghost use Rattle.px_pool_ends.specs.Outgoings.{outer_sink};
-ghost use Rattle.px_link_pool.specs.Histories.{is_left_open as is_left_open_spec, is_read_out as is_read_out_spec, may_keep, IsJudged};
+ghost use Rattle.px_link_pool.specs.Histories.{is_left_open as is_left_open_spec, is_read_out as is_read_out_spec, is_sending_wanting, is_link_wanting, may_keep, IsJudged};
 
 use crate::shelves::KeptLink;
-use px_base::{LocalSink, LocalSource, Text};
+use px_base::{LocalSink, LocalSource, SinkFault, Text};
 use px_pool_ends::{Incoming, Outgoing};
 use std::alloc::Global;
 use std::snapshot::Snapshot;
@@ -69,6 +69,29 @@ pub fn handed<S: LocalSource, O: LocalSink>(
         port,
     };
     (link, keeps)
+}
+
+/// Whether memory was wanting for a sending, the last time that one was refused.
+fn was_wanting(stopped: Option<SinkFault>) -> bool
+    ensures { result ≡ is_sending_wanting stopped }
+{
+    match stopped {
+        Some(fault) => match fault {
+            SinkFault::Failed => false,
+            SinkFault::Mem => true,
+        },
+        None => false,
+    }
+}
+
+/// Whether memory was wanting while the answer was followed, or for a sending of bytes that were taken.
+pub fn lacks_memory<S: LocalSource, O: LocalSink>(
+    link_in: &Incoming<S, O>,
+    link_out: &Outgoing<S, O>,
+) -> bool
+    ensures { result ≡ is_link_wanting link_in.now link_out.now }
+{
+    link_in.has_lost() || was_wanting(link_out.stopped())
 }
 
 /// Whether one whole answer was heard and nothing more, and no read failed.

@@ -12,7 +12,7 @@ mod shelves;
 
 pub use bases::{Anew, Base};
 pub use histories::{History, Past};
-pub use laws::marks_are_one;
+pub use laws::{kept_links_are_seen, marks_are_one};
 pub use pools::LinkPool;
 pub use resting::{LocalSees, Look, Sees};
 pub use shelves::{KeptLink, Shelf};

@@ -1,5 +1,6 @@
 // The dialer that keeps links.
 ghost use Rattle.std.specs.Prelude.{◌≡◌, ◌≤◌, ◌-◌, length, ◌++◌, ◌∷◌, [], List, true, false, not, ◌==◌, ◌&&◌, IsTrue, IfOk, ℕ};
+ghost use Rattle.std.specs.Option.{ForSome};
 ghost use Rattle.px_base.specs.Causes.{RisesWith, IsOneMore};
 ghost use Rattle.px_base.specs.Dials.{DialerGoesOn, DialCause, HangsUp, IsFresh, IsTold, linked, dialed, is_open};
 ghost use Rattle.px_base.specs.declared.dials.Dial.{Dial};
@@ -7,14 +8,16 @@ ghost use Rattle.px_pool_ends.specs.Incomings.{outer_source, inner_source};
 ghost use Rattle.px_pool_ends.specs.Outgoings.{outer_sink, inner_sink};
 ghost use Rattle.px_link_pool.specs.Histories.{dials_of, are_due, inner_of, kept_links, all_closed, wanting_count, HistoryTells, AreJudged};
 ghost use Rattle.px_link_pool.specs.Joins.{Joins, dials_over, are_home, inner_at_end};
+ghost use Rattle.px_link_pool.specs.Coming.{MeetsComing};
 ghost use Rattle.px_link_pool.specs.Pools.{pool_state};
 ghost use Rattle.px_link_pool.specs.declared.histories.History.{Start};
+ghost use Rattle.px_link_pool.specs.Balances.{HangsUpOthers, IsBalanced};
 ghost use Rattle.px_link_pool.specs.Shelves.{items};
 ghost use Rattle.px_link_pool.specs.Standing.{PoolStands, kept_state, kept_states, is_told};
 
 use crate::bases::{Anew, Base};
 use crate::histories::{History, Past, dialled, hung_up, rested, taken_again};
-use crate::lending::{handed, lend};
+use crate::lending::{handed, lacks_memory, lend};
 use crate::resting::{Look, Sees, take_resting};
 use crate::shelves::{KeptLink, Shelf, done, fill, pop, shelve};
 use px_base::{DialFault, Dialer, LocalDialer, LocalSink, LocalSource, Sink, Source, Text, raised};
@@ -42,12 +45,17 @@ pub struct LinkPool<D: LocalDialer, N: Base = Anew> {
     ghost joins: { IsTrue (D.state inner).tells → Joins (record { ins = D.In.state; outs = D.Out.state }) N.dialled (D.state inner).dials (kept_states D.In.state D.Out.state (items kept)) history },
     ghost counts: { wanting ≡ wanting_count history },
     ghost judged: { IsTrue (D.state inner).tells → ∥ AreJudged history ∥₁ },
+    ghost servers: { ForSome N.first (λ d. (D.state inner).through_servers ≡ d.through_servers) },
+    ghost coming: { ForSome N.first (λ d. IsTrue (D.state inner).tells → IsTrue (D.state inner).tells_coming → ∥ MeetsComing (record { ins = D.In.state; outs = D.Out.state }) d history (D.state inner).coming ∥₁) },
+    ghost balance: { IsBalanced (D.state inner) opened hung_up (length (items kept)) },
 }
 
 impl<D: LocalDialer, N: Base> LinkPool<D, N> {
-    /// A pool over a dialer, with no kept links. It takes no memory.
+    /// A pool over a dialer that has hung up as many links as it opened, with no kept links. It takes no memory.
     pub fn new(alloc: Global, inner: D) -> LinkPool<D, N>
         requires base { (D.state inner).dials ≡ N.dialled }
+        requires first { ForSome N.first (λ d. D.state inner ≡ d) }
+        requires none_open { (D.state inner).opened ≡ (D.state inner).hung_up }
         ensures inner { result.inner ≡ inner }
         ensures history { result.history ≡ Start }
         ensures no_link_read_failed { result.link_reads ≡ 0 }
@@ -69,8 +77,8 @@ impl<D: LocalDialer, N: Base> LinkPool<D, N> {
         }
     }
 
-    /// For how many links memory was wanting while their answer was followed; none of these was kept. At its end the number
-    /// stays.
+    /// For how many links memory was wanting while their answer was followed or their bytes were sent; none of these was kept. At
+    /// its end the number stays.
     pub fn wanting(&self) -> u64
         ensures { result ≡ wanting_count self.now.history }
     {
@@ -93,6 +101,8 @@ impl<D: LocalDialer, N: Base> LinkPool<D, N> {
         ensures kept { IsTrue (D.state self.inner).tells → kept_states D.In.state D.Out.state (items self.kept) ≡ kept_links (record { ins = D.In.state; outs = D.Out.state }) self.history }
         ensures dials { IsTrue (D.state self.inner).tells → (D.state result).dials ≡ all_closed (kept_states D.In.state D.Out.state (items self.kept)) (inner_of N.dialled D.In.state D.Out.state self.history) }
         ensures judged { IsTrue (D.state self.inner).tells → ∥ AreJudged self.history ∥₁ }
+        ensures coming { ForSome N.first (λ d. IsTrue (D.state self.inner).tells → IsTrue (D.state self.inner).tells_coming → ∥ MeetsComing (record { ins = D.In.state; outs = D.Out.state }) d self.history (D.state result).coming ∥₁) }
+        ensures balance { IsBalanced (D.state result) self.opened self.hung_up 0 }
         ensures goes_on { DialerGoesOn (D.state self.inner) (D.state result) }
     {
         let LinkPool {
@@ -116,6 +126,7 @@ impl<D: LocalDialer, N: Base> LinkPool<D, N> {
         ensures same { pool_state (D.state self.new.inner) self.new.history self.new.link_reads self.new.link_writes self.new.opened self.new.hung_up ≡ pool_state (D.state self.old.inner) self.old.history self.old.link_reads self.old.link_writes self.old.opened self.old.hung_up }
         ensures none_kept { items self.new.kept ≡ [] }
         ensures wanting { self.new.wanting ≡ self.old.wanting }
+        ensures balance { IsBalanced (D.state self.new.inner) self.new.opened self.new.hung_up 0 }
         ensures joined { IsTrue (D.state self.old.inner).tells → (D.state self.new.inner).dials ≡ inner_at_end N.dialled (record { ins = D.In.state; outs = D.Out.state }) self.old.history }
         ensures goes_on { DialerGoesOn (D.state self.old.inner) (D.state self.new.inner) }
     {
@@ -131,6 +142,8 @@ fn close_all<D: LocalDialer>(inner: &mut D, kept: Shelf<KeptLink<D::In, D::Out>>
     requires { (outer : List Dial) × PoolStands (D.state inner.old) outer (kept_states D.In.state D.Out.state (items kept)) }
     ensures stands { (outer : List Dial) → PoolStands (D.state inner.old) outer (kept_states D.In.state D.Out.state (items kept)) → PoolStands (D.state inner.new) outer [] }
     ensures dials { IsTrue (D.state inner.old).tells → (D.state inner.new).dials ≡ all_closed (kept_states D.In.state D.Out.state (items kept)) (D.state inner.old).dials }
+    ensures coming { IsTrue (D.state inner.old).tells_coming → (D.state inner.new).coming ≡ (D.state inner.old).coming }
+    ensures hung_up { HangsUpOthers (D.state inner.old) (D.state inner.new) (length (items kept)) 0 }
     ensures tells { (D.state inner.new).tells ≡ (D.state inner.old).tells }
     ensures names { (D.state inner.new).names ≡ (D.state inner.old).names }
     ensures reach { (D.state inner.new).reach ≡ (D.state inner.old).reach }
@@ -155,6 +168,8 @@ fn close_oldest<D: LocalDialer>(
     ensures names { (D.state inner.new).names ≡ (D.state inner.old).names }
     ensures reach { (D.state inner.new).reach ≡ (D.state inner.old).reach }
     ensures goes_on { DialerGoesOn (D.state inner.old) (D.state inner.new) }
+    ensures coming { IsTrue (D.state inner.old).tells_coming → (D.state inner.new).coming ≡ (D.state inner.old).coming }
+    ensures hung_up { HangsUpOthers (D.state inner.old) (D.state inner.new) (length (items kept)) (length (items result)) }
     ensures fewer { length (items result) ≡ length (items kept) - 1 }
     ensures most { length (items kept) ≤ 4 }
 {
@@ -232,7 +247,7 @@ where
         let noted_out = Snapshot::of(&link_out);
         self.link_reads = raised(self.link_reads, link_in.has_failed());
         self.link_writes = raised(self.link_writes, link_out.has_failed());
-        self.wanting = raised(self.wanting, link_in.has_lost());
+        self.wanting = raised(self.wanting, lacks_memory(&link_in, &link_out));
         self.hung_up = raised(self.hung_up, true);
         let (link, keeps) = handed(link_in, link_out);
         let noted_host = Snapshot::of(&link.host);

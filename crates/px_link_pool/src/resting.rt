@@ -1,8 +1,9 @@
 // A kept link is looked at before it is lent again.
-ghost use Rattle.std.specs.Prelude.{◌≡◌, find, IsTrue, IfSome, false};
+ghost use Rattle.std.specs.Prelude.{◌≡◌, [], find, IsTrue, IfSome, false, length};
 ghost use Rattle.px_base.specs.Sources.{SourceGoesOn};
 ghost use Rattle.px_base.specs.Dials.{DialerGoesOn};
-ghost use Rattle.px_link_pool.specs.Shelves.{items, is_at, without_first};
+ghost use Rattle.px_link_pool.specs.Balances.{HangsUpOthers};
+ghost use Rattle.px_link_pool.specs.Shelves.{items, in_front, is_at, without_first};
 ghost use Rattle.px_link_pool.specs.Standing.{kept_state, kept_states, is_ready, are_ready, are_told};
 
 use crate::shelves::{KeptLink, Shelf, take_at};
@@ -53,6 +54,7 @@ where
     ensures ready { IfSome result (λ k. IsTrue (is_ready (kept_state D.In.state D.Out.state k))) }
     ensures host { IfSome result (λ k. k.host ≡ link.host) }
     ensures port { IfSome result (λ k. k.port ≡ link.port) }
+    ensures others { HangsUpOthers (D.state inner.old) (D.state inner.new) 1 (length (in_front result [])) }
     ensures tells { (D.state inner.new).tells ≡ (D.state inner.old).tells }
     ensures names { (D.state inner.new).names ≡ (D.state inner.old).names }
     ensures reach { (D.state inner.new).reach ≡ (D.state inner.old).reach }
@@ -98,6 +100,7 @@ where
     ensures still_ready { IsTrue (are_ready (kept_states D.In.state D.Out.state (items result.0))) }
     ensures host { IfSome result.1 (λ k. k.host ≡ host.now) }
     ensures port { IfSome result.1 (λ k. k.port ≡ port) }
+    ensures hung_up { HangsUpOthers (D.state inner.old) (D.state inner.new) (length (items shelf)) (length (in_front result.1 (items result.0))) }
     ensures tells { (D.state inner.new).tells ≡ (D.state inner.old).tells }
     ensures names { (D.state inner.new).names ≡ (D.state inner.old).names }
     ensures reach { (D.state inner.new).reach ≡ (D.state inner.old).reach }

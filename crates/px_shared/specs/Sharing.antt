@@ -5,6 +5,7 @@ use Rattle.px_base.specs.declared.dials.Dial.{Dial}
 use Rattle.px_ends.specs.Ends.{EndsState}
 use Rattle.px_pool_ends.specs.Incomings.{Hearing}
 use Rattle.px_pool_ends.specs.Outgoings.{Sending}
+use Rattle.px_link_pool.specs.Balances.{IsBalanced}
 use Rattle.px_link_pool.specs.Histories.{Views, are_due, wanting_count, AreJudged}
 use Rattle.px_link_pool.specs.Joins.{dials_over, inner_at_end}
 use Rattle.px_link_pool.specs.declared.histories.History.{History}
@@ -17,12 +18,14 @@ pooled d = record { tells = d.tells; dials = []; tells_coming = false; coming = 
 abbrev pub pooled_ends : EndsState → EndsState
 pooled_ends e = record { client = e.client; client_out = e.client_out; dialer = pooled e.dialer; clock = e.clock; peer = e.peer }
 
--- the dialer that a pool leaves when it is taken apart
+-- The dialer that a pool leaves when it is taken apart: as many of its links are open as of the pool's, so that where the pool's were
+-- hung up every one of its own was, unless a count is at its end.
 pub record IsLeftBy (pool inner : DialerState) : Type 0 where
   pub tells : inner.tells ≡ pool.tells
   pub names_later : pool.names ≤ inner.names
   pub reach_later : pool.reach ≤ inner.reach
   pub mark : inner.mark ≡ pool.mark
+  pub balance : IsBalanced inner pool.opened pool.hung_up 0
 
 -- What was done with a pool, by which its dials tell the inner ones behind those of before: what was heard and sent over each
 -- inner link is that of the pool's dials over it, joined. The inner dialer was asked exactly where no link was kept, and each

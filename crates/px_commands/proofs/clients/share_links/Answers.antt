@@ -3,7 +3,7 @@ use Rattle.std.proofs.Crossing.{crosses}
 use Rattle.std.proofs.Common.{refl}
 use Rattle.px_serve.proofs.CallerLemmas.{serves_fitting}
 use Rattle.px_commands.proofs.ClientLemmas.{shares_links}
-use Rattle.px_commands.proofs.Crossing.{pool_send}
+use Rattle.px_link_pool.proofs.Crossing.{pool_send}
 use Rattle.px_commands.proofs.clients.share_links.Goals as goal
 
 pub returns : goal.returns

@@ -1,6 +1,6 @@
 use denote.Param.Send.{sendable}
 use Rattle.std.proofs.Common.{sym}
-use Rattle.px_commands.proofs.Crossing.{pool_send}
+use Rattle.px_link_pool.proofs.Crossing.{pool_send}
 use Rattle.std.proofs.Crossing.{crosses}
 use Rattle.px_serve_command.proofs.proxies.serve_sharing.Goals as goal
 

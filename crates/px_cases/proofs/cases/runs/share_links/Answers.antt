@@ -1,6 +1,6 @@
 use denote.Param.Send.{sendable}
 use Rattle.std.proofs.Crossing.{crosses}
-use Rattle.px_commands.proofs.Crossing.{pool_send}
+use Rattle.px_link_pool.proofs.Crossing.{pool_send}
 use Rattle.px_cases.proofs.cases.runs.share_links.Goals as goal
 
 pub serve_cold-session-requires-send-A-Dial : goal.serve_cold-session-requires-send-A-Dial

@@ -6,8 +6,10 @@ use Rattle.px_pool_ends.specs.Incomings.{lent_source, outer_source, inner_source
 use Rattle.px_pool_ends.specs.Outgoings.{outer_sink, inner_sink}
 use Rattle.px_link_pool.specs.Shelves.{items}
 use Rattle.px_link_pool.specs.Standing.{kept_state, kept_states}
+use Rattle.px_link_pool.proofs.ComingLemmas.{meets_on, meets_dialled}
 use Rattle.px_link_pool.proofs.StandingLemmas.{TakenOff, taken_by, none_taken_by, ready_parts, again_on, again_new, told_parts, dialled_ok, dialled_err, stands_told, stands_seen}
 use Rattle.px_base.specs.Dials.{LinkState}
+use Rattle.px_link_pool.proofs.BalanceLemmas.{balanced_others, balanced_again, balanced_dialled, balanced_refused}
 use Rattle.px_link_pool.proofs.JoinLemmas.{there_by, same_label, joins_again, joins_dialled, joins_refused, told_by, unknown, fresh_given, tells_seen, joins_seen}
 use mathlib.Core.Logic.{∥∥₁_map}
 use Rattle.px_link_pool.proofs.HandingLemmas.{gone_by, found_by, none_found_by, again_tells, dialled_tells}
@@ -39,6 +41,10 @@ invariant_of-self g c =
           (same_label c.lend.result.0.host c.in-Some.kept.host c.lend.result.0.port c.in-Some.kept.port (g.D.In.Source.state c.in-Some.kept.source) (g.D.Out.Sink.state c.in-Some.kept.sink) (c.taken_again.ensures.host ∙ c.of-noted.ensures ∙ c.in_ok-name.ensures ∙ sym (rw c.in-Some.is at c.take_resting-rest.ensures.host)) (c.taken_again.ensures.port ∙ sym (rw c.in-Some.is at c.take_resting-rest.ensures.port))) refl refl ((off was).told (c.args.self.now.stands.told was)).0 (ready_parts (kept_state g.D.In.Source.state g.D.Out.Sink.state c.in-Some.kept) (rw c.in-Some.is at c.take_resting-rest.ensures.ready)).1 (off was).joined;
       counts = c.args.self.now.counts ∙ sym c.taken_again.ensures.wanted;
       judged = λ t. ∥∥₁_map (c.args.self.now.judged (sym c.take_resting-rest.ensures.tells ∙ t)) c.taken_again.ensures.judged;
+      servers = λ d k. c.take_resting-rest.ensures.goes_on.through_servers_same ∙ c.args.self.now.servers d k;
+      coming = λ d k. let m = c.args.self.now.coming d k in λ t u. let was = sym c.take_resting-rest.ensures.tells ∙ t in let told = sym c.take_resting-rest.ensures.goes_on.tells_coming_same ∙ u in
+          meets_on (record { ins = g.D.In.Source.state; outs = g.D.Out.Sink.state }) d _ _ c.args.self.now.history c.taken_again.result (c.taken_again.ensures.coming (record { ins = g.D.In.Source.state; outs = g.D.Out.Sink.state }) d) (ap (λ x. x.coming) (c.take_resting-rest.ensures.same was)) (m was told);
+      balance = rw c.fill.ensures (balanced_again (g.D.Dialer.state c.take_resting-rest.new.inner) _ _ _ _ (balanced_others _ _ _ _ _ _ c.args.self.now.balance (rw (c.replace-shelf.ensures.value, c.in-Some.is) at c.take_resting-rest.ensures.hung_up) c.take_resting-rest.ensures.goes_on.hung_up_later) c.raised-self.ensures.exact);
     }
 
 pub invariant_of-self-in-Ok : goal.invariant_of-self-in-Ok
@@ -59,6 +65,13 @@ invariant_of-self-in-Ok g c =
           (rw (c.lend-in-Ok.ensures.source, c.lend-in-Ok.ensures.begun, c.lend-in-Ok.ensures.begun_out) at (c.dialled.ensures.dials outer_source outer_sink)) (rw c.lend-in-Ok.ensures.source at (c.dialled.ensures.dials inner_source inner_sink)) refl c.dialled.ensures.host c.dialled.ensures.port fresh.nothing_read refl told.in_tells (fresh_given i.link_in fresh.nothing_read) fresh.nothing_taken new.0 new.1 (ap (kept_states g.D.In.Source.state g.D.Out.Sink.state) (same was));
       counts = c.args.self.now.counts ∙ sym c.dialled.ensures.wanted;
       judged = λ n. let t = sym c.dial-asked.ensures.goes_on.tells_same ∙ n in ∥∥₁_map (c.args.self.now.judged (sym c.take_resting-rest.ensures.tells ∙ t)) c.dialled.ensures.judged;
+      servers = λ d k. c.dial-asked.ensures.goes_on.through_servers_same ∙ c.take_resting-rest.ensures.goes_on.through_servers_same ∙ c.args.self.now.servers d k;
+      coming = λ d k. let m = c.args.self.now.coming d k in let e = c.args.self.now.servers d k in λ n u. let t = sym c.dial-asked.ensures.goes_on.tells_same ∙ n in let was = sym c.take_resting-rest.ensures.tells ∙ t in
+          let asks = sym c.dial-asked.ensures.goes_on.tells_coming_same ∙ u in let told = sym c.take_resting-rest.ensures.goes_on.tells_coming_same ∙ asks in
+          meets_dialled (record { ins = g.D.In.Source.state; outs = g.D.Out.Sink.state }) d (g.D.Dialer.state c.take_resting-rest.new.inner) (g.D.Dialer.state c.dial-asked.new.self) c.args.self.now.history c.dialled.result c.args.host.now _ _ _ (c.dialled.ensures.coming (record { ins = g.D.In.Source.state; outs = g.D.Out.Sink.state }) d) (c.take_resting-rest.ensures.goes_on.through_servers_same ∙ e) (c.of-noted.ensures ∙ c.in_ok-name.ensures) c.of-noted_asked.ensures
+          (c.dial-asked.ensures.coming asks) (c.dial-asked.ensures.coming_left asks)
+          (meets_on (record { ins = g.D.In.Source.state; outs = g.D.Out.Sink.state }) d _ _ c.args.self.now.history c.args.self.now.history (λ left h. h) (ap (λ x. x.coming) (c.take_resting-rest.ensures.same was)) (m was told));
+      balance = rw c.fill.ensures (balanced_dialled (g.D.Dialer.state c.take_resting-rest.new.inner) (g.D.Dialer.state c.dial-asked.new.self) _ _ _ _ (balanced_others _ _ _ _ _ _ c.args.self.now.balance (rw (c.replace-shelf.ensures.value, c.in-None.is) at c.take_resting-rest.ensures.hung_up) c.take_resting-rest.ensures.goes_on.hung_up_later) (rw c.in-Ok.is at c.dial-asked.ensures.cause.opened) c.dial-asked.ensures.cause.hung_up_same c.raised-self-in-Ok.ensures.exact);
     }
 
 pub invariant_of-self-in-Err : goal.invariant_of-self-in-Err
@@ -74,6 +87,13 @@ invariant_of-self-in-Err g c =
           (c.dialled-in-Err.ensures.dials outer_source outer_sink) (c.dialled-in-Err.ensures.dials inner_source inner_sink) (ap (kept_states g.D.In.Source.state g.D.Out.Sink.state) (same was));
       counts = c.args.self.now.counts ∙ sym c.dialled-in-Err.ensures.wanted;
       judged = λ n. let t = sym c.dial-asked.ensures.goes_on.tells_same ∙ n in ∥∥₁_map (c.args.self.now.judged (sym c.take_resting-rest.ensures.tells ∙ t)) c.dialled-in-Err.ensures.judged;
+      servers = λ d k. c.dial-asked.ensures.goes_on.through_servers_same ∙ c.take_resting-rest.ensures.goes_on.through_servers_same ∙ c.args.self.now.servers d k;
+      coming = λ d k. let m = c.args.self.now.coming d k in let e = c.args.self.now.servers d k in λ n u. let t = sym c.dial-asked.ensures.goes_on.tells_same ∙ n in let was = sym c.take_resting-rest.ensures.tells ∙ t in
+          let asks = sym c.dial-asked.ensures.goes_on.tells_coming_same ∙ u in let told = sym c.take_resting-rest.ensures.goes_on.tells_coming_same ∙ asks in
+          meets_dialled (record { ins = g.D.In.Source.state; outs = g.D.Out.Sink.state }) d (g.D.Dialer.state c.take_resting-rest.new.inner) (g.D.Dialer.state c.dial-asked.new.self) c.args.self.now.history c.dialled-in-Err.result c.args.host.now _ _ _ (c.dialled-in-Err.ensures.coming (record { ins = g.D.In.Source.state; outs = g.D.Out.Sink.state }) d) (c.take_resting-rest.ensures.goes_on.through_servers_same ∙ e) (c.of-noted.ensures ∙ c.in_ok-name.ensures) c.of-noted_asked.ensures
+          (c.dial-asked.ensures.coming asks) (c.dial-asked.ensures.coming_left asks)
+          (meets_on (record { ins = g.D.In.Source.state; outs = g.D.Out.Sink.state }) d _ _ c.args.self.now.history c.args.self.now.history (λ left h. h) (ap (λ x. x.coming) (c.take_resting-rest.ensures.same was)) (m was told));
+      balance = rw c.fill.ensures (balanced_refused (g.D.Dialer.state c.take_resting-rest.new.inner) (g.D.Dialer.state c.dial-asked.new.self) _ _ _ (balanced_others _ _ _ _ _ _ c.args.self.now.balance (rw (c.replace-shelf.ensures.value, c.in-None.is) at c.take_resting-rest.ensures.hung_up) c.take_resting-rest.ensures.goes_on.hung_up_later) (rw c.in-Err.is at c.dial-asked.ensures.cause.opened) c.dial-asked.ensures.cause.hung_up_same);
     }
 
 pub returns-in-Some-clause-told : goal.returns-in-Some-clause-told

@@ -1,15 +1,16 @@
-use Rattle.std.proofs.Common.{◌≡◌, IsTrue, true, false, ◌∙◌, sym, ap}
+use Rattle.std.proofs.Common.{◌≡◌, IsTrue, true, false, ◌∙◌, sym, ap, refl}
 use mathlib.Core.Logic.{∥∥₁_map}
 use Rattle.px_base.specs.Dials.{traffic}
-use Rattle.px_pool_ends.specs.Answers.{is_lost}
 use Rattle.px_pool_ends.specs.Incomings.{outer_source, inner_source}
 use Rattle.px_pool_ends.specs.Outgoings.{outer_sink, inner_sink}
-use Rattle.px_link_pool.specs.Histories.{dials_of, counted_up, wanting_count}
+use Rattle.px_link_pool.specs.Histories.{dials_of, counted_up, is_link_wanting}
 use Rattle.px_link_pool.specs.Joins.{over}
 use Rattle.px_link_pool.specs.Standing.{kept_state}
+use Rattle.px_link_pool.proofs.ComingLemmas.{meets_on}
 use Rattle.px_link_pool.proofs.MarkLemmas.{IsLent, lent_by}
 use Rattle.px_link_pool.proofs.StandingLemmas.{told_parts}
 use Rattle.px_link_pool.proofs.HandingLemmas.{shelved_by, handed_by, none_stands, some_told, some_stands, shelved_states, same_kept, handed_tells, closes_some, closes_none, counted_by}
+use Rattle.px_link_pool.proofs.BalanceLemmas.{kept_one, kept_same, balanced_kept, balanced_closed}
 use Rattle.px_link_pool.proofs.JoinLemmas.{joins_back}
 use Rattle.px_link_pool.proofs.pools.LinkPoolDialer.hang_up.Goals as goal
 
@@ -28,8 +29,11 @@ invariant_of-self-in-None g c =
           c.handed-link.ensures.source c.handed-link.ensures.sink c.handed-link.ensures.host c.handed-link.ensures.port (lent t) (c.handed-link.ensures.later (lent t).in_tells) (c.handed-link.ensures.judged (lent t).in_tells (lent t).out_tells).sent
           (rw (c.of-noted_in.ensures, c.of-noted_out.ensures) at (c.hung_up.ensures.over (record { ins = g.D.In.Source.state; outs = g.D.Out.Sink.state }))) (c.hung_up.ensures.home (record { ins = g.D.In.Source.state; outs = g.D.Out.Sink.state })) (c.hung_up.ensures.joined _ (record { ins = g.D.In.Source.state; outs = g.D.Out.Sink.state })) (closes_none g.D.In.Source.state g.D.Out.Sink.state _ _ c.in-None.is)
           (rw (c.of-noted_in.ensures, c.of-noted_out.ensures) at (c.hung_up.ensures.dials outer_source outer_sink)) (rw (c.of-noted_in.ensures, c.of-noted_out.ensures) at (c.hung_up.ensures.dials inner_source inner_sink)) (rw (c.of-noted_in.ensures, c.of-noted_out.ensures) at (c.hung_up.ensures.lent (record { ins = g.D.In.Source.state; outs = g.D.Out.Sink.state })));
-      counts = counted_by c.has_lost.result c.args.self.now.wanting c.raised-self-3.result c.raised-self-3.ensures.exact ∙ ap (λ b. counted_up b c.args.self.now.wanting) c.has_lost.ensures ∙ ap (counted_up (is_lost c.args.link_in.following)) c.args.self.now.counts ∙ sym (c.hung_up.ensures.wanted ∙ ap (λ h. counted_up (is_lost h.following) (wanting_count c.args.self.now.history)) c.of-noted_in.ensures);
+      counts = counted_by c.lacks_memory.result c.args.self.now.wanting c.raised-self-3.result c.raised-self-3.ensures.exact ∙ ap (λ b. counted_up b c.args.self.now.wanting) c.lacks_memory.ensures ∙ ap (counted_up (is_link_wanting c.args.link_in c.args.link_out)) c.args.self.now.counts ∙ sym (rw (c.of-noted_in.ensures, c.of-noted_out.ensures) at c.hung_up.ensures.wanted);
       judged = λ t. ∥∥₁_map (c.args.self.now.judged t) (c.hung_up.ensures.judged (rw (c.of-noted_in.ensures, c.of-noted_out.ensures) (c.handed-link.ensures.judged (lent t).in_tells (lent t).out_tells)));
+      servers = c.args.self.now.servers;
+      coming = λ d k. let m = c.args.self.now.coming d k in λ t u. meets_on (record { ins = g.D.In.Source.state; outs = g.D.Out.Sink.state }) d _ _ c.args.self.now.history c.hung_up.result (c.hung_up.ensures.coming (record { ins = g.D.In.Source.state; outs = g.D.Out.Sink.state }) d) refl (m t u);
+      balance = balanced_kept (g.D.Dialer.state c.args.self.now.inner) _ _ _ _ _ c.args.self.now.balance c.raised-self-4.ensures.exact (kept_one _ _ _ _ _ shelved c.in-None.is);
     }
 
 pub hang_up-requires-clause-open : goal.hang_up-requires-clause-open
@@ -65,6 +69,9 @@ invariant_of-self g c =
           c.handed-link.ensures.source c.handed-link.ensures.sink c.handed-link.ensures.host c.handed-link.ensures.port (lent was) (c.handed-link.ensures.later (lent was).in_tells) (c.handed-link.ensures.judged (lent was).in_tells (lent was).out_tells).sent
           (rw (c.of-noted_in.ensures, c.of-noted_out.ensures) at (c.hung_up.ensures.over (record { ins = g.D.In.Source.state; outs = g.D.Out.Sink.state }))) (c.hung_up.ensures.home (record { ins = g.D.In.Source.state; outs = g.D.Out.Sink.state })) (c.hung_up.ensures.joined _ (record { ins = g.D.In.Source.state; outs = g.D.Out.Sink.state })) (closes_some g.D.In.Source.state g.D.Out.Sink.state _ c.in-Some.closing _ _ c.in-Some.is (c.hang_up.ensures.hung_up.dials was))
           (rw (c.of-noted_in.ensures, c.of-noted_out.ensures) at (c.hung_up.ensures.dials outer_source outer_sink)) (rw (c.of-noted_in.ensures, c.of-noted_out.ensures) at (c.hung_up.ensures.dials inner_source inner_sink)) (rw (c.of-noted_in.ensures, c.of-noted_out.ensures) at (c.hung_up.ensures.lent (record { ins = g.D.In.Source.state; outs = g.D.Out.Sink.state })));
-      counts = counted_by c.has_lost.result c.args.self.now.wanting c.raised-self-3.result c.raised-self-3.ensures.exact ∙ ap (λ b. counted_up b c.args.self.now.wanting) c.has_lost.ensures ∙ ap (counted_up (is_lost c.args.link_in.following)) c.args.self.now.counts ∙ sym (c.hung_up.ensures.wanted ∙ ap (λ h. counted_up (is_lost h.following) (wanting_count c.args.self.now.history)) c.of-noted_in.ensures);
+      counts = counted_by c.lacks_memory.result c.args.self.now.wanting c.raised-self-3.result c.raised-self-3.ensures.exact ∙ ap (λ b. counted_up b c.args.self.now.wanting) c.lacks_memory.ensures ∙ ap (counted_up (is_link_wanting c.args.link_in c.args.link_out)) c.args.self.now.counts ∙ sym (rw (c.of-noted_in.ensures, c.of-noted_out.ensures) at c.hung_up.ensures.wanted);
       judged = λ t. let was = sym c.hang_up.ensures.goes_on.tells_same ∙ t in ∥∥₁_map (c.args.self.now.judged was) (c.hung_up.ensures.judged (rw (c.of-noted_in.ensures, c.of-noted_out.ensures) (c.handed-link.ensures.judged (lent was).in_tells (lent was).out_tells)));
+      servers = λ d k. c.hang_up.ensures.goes_on.through_servers_same ∙ c.args.self.now.servers d k;
+      coming = λ d k. let m = c.args.self.now.coming d k in λ t u. let was = sym c.hang_up.ensures.goes_on.tells_same ∙ t in let told = sym c.hang_up.ensures.goes_on.tells_coming_same ∙ u in meets_on (record { ins = g.D.In.Source.state; outs = g.D.Out.Sink.state }) d _ _ c.args.self.now.history c.hung_up.result (c.hung_up.ensures.coming (record { ins = g.D.In.Source.state; outs = g.D.Out.Sink.state }) d) (c.hang_up.ensures.hung_up.coming_same told) (m was told);
+      balance = balanced_closed (g.D.Dialer.state c.args.self.now.inner) (g.D.Dialer.state c.hang_up.new.self) _ _ _ _ _ c.args.self.now.balance c.raised-self-4.ensures.exact c.hang_up.ensures.hung_up.hung_up c.hang_up.ensures.hung_up.opened_same (kept_same _ _ _ _ c.in-Some.closing _ shelved c.in-Some.is);
     }

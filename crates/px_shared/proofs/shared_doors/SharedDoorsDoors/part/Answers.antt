@@ -18,7 +18,7 @@ invariant_of-self g c =
         wanting = _;
         ends = record {
           leaves = record {
-            is_left = record { tells = left.tells_same; names_later = left.names_later; reach_later = left.reach_later; mark = left.mark_same };
+            is_left = record { tells = left.tells_same; names_later = left.names_later; reach_later = left.reach_later; mark = left.mark_same; balance = c.into_inner.ensures.balance };
             history = c.ends.inside.dialer.history;
             told = λ t. record { dials = c.into_inner.ensures.told t; joined = c.into_inner.ensures.joined t; due = c.into_inner.ensures.due t; judged = c.into_inner.ensures.judged t };
             counted = refl;
