@@ -3,4 +3,5 @@ pub mod TagMapLemmas
 pub mod ChainLemmas
 pub mod StateLemmas
 pub mod SeatLemmas
+pub mod BoardLemmas
 pub mod Crossing

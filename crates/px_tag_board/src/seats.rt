@@ -116,19 +116,27 @@ impl<N: BoardName> Seat<N> {
         }
     }
 
-    /// The shared board, and its part of the ledger with the changes that it made.
-    pub(crate) fn into_parts(self) -> (Arc<Mutex<TagBoard<N>>>, Share<N>)
-        ensures part { result.1.parts ≡ 1 }
-        ensures amount { result.1.amount ≡ self.made }
+    /// The shared board, the reader, and its part of the ledger with the changes that it made.
+    pub(crate) fn into_parts(
+        self,
+    ) -> (
+        Arc<Mutex<TagBoard<N>>>,
+        ConfigReader<PublishedState>,
+        Share<N>,
+    )
+        ensures pair { reader_pair result.1 ≡ N.pair }
+        ensures seen { seen_by result.1 ≡ self.seen }
+        ensures part { result.2.parts ≡ 1 }
+        ensures amount { result.2.amount ≡ self.made }
     {
         let Seat {
             alloc: _alloc,
             shared,
-            reader: _reader,
+            reader,
             share,
             made: _made,
         } = self;
-        (shared, share)
+        (shared, reader, share)
     }
 
     /// The tags that an address wears in the newest state, once the change that is wanted is made. A change that would alter

@@ -61,7 +61,8 @@ impl<N: BoardName> TagBoard<N> {
     /// The length of the history, of which a share with every part counts each change.
     pub(crate) fn history_length(&mut self, all: &mut Share<N>) -> u64
         requires { all.old.parts ≡ N.parts }
-        ensures { result ≡ all.old.amount }
+        ensures made { result ≡ all.old.amount }
+        ensures states { length self.old.chain.states ≡ result + 1 }
     {
         self.book.audit(all);
         self.chain.len() as u64
