@@ -1,5 +1,5 @@
 -- Takings of a board are lawful, and fit.
-use Rattle.std.proofs.Common.{◌≡◌, ℕ, ◌+◌, ◌-◌, ◌<◌, ◌⊎◌, Bool, true, false, if◌then◌else◌, List, [], ◌∷◌, filter, length, Option, Some, None, IsSome, Result, Ok, Err, IfOk, refl, sym, ap, subst, ◌∙◌, inl, inr, arith}
+use Rattle.std.proofs.Common.{◌≡◌, ◌≢◌, ℕ, ◌+◌, ◌-◌, ◌<◌, ◌⊎◌, Bool, true, false, if◌then◌else◌, List, [], ◌∷◌, filter, length, Option, Some, None, IsSome, Result, Ok, Err, IfOk, refl, sym, ap, subst, ◌∙◌, inl, inr, arith}
 use Rattle.std.specs.List.{list_all}
 use Rattle.px_tag_board.specs.declared.answers.Worn.{Worn}
 use Rattle.px_tag_board.specs.declared.changes.TagChange.{TagChange}
@@ -45,7 +45,7 @@ none_unasked a off = ap change_in (wish_unasked a off)
 -- a taking of what is worn, whatever its page
 gives_worn : (seat : SeatState) (a : Asked) (worn : Worn) (t : Taking) → IsWorn seat.seen a.peer worn
     → t.place ≡ worn.place → t.tags ≡ declared_of a.config.settings.tags worn.tags
-    → ((t.page ≡ board_page a t.tags) ⊎ ((t.page ≡ Some full_page) × IsSome (wanted_change a)))
+    → (t.page ≢ board_page a t.tags → (t.page ≡ Some full_page) × IsSome (wanted_change a))
     → PageFits (state_at seat.seen worn.place) a t → (a.page_request ≡ false → t.page ≡ None)
     → GivesTaking BoardLaw (seat_state seat) a t
 gives_worn seat a worn t is at tags lawful fits unasked =
@@ -81,7 +81,7 @@ gives_settled (Ok t) seat a w change address worn is from named wears settled pl
     let wanted = subst (λ k. IsChangeSettled k worn.tags) (from ∙ ap change_in is) settled in
     let own : t.page ≡ board_page a t.tags = page ∙ ap (wish_page a.config a.number a.url t.tags) is in
     let shows = subst (ShowsChange (wanted_change a)) here.tags (settled_shows (wanted_change a) worn.tags wanted) in
-    gives_worn seat a worn t here place tags (inl own) (inl (own, shows)) (λ off. own ∙ page_unasked a t.tags off)
+    gives_worn seat a worn t here place tags (λ other. absurd (other own)) (inl (own, shows)) (λ off. own ∙ page_unasked a t.tags off)
 
 -- one that says that there is no room for the change that is asked for
 pub gives_full : {E : Type 0} (r : Result Taking E) (seat : SeatState) (a : Asked) (w : BoardWish) (change : Option TagChange) (address : List ℕ) (worn : Worn)
@@ -98,6 +98,6 @@ gives_full (Ok t) seat a w change address worn is from named full place tags pag
     let there = subst (λ s. IsFull s (wanted_change a) worn.tags) newest wanted in
     let fits = subst (IsFull (state_at seat.seen worn.place) (wanted_change a)) here.tags there in
     gives_worn seat a worn t here place tags
-    (inr (page, altering_wanted (wanted_change a) worn.tags wanted.alters))
+    (λ other. (page, altering_wanted (wanted_change a) worn.tags wanted.alters))
     (inr (page, fits))
     (λ off. absurd (subst (λ k. WouldAlter k worn.tags) (none_unasked a off) wanted.alters))

@@ -1,5 +1,5 @@
 -- The pages of a board of client tags, and which takings give them.
-use Rattle.std.specs.Prelude.{◌≡◌, ℕ, ◌-◌, ◌<◌, ◌⊎◌, true, false, List, ◌++◌, length, filter, Option, None, Some, IsSome, codes, decimal, ⊤}
+use Rattle.std.specs.Prelude.{◌≡◌, ◌≢◌, ℕ, ◌-◌, ◌<◌, ◌⊎◌, true, false, List, ◌++◌, length, filter, Option, None, Some, IsSome, codes, decimal, ⊤}
 use Rattle.std.specs.List.{flat_map, list_all}
 use Rattle.px_patterns.specs.declared.urls.Url.{Url}
 use Rattle.px_tag_board.specs.Tags.{Tags, are_distinct_tags, is_worn}
@@ -54,11 +54,12 @@ board_page a tags = wish_page a.config a.number a.url tags (asked_wish a)
 
 -- ---- takings
 
--- declared tags, none of them twice, and the page of just these tags; or that there is no room, where a change is wanted
+-- declared tags, none of them twice, and the page of just these tags; where it is another one, a change is wanted, and it says that there
+-- is no room
 pub record BoardLaw (a : Asked) (t : Taking) : Type 0 where
   pub declared : list_all (is_declared a.config.settings.tags) t.tags ≡ true
   pub once : are_distinct_tags t.tags ≡ true
-  pub page : (t.page ≡ board_page a t.tags) ⊎ ((t.page ≡ Some full_page) × IsSome (wanted_change a))
+  pub page : t.page ≢ board_page a t.tags → (t.page ≡ Some full_page) × IsSome (wanted_change a)
 
 -- a tag that was to be put on is worn, and one that was to be taken off isn't
 abbrev pub ShowsChange : Option TagChange → Tags → Type 0
