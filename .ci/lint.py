@@ -212,6 +212,8 @@ MISTAKES = [
     (C, "toggle on", "config:4:", "`on`", "toggle 1"),
     (C, "toggle = 1", "config:4:", "`= 1`", "toggle 1"),
     (C, "link-reuse off", "config:4:", "`off`", "link-reuse 0"),
+    (C, "host-list a.hosts", "config:4:", "the reason is missing", "host-list a.hosts It is on a list"),
+    (C, "host-list a.hosts Ads.", "config:4:", "`a.hosts`: there is no such file", "Copy the list there"),
     (
         C,
         "forward / http://p.test:3128",

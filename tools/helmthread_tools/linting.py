@@ -40,7 +40,7 @@ class Linter(ActionLints, PatternLints, TemplateLints):
         self.patterns, self.too_many, self.named, self.aliases, self.listens = (
             0,
             False,
-            {"actionsfile": [], "filterfile": []},
+            {"actionsfile": [], "filterfile": [], "host-list": []},
             {},
             0,
         )
@@ -156,6 +156,8 @@ class Linter(ActionLints, PatternLints, TemplateLints):
             self.directive(number, name, value)
         if not os.path.isdir(self.folder):
             return self.complaints
+        for number, value in self.named["host-list"]:
+            self.list_file(number, value)
         for number, value in self.named["filterfile"]:
             self.filter_file(number, value)
         for number, value in self.named["actionsfile"]:
@@ -318,6 +320,31 @@ class Linter(ActionLints, PatternLints, TemplateLints):
 
     def filterfile(self, number, value):
         self.file_name("filterfile", number, value, ".action", "actionsfile")
+
+    def host_list(self, number, value):
+        name, _, reason = value.partition(" ")
+        if reason.strip():
+            self.file_name("host-list", number, name, ".action", "actionsfile")
+        else:
+            self.say(
+                self.main,
+                number,
+                value,
+                "the reason is missing for which its hosts are blocked",
+                "host-list %s It is on a list" % value,
+            )
+
+    def list_file(self, number, name):
+        """A list of hosts is looked for alone: `check` says what in it names no host."""
+        path = name if name.startswith("/") else os.path.join(self.folder, name)
+        if not os.path.isfile(path):
+            self.say(
+                self.main,
+                number,
+                name,
+                "there is no such file",
+                "%sCopy the list there, or put a # before this line" % self.meant(path),
+            )
 
     def listen_address(self, number, value):
         self.listens += 1

@@ -90,6 +90,7 @@ TAG_WORDS = ("TAG:", "NO-REQUEST-TAG:", "NO-RESPONSE-TAG:", "CLIENT-TAG:")
 DIRECTIVES = (
     "actionsfile",
     "filterfile",
+    "host-list",
     "confdir",
     "templdir",
     "listen-address",
