@@ -612,9 +612,9 @@ fn serve_named<
 }
 
 /// Serves the connections of a desk that has none out, by one worker for each reader and inside, which serves until the desk says
-/// that no more come. Each taking is one of its worker's inside, and so by the law of pages over a board. Afterwards each
-/// connection was parted once, and the insides come back, as many as were given. Where the desk didn't close, memory was wanting
-/// for the workers, and the doors are as they were. It may wait.
+/// that no more come. Each taking is one of its worker's inside, and so by the law of pages over a board. Afterwards each connection
+/// was parted once, and the insides come back, as many as were given. Where the desk didn't close, memory was wanting for the
+/// workers, and the doors are as they were. It may wait.
 pub fn serve_all<F: Files, A: Doors, E: Sink, I: Inside, R: Threads + Wait + Sync>(
     rt: &R,
     alloc: Global,
