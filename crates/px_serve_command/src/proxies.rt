@@ -301,7 +301,6 @@ fn serve_published<R: Threads + Wait + Sync, F: Files, A: Doors, E: Sink>(
     requires begun { DoorsBegun (A.state parts.doors) }
     requires first { BeginsWithSpelling loaded (published publisher) }
     requires some { 0 < vec_len readers }
-    requires workers { vec_len readers ≡ serve.workers }
     requires at_most { vec_len readers ≤ 64 }
     requires pair { All (λ r. reader_pair r ≡ pair_of publisher) readers.items }
     ensures serves { ServesPublished
