@@ -1,7 +1,6 @@
 //! The command `serve`: the connections of doors, served by workers with a configuration that is loaded again with each.
 #![tactic(auto)]
 
-mod boards;
 mod endings;
 mod proxies;
 
