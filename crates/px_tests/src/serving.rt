@@ -17,16 +17,10 @@ const GET: &[u8] = b"GET http://a.test/x HTTP/1.1\r\nHost: a.test\r\n\r\n";
 
 const ANSWER: &[u8] = b"HTTP/1.1 200 OK\r\nContent-Length: 2\r\n\r\nhi";
 
-pub(crate) const REPLY: &[u8] =
-    b"HTTP/1.1 200 OK\r\nContent-Length: 2\r\nConnection: keep-alive\r\n\r\nhi";
+const REPLY: &[u8] = b"HTTP/1.1 200 OK\r\nContent-Length: 2\r\nConnection: keep-alive\r\n\r\nhi";
 
-/// The ends of a client with that address that says those bytes, whose dials have those answers.
-pub(crate) fn ends_from(
-    alloc: Global,
-    address: &[u8],
-    said: &[u8],
-    answers: List<Answer>,
-) -> Result<MemEnds, Mem>
+/// The ends of a client that says those bytes, whose dials have those answers.
+fn ends_of(alloc: Global, said: &[u8], answers: List<Answer>) -> Result<MemEnds, Mem>
     ensures { IfOk result (λ conn. IsFreshEnds conn) }
 {
     let client_in = TapeIn::new(alloc, said, &[], &[])?;
@@ -34,20 +28,15 @@ pub(crate) fn ends_from(
     let dialer = MemDialer::new(alloc, answers)?;
     let clock = FixedClock::new(List::new(alloc));
     let peer = Peer {
-        address: Text::from_bytes(alloc, address)?,
+        address: Text::from_bytes(alloc, b"127.0.0.1")?,
     };
     Ok(Ends::new(alloc, client_in, client_out, dialer, clock, peer))
 }
 
-/// The same of a client of this machine.
-fn ends_of(alloc: Global, said: &[u8], answers: List<Answer>) -> Result<MemEnds, Mem>
+/// A connection with one request, whose one dial has one answer.
+fn conn(alloc: Global) -> Result<MemEnds, Mem>
     ensures { IfOk result (λ conn. IsFreshEnds conn) }
 {
-    ends_from(alloc, b"127.0.0.1", said, answers)
-}
-
-/// The answers of a server that is dialled once and answers once.
-pub(crate) fn one_answer(alloc: Global) -> Result<List<Answer>, Mem> {
     let mut answers = List::new(alloc);
     answers.add(Answer::Link {
         bytes: Text::from_bytes(alloc, ANSWER)?,
@@ -55,14 +44,7 @@ pub(crate) fn one_answer(alloc: Global) -> Result<List<Answer>, Mem> {
         read_fails: List::new(alloc),
         write_fails: List::new(alloc),
     })?;
-    Ok(answers)
-}
-
-/// A connection with one request, whose one dial has one answer.
-fn conn(alloc: Global) -> Result<MemEnds, Mem>
-    ensures { IfOk result (λ conn. IsFreshEnds conn) }
-{
-    ends_of(alloc, GET, one_answer(alloc)?)
+    ends_of(alloc, GET, answers)
 }
 
 /// A connection with two requests. Each of its two dials would give an answer to both, one at a time.
@@ -94,22 +76,7 @@ fn two_answers(alloc: Global) -> Result<Answer, Mem> {
 pub(crate) fn three_conns(alloc: Global) -> Result<List<MemEnds>, Mem>
     ensures { IfOk result (λ conns. All IsFreshEnds conns) }
 {
-    three_of(alloc, conn(alloc)?, conn(alloc)?, conn(alloc)?)
-}
-
-/// Those three connections.
-pub(crate) fn three_of(
-    alloc: Global,
-    first: MemEnds,
-    second: MemEnds,
-    third: MemEnds,
-) -> Result<List<MemEnds>, Mem>
-    requires fresh_first { IsFreshEnds first }
-    requires fresh_second { IsFreshEnds second }
-    requires fresh_third { IsFreshEnds third }
-    ensures { IfOk result (λ conns. All IsFreshEnds conns) }
-{
-    let conns = vec![in alloc; first, second, third]?;
+    let conns = vec![in alloc; conn(alloc)?, conn(alloc)?, conn(alloc)?]?;
     Ok(List::from_vec(conns))
 }
 
