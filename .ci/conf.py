@@ -15,7 +15,7 @@ CONF = os.path.join(HERE, "..", "conf")
 MANUAL = os.path.join(HERE, "..", "docs", "MANUAL.md")
 
 # The whole output of `check config`: no notes, and the counts.
-CHECKED = "ok: 3 action files, 31 sections, 287 patterns, 2 filter files, 29 filters\n"
+CHECKED = "ok: 4 action files, 31 sections, 287 patterns, 2 filter files, 29 filters\n"
 
 # What match-all.action switches on, in the order of `show`.
 EVERYWHERE = """

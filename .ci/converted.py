@@ -80,7 +80,7 @@ HEADS = ["First: who is served, and by which way", "One line a kind", "No longer
 # Words that the report's first part has, and none of the others.
 FIRST = ["config:3: `actionsfile gone.action` is kept", "`listen-address 0.0.0.0:8119` became 127.0.0.1:8119", "`listen-address 192.168.1.2:8118`",
          "`forward-socks4a .i2p 127.0.0.1:4447 .` is kept, and `check` refuses it (29): SOCKS4", "`forward / me:secret@p.test:3128` is kept",
-         "`+limit-connect{https}`: a value that isn't taken here", "`permit-access 192.168.1.0/24` has no effect", "`trustfile trust` has no effect", "`client-specific-tag guest`: no client of `serve` can carry",
+         "`+limit-connect{https}`: a value that isn't taken here", "`permit-access 192.168.1.0/24` has no effect", "`trustfile trust` has no effect", "`client-specific-tag guest`: a start of `serve` begins without it; a client puts it on at http://p.p/client-tags/on?guest",
          "`templdir /etc/privoxy/own`: Helmthread's pages", "/old/templates: Helmthread's pages"]
 # Lines of the second part, which is one line a kind, and words of the rest.
 KINDS = ["1 filters: 0 the same, 1 nearly the same, 0 nothing left", "without effect: `debug`, `logfile` (there is no log)",
@@ -178,7 +178,7 @@ def converted(folder, files, fail, row):
 
 
 def tags_row(folder, fail):
-    """A way that hangs on a tag that no client carries, or that a tagger with a job left out makes."""
+    """A way that hangs on a tag that clients put on, or that a tagger with a job left out makes."""
     files = {
         "config": "actionsfile t.action\nfilterfile t.filter\n",
         "t.filter": "CLIENT-HEADER-TAGGER: agents\ns/(?R)/$0/\nCLIENT-HEADER-TAGGER: whole\ns/a/b/\n",
@@ -187,11 +187,23 @@ def tags_row(folder, fail):
     made = converted(folder, files, fail, "tags")
     if not made:
         return
-    for words in ("t.action:2: the way hangs on a tag, and jobs of taggers are left out (agents)", "t.action:3: `CLIENT-TAG:^tor$`: no client"):
+    for words in ("t.action:2: the way hangs on a tag, and jobs of taggers are left out (agents)", "t.action:3: `CLIENT-TAG:^tor$`: this way is taken only while a client"):
         if words not in made[2]:
             fail("tags", "the report's first part lacks `%s`\n%s" % (words, made[2]))
     if "t.action:5" in made[2] or "t.action:6" in made[2]:
         fail("tags", "the first part names what says no way\n" + made[2])
+
+
+def links_row(folder, fail):
+    """The blocked page has the link that puts a tag on where the main file declares it, and no such link elsewhere."""
+    tag = "client-specific-tag untouched Of the page\n"
+    for row, config, wanted in (("no tag", "client-specific-tag other Of none\n", 0), ("the tag", tag, 1)):
+        made = converted(folder, {"config": config}, fail, row)
+        if made:
+            with open(os.path.join(made[0], "templates", "blocked"), encoding="utf-8") as file:
+                found = file.read().count('href="http://p.p/client-tags/on?')
+            if found != wanted:
+                fail(row, "the page blocked has %d links that put a tag on" % found)
 
 
 def hosts_file(many):
@@ -302,6 +314,7 @@ def main():
         made = job_rows(fail)
         folder_row(folder, fail)
         tags_row(folder, fail)
+        links_row(folder, fail)
         limit_rows(folder, programs, fail)
         for program in programs:
             loaded(program, folder, made, fail)

@@ -39,9 +39,9 @@ def check(what, right, said=""):
 
 
 class Proxy:
-    """`serve` over a copy of conf/ in a folder."""
+    """`serve` with 8 workers over a copy of conf/ in a folder, whose main file has more lines."""
 
-    def __init__(self, program, folder):
+    def __init__(self, program, folder, more=""):
         self.port = free_port()
         self.conf = os.path.join(folder, "conf")
         shutil.copytree(CONF, self.conf)
@@ -51,7 +51,7 @@ class Proxy:
         with open(path, "w", encoding="utf-8") as file:
             # (what isn't answered by a page goes to a parent that nobody is, so that no name is looked up)
             parent = "\nforward p.p 127.0.0.1:%d\n" % free_port()
-            file.write(text.replace("127.0.0.1:8118", "127.0.0.1:%d" % self.port) + parent)
+            file.write(text.replace("127.0.0.1:8118", "127.0.0.1:%d" % self.port) + more + parent)
         self.process = subprocess.Popen(
             [program, "serve", path, "8"], stderr=subprocess.DEVNULL
         )
@@ -74,9 +74,9 @@ class Proxy:
             file.write(old + text)
         return old.count("\n") + 1
 
-    def asked(self, url, method="GET", body=None):
-        """The status, the type and the text of an answer, over a connection of its own."""
-        link = http.client.HTTPConnection("127.0.0.1", self.port, timeout=WAIT)
+    def asked(self, url, method="GET", body=None, address="127.0.0.1"):
+        """The status, the type and the text of an answer, over a connection of its own from an address."""
+        link = http.client.HTTPConnection("127.0.0.1", self.port, timeout=WAIT, source_address=(address, 0))
         link.request(method, url, body=body)
         answer = link.getresponse()
         text = answer.read().decode()
@@ -95,7 +95,7 @@ def number_of(text):
 
 def over_sockets(proxy):
     """The pages as a client sees them, and that they follow a change of the configuration."""
-    check("the index", proxy.asked("http://p.p/") == (200, "text/plain", "pages:\n/show-status\n/show-url-info?url=\n"))
+    check("the index", proxy.asked("http://p.p/") == (200, "text/plain", "pages:\n/show-status\n/show-url-info?url=\n/client-tags\n"))
     status, _, text = proxy.asked("http://config.privoxy.org/show-status")
     number = number_of(text)
     check("the state", status == 200 and number is not None and "\nlisten 127.0.0.1:%d\n" % proxy.port in text, text)
@@ -169,6 +169,11 @@ def dumped(browser, folder, proxy, url):
     return subprocess.run([browser, *words], capture_output=True, text=True, timeout=600).stdout
 
 
+def links_of(page, front):
+    """The links of a page to those of the proxy's own pages whose paths begin so."""
+    return [html.unescape(it) for it in re.findall(r'href="(http://p\.p/%s[^"]*)"' % front, page)]
+
+
 def in_chromium(browser, folder, program):
     """A page is blocked, the link is followed, and the page names file and line of the section."""
     proxy = Proxy(program, folder)
@@ -176,10 +181,10 @@ def in_chromium(browser, folder, program):
         line = proxy.add(SECTION)
         page = dumped(browser, folder, proxy, ASKED)
         check("the page is blocked", "No by inside.py." in page, page[:300])
-        links = re.findall(r'href="(http://p\.p/[^"]*)"', page)
-        check("it has one link to the proxy's own pages", len(links) == 1, links)
+        links = links_of(page, "show-url-info")
+        check("it has one link to the page that says why", len(links) == 1, links)
         if links:
-            text = html.unescape(dumped(browser, folder, proxy, html.unescape(links[0])))
+            text = html.unescape(dumped(browser, folder, proxy, links[0]))
             check("the page behind the link names the section", "user.action:%d\n" % line in text, text)
             check("and what it sets", "+block{No by inside.py.}" in text, text)
     finally:

@@ -282,12 +282,27 @@ MISTAKES = [
         "a description is missing",
         "client-specific-tag guest What it is for",
     ),
+    (
+        A,
+        "{+block{x}}\nCLIENT-TAG:^guest$",
+        "u.action:2:",
+        "`CLIENT-TAG:^guest$`: config declares no such tag",
+        "client-specific-tag guest What it is for",
+    ),
+    (
+        "templates/blocked",
+        '<h1>No</h1>\n<a href="http://p.p/client-tags/on?gu%65st">a</a>',
+        "templates/blocked:2:",
+        "`http://p.p/client-tags/on?guest`: config declares no such tag",
+        "Take the link away, or write client-specific-tag guest What it is for",
+    ),
 ]
 # Lines of the actions file that nothing is said of.
 QUIET = [
     "{+block{x}}\n#a.test\n{-block}\nb.test",
     "{+block{x}}\n# below it\na.test\n{-block}\nb.*.test\n192.168.*.*",
     "{{alias}}\nads = +block{x}\n{ads}\na.test",
+    "{+block{x}}\nCLIENT-TAG:^Unt.*ed$",
 ]
 FILTERS = "FILTER: webbugs\ns@x@y@g\nCLIENT-HEADER-FILTER: marks\ns@^X-Mark:.*@@i\n"
 
@@ -312,6 +327,8 @@ def said_of(folder, kind, text, main="config"):
         "g.filter": FILTERS,
     }
     files[kind] = files[C] + text + "\n" if kind == C else text + "\n"
+    # (the page blocked of conf/ has a link that puts this tag on)
+    files[C] += "client-specific-tag untouched Of a page\n"
     files[main] = files.pop(C)
     shutil.copytree(os.path.join(CONF, "templates"), os.path.join(folder, "templates"))
     for name, content in files.items():

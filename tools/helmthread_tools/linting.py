@@ -36,7 +36,7 @@ class Linter(ActionLints, PatternLints, TemplateLints):
         # The lines that are comments alone.
         self.comments = set()
         self.templates, self.filters, self.folder = None, {}, os.path.dirname(config) or "."
-        self.most_patterns = PATTERN_LIMIT
+        self.most_patterns, self.tags = PATTERN_LIMIT, set()
         self.patterns, self.too_many, self.named, self.aliases, self.listens = (
             0,
             False,
@@ -415,6 +415,7 @@ class Linter(ActionLints, PatternLints, TemplateLints):
         self.switch(number, value, "handle-as-empty-doc-returns-ok")
 
     def client_specific_tag(self, number, value):
+        self.tags.update(value.split()[:1])
         if len(value.split()) < 2:
             self.say(
                 self.main,

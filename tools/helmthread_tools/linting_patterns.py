@@ -15,8 +15,11 @@ class PatternLints:
             return
         word = next((it for it in tables.TAG_WORDS if text.startswith(it)), None)
         if word:
-            for part, what, write in scan(text[len(word) :]):
+            unread = list(scan(text[len(word) :]))
+            for part, what, write in unread:
                 self.say(name, number, part, what + " isn't read", write)
+            if word == tables.CLIENT_TAG and not unread:
+                self.client_tag(name, number, text)
         elif re.match(r"(?i)(no-request-|no-response-|client-)?tag:", text):
             self.say(
                 name,
@@ -29,6 +32,23 @@ class PatternLints:
             self.host_expression(name, number, text[len(tables.HOST_EXPRESSION) :])
         elif not self.adblock(name, line):
             self.url_pattern(name, number, text)
+
+    def client_tag(self, name, number, text):
+        """A pattern of a tag that no client of `serve` can put on."""
+        expression = text[len(tables.CLIENT_TAG) :]
+        try:
+            finds = re.compile(expression, re.IGNORECASE).search
+        except re.error:
+            return
+        if not any(map(finds, self.tags)):
+            plain = re.fullmatch(r"\^?([\w-]+)\$?", expression)
+            self.say(
+                name,
+                number,
+                text,
+                "%s declares no such tag, so no client of `serve` can put one on" % self.main,
+                "client-specific-tag %s What it is for" % (plain[1] if plain else "NAME"),
+            )
 
     def host_expression(self, name, number, text):
         host, _, path = text.partition("/")

@@ -13,6 +13,20 @@ class TemplateLints:
         for name in tables.PAGES:
             lines = self.page_lines(name)
             self.page("\n".join(line for _, _, line in lines), lines)
+            for place in lines:
+                self.tag_links(*place)
+
+    def tag_links(self, name, number, text):
+        """The links of a line that put a tag on which the main file doesn't declare."""
+        for tag in tables.linked_tags(text):
+            if tag not in self.tags:
+                self.say(
+                    name,
+                    number,
+                    tables.tag_link("on", tag),
+                    "%s declares no such tag, so the link leads to `no such page`" % self.main,
+                    "Take the link away, or write client-specific-tag %s What it is for" % tag,
+                )
 
     def template(self, name):
         """The lines of a template that count, each with its file and number; of lines that begin

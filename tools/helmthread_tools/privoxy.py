@@ -430,8 +430,8 @@ class ActionsFile:
 
     def tagged(self, line):
         """A pattern for a tag of a request, in a section that says which way requests go."""
-        if line.text.startswith("CLIENT-TAG:"):
-            why = "no client of `serve` can carry a client tag yet, so this way is never taken"
+        if line.text.startswith(tables.CLIENT_TAG):
+            why = "this way is taken only while a client has put such a tag on, and a start begins without"
             self.report.way(self.place(line), "`%s`: %s" % (shown(line.text), why))
         else:
             self.report.tagged.append(self.place(line))
@@ -670,8 +670,9 @@ class MainFile:
         self.tags.add(words[0])
         self.report.way(
             place,
-            "`client-specific-tag %s`: no client of `serve` can carry a client tag yet; sections with "
-            "CLIENT-TAG: never hold" % shown(words[0]),
+            "`client-specific-tag %s`: a start of `serve` begins without it; a client puts it on at %s and takes it "
+            "off at %s, for all who come from his address"
+            % (shown(words[0]), *(tables.tag_link(switch, words[0]) for switch in ("on", "off"))),
         )
         return (
             as_it_stands(line)

@@ -1,5 +1,6 @@
 """The actions, directives and keywords that Helmthread reads, and the rules of their values."""
 import re
+from urllib.parse import quote, unquote
 
 FLAG, SINGLE, LIST = "flag", "single", "list"
 
@@ -121,6 +122,9 @@ PAGES = (
     "bad-rewrite",
 )
 CONDITIONS = ("block-reason", "parent")
+# The word that begins a pattern of a client's tag, and a link by which a client puts a tag on.
+CLIENT_TAG = "CLIENT-TAG:"
+TAG_LINK = re.compile(r"http://(?:p\.p|config\.privoxy\.org)/client-tags/on\?([^\s\"'<>]*)")
 
 PRIVOXYS_FOLDER = "/etc/privoxy"
 # Directives of Privoxy's that aren't read here, each with what that means.
@@ -131,7 +135,7 @@ ELSEWHERE = {
     "user-manual": "no page names it",
     "allow-cgi-request-crunching": "there are no such pages",
     "enable-edit-actions": "files are edited with an editor",
-    "enable-remote-toggle": "nothing can be switched from a browser",
+    "enable-remote-toggle": "nothing but client tags can be switched from a browser",
     "enable-remote-http-toggle": "nothing can be switched from a request",
     "enable-compression": "answers to the browser aren't compressed",
     "compression-level": "answers to the browser aren't compressed",
@@ -156,8 +160,8 @@ ELSEWHERE = {
     "trustfile": "there is no list of trusted sites: pages that it kept away are seen",
     "trust-info-url": "there is no list of trusted sites",
     "temporary-directory": "none is needed",
-    "client-tag-lifetime": "tags don't end",
-    "trust-x-forwarded-for": "clients are told by their address",
+    "client-tag-lifetime": "a tag stays on until it is taken off, or `serve` ends",
+    "trust-x-forwarded-for": "clients are told apart by the address from which they come",
     "trusted-cgi-referer": "there are no such pages",
     "cors-allowed-origin": "there are no such pages",
     "delay-response": "there are no delays",
@@ -175,7 +179,7 @@ ELSEWHERE = {
     "close-button-minimizes": "there is no window",
     "hide-console": "there is no window",
     "receive-buffer-size": "the size is fixed",
-    "client-specific-tag-lifetime": "tags don't end",
+    "client-specific-tag-lifetime": "a tag stays on until it is taken off, or `serve` ends",
 }
 
 # Those of them that say who is served, or by which way, where their value isn't 0.
@@ -205,6 +209,16 @@ HELD_BACK = {
     "expect",
     "proxy-authorization",
 }
+
+
+def tag_link(switch, name):
+    """Where a client puts a tag `on`, or takes it `off`."""
+    return "http://p.p/client-tags/%s?%s" % (switch, quote(name, encoding="latin-1"))
+
+
+def linked_tags(text):
+    """The tags that the links of a page put on."""
+    return [unquote(name, encoding="latin-1") for name in TAG_LINK.findall(text)]
 
 
 def is_parent(text):

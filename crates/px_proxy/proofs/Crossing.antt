@@ -12,11 +12,13 @@ use Rattle.px_base.specs.declared.files.Files as files
 use Rattle.px_base.specs.declared.sinks.Sink as sink
 use Rattle.px_base.specs.declared.sources.Source as source
 use Rattle.px_config.proofs.Crossing.{config_send, config_sync}
+use Rattle.px_config.specs.declared.insides.Inside as inside
 use Rattle.px_desk.proofs.Crossing.{desk_send}
 use Rattle.px_doors.specs.declared.doors.Doors as doors
 use Rattle.px_publish.proofs.Crossing.{reader_send}
 use Rattle.px_proxy.specs.contracts.workers.Shared as shared
 use Rattle.px_proxy.specs.contracts.workers.Shares as shares
+use Rattle.px_proxy.specs.contracts.workers.IdleWorker as idle_worker
 use Rattle.px_proxy.specs.contracts.workers.Worker as worker
 use Rattle.px_proxy.specs.declared.workers.Making as making
 
@@ -28,6 +30,9 @@ module _ (N L : RattleType) (l : ledger.Ghosts N.Denot) (m : ledger.Ghosts L.Den
   pub shares_send : IsSend N → IsSync N → IsSend L → IsSync L → IsSend (shares.the_row N L l m)
   shares_send sn yn sm ym = declared_send (shares.the_type N L l m) (search (sendable, share.the_send) depth 40, (search (sendable, share.the_send) depth 40, tt))
 
-module _ (N L : RattleType) (n : making.Ghosts N.Denot) (l : ledger.Ghosts N.Denot) (m : ledger.Ghosts L.Denot) where
-  pub worker_send : IsSend N → IsSync N → IsSend L → IsSync L → IsSend (worker.the_row N L n l m)
-  worker_send sn yn sm ym = declared_send (worker.the_type N L n l m) (search (sendable, shares_send) depth 40, (search (sendable, reader_send, config_send, config_sync) depth 40, tt))
+module _ (N L I : RattleType) (n : making.Ghosts N.Denot) (i : inside.Ghosts I.Denot) (l : ledger.Ghosts N.Denot) (m : ledger.Ghosts L.Denot) where
+  worker_send : IsSend N → IsSync N → IsSend L → IsSync L → IsSend I → IsSend (worker.the_row N L I n i l m)
+  worker_send sn yn sm ym si = declared_send (worker.the_type N L I n i l m) (search (sendable, shares_send) depth 40, (search (sendable, reader_send, config_send, config_sync) depth 40, (search sendable depth 40, tt)))
+
+  pub idle_send : IsSend N → IsSync N → IsSend L → IsSync L → IsSend I → IsSend (idle_worker.the_row N L I n i l m)
+  idle_send sn yn sm ym si = declared_send (idle_worker.the_type N L I n i l m) (search (sendable, worker_send) depth 40, tt)

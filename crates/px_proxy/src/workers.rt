@@ -1,21 +1,22 @@
 // Workers that share a desk.
 ghost use denote.Param.Send.{IsSend};
-ghost use Rattle.std.specs.Prelude.{◌≡◌, ◌≢◌, ◌+◌, ◌<◌, ◌≤◌, [], None, length, vec_len, IfSome, IfNone, OnOk, IfErr, IfOk, IsTrue, All};
+ghost use Rattle.std.specs.Prelude.{◌≡◌, ◌≢◌, ◌+◌, ◌<◌, ◌≤◌, [], None, length, vec_capacity, vec_len, IfSome, IfNone, OnErr, OnOk, IfErr, IfOk, IsTrue, All};
 ghost use Rattle.px_publish.specs.Published.{seen_by, reader_pair};
 ghost use Rattle.px_doors.specs.Doors.{DoorsState};
 ghost use Rattle.px_desk.specs.Facts.{IsClosed, Made, IsOut, DeskStands};
 ghost use Rattle.px_publish.specs.Views.{GoesOn};
 ghost use Rattle.px_desk.specs.Sessions.{IsNth, IsConnServed};
+ghost use Rattle.px_pages.specs.Boards.{BoardLaw};
 ghost use Rattle.px_serve.specs.Keeping.{IsStored};
 ghost use Rattle.px_desk.specs.Desks.{made_of, StandsAfter};
+ghost use Rattle.px_proxy.specs.Laws.{IsWithinLaw};
 ghost use Rattle.px_proxy.specs.Ways.{IsAtOnce};
 
 use px_base::{Files, Mem, Sink};
-use px_config::Config;
+use px_config::{Config, Inside};
 use px_desk::{Desk, HandedConn, ServeEnd, ServedDesk};
 use px_doors::{Doors, Parted};
 use px_ends::{Ends, Outside};
-use px_pages::BarePages;
 use px_publish::{ConfigReader, Configs, CountFull};
 use px_serve::{Store, serve_connection};
 use px_ways::Way;
@@ -68,13 +69,27 @@ struct Shares<N: Ledger, L: Ledger> {
     ghost one_told: { told.parts ≡ 1 },
 }
 
-/// A worker between two connections.
-#[derive(Drop)]
-struct Worker<N: Making, L: Ledger> {
+/// A worker: its shares of both books, the reader by which it sees the configurations, and the inside that gives its clients
+/// their tags and the proxy's own pages.
+struct Worker<N: Making, L: Ledger, I: Inside> {
     mine: Shares<N, L>,
     reader: ConfigReader<Config>,
-    ghost idle: { mine.out.amount ≡ 0 },
+    inside: I,
     ghost pair: { reader_pair reader ≡ N.made.pair },
+    ghost lawful: { IsWithinLaw I.lawful BoardLaw },
+}
+
+/// A worker between two connections.
+struct IdleWorker<N: Making, L: Ledger, I: Inside> {
+    worker: Worker<N, L, I>,
+    ghost idle: { worker.mine.out.amount ≡ 0 },
+}
+
+/// What is handed back of serving: what is of the desk, and the workers' insides.
+#[derive(Drop)]
+pub struct ServedAll<F, A, E, I> {
+    pub desk: ServedDesk<F, A, E>,
+    pub insides: Vec<I>,
 }
 
 /// A connection to serve: its number, that of the entry with which it was handed out, and its ends.
@@ -84,15 +99,17 @@ struct Task<A: Outside> {
     ends: Ends<A>,
 }
 
-/// Serves a connection without client tags, by a reader that has learnt the entry with which it was handed out, and gives it back
-/// with its session.
-fn served<N: Making, R: Threads + Sync, A: Outside>(
+/// Serves a connection with what an inside gives, by a reader that has learnt the entry with which it was handed out, and gives it
+/// back with its session.
+fn served<N: Making, R: Threads + Sync, A: Outside, I: Inside>(
     alloc: Global,
     way: &Way<'_, R>,
     store: &mut Store<'_>,
     reader: &mut ConfigReader<Config>,
+    inside: &mut I,
     task: Task<A>,
 ) -> Parted<A>
+    requires lawful { IsWithinLaw I.lawful BoardLaw }
     requires at_once { IsAtOnce way.now }
     requires pair { reader_pair reader.old ≡ N.made.pair }
     requires stored { IsStored (seen_by reader.old) store.old }
@@ -107,8 +124,7 @@ fn served<N: Making, R: Threads + Sync, A: Outside>(
         handed,
         mut ends,
     } = task;
-    let mut pages = BarePages::new();
-    let session = serve_connection(alloc, way, store, reader, &mut pages, &mut ends);
+    let session = serve_connection(alloc, way, store, reader, inside, &mut ends);
     Parted {
         number,
         handed,
@@ -274,30 +290,41 @@ fn let_go<A: Doors>(parted: &mut Parted<A::Conn>)
 }
 
 /// Serves connections with one store, as long as they are handed out with its entry. Gives the first that isn't, if one comes.
-fn serve_while_stored<N: Making, L: Ledger, F: Files, A: Doors, E: Sink, R: Threads + Wait + Sync>(
+fn serve_while_stored<
+    N: Making,
+    L: Ledger,
+    F: Files,
+    A: Doors,
+    E: Sink,
+    I: Inside,
+    R: Threads + Wait + Sync,
+>(
     rt: &R,
     alloc: Global,
     shared: &Mutex<Shared<N, L, F, A, E>>,
-    mine: &mut Shares<N, L>,
-    reader: &mut ConfigReader<Config>,
+    worker: &mut Worker<N, L, I>,
     store: &mut Store<'_>,
     task: Task<A::Conn>,
 ) -> Option<Task<A::Conn>>
-    requires one { mine.old.out.amount ≡ 1 }
-    requires pair { reader_pair reader.old ≡ N.made.pair }
-    requires stored { IsStored (seen_by reader.old) store.old }
+    requires one { worker.old.mine.out.amount ≡ 1 }
+    requires stored { IsStored (seen_by worker.old.reader) store.old }
     requires nth { IsNth N.made.doors.tells N.made.doors.conns task.number task.ends }
-    requires learnt { task.handed < length (seen_by reader.old) }
-    ensures pair { reader_pair reader.new ≡ N.made.pair }
-    ensures counted { IfSome result (λ _. mine.new.out.amount ≡ 1) }
-    ensures closed { IfNone result (mine.new.out.amount ≡ 0) }
-    ensures told { IfNone result (0 < mine.new.told.amount) }
+    requires learnt { task.handed < length (seen_by worker.old.reader) }
+    ensures counted { IfSome result (λ _. worker.new.mine.out.amount ≡ 1) }
+    ensures closed { IfNone result (worker.new.mine.out.amount ≡ 0) }
+    ensures told { IfNone result (0 < worker.new.mine.told.amount) }
     ensures nth { IfSome result (λ task. IsNth N.made.doors.tells N.made.doors.conns task.number task.ends) }
-    ensures learnt { IfSome result (λ task. task.handed < length (seen_by reader.new)) }
+    ensures learnt { IfSome result (λ task. task.handed < length (seen_by worker.new.reader)) }
 {
+    let Worker {
+        mine,
+        reader,
+        inside,
+    } = worker;
+    let way = Way::AtOnce(rt);
     let mut task = task;
     'same: for _ in rt.forever() {
-        let mut parted = served::<N, R, A::Conn>(alloc, &Way::AtOnce(rt), store, reader, task);
+        let mut parted = served::<N, R, A::Conn, I>(alloc, &way, store, reader, inside, task);
         let_go::<A>(&mut parted);
         give_back(rt, shared, mine, reader, parted);
         match take(rt, shared, mine, reader) {
@@ -315,56 +342,61 @@ fn serve_while_stored<N: Making, L: Ledger, F: Files, A: Doors, E: Sink, R: Thre
 
 /// Serves a connection, and those behind it that are handed out with the same entry, with a store of that entry. Gives the first
 /// that isn't, if one comes.
-fn serve_entry<N: Making, L: Ledger, F: Files, A: Doors, E: Sink, R: Threads + Wait + Sync>(
+fn serve_entry<
+    N: Making,
+    L: Ledger,
+    F: Files,
+    A: Doors,
+    E: Sink,
+    I: Inside,
+    R: Threads + Wait + Sync,
+>(
     rt: &R,
     alloc: Global,
     shared: &Mutex<Shared<N, L, F, A, E>>,
-    mine: &mut Shares<N, L>,
-    reader: &mut ConfigReader<Config>,
+    worker: &mut Worker<N, L, I>,
     task: Task<A::Conn>,
 ) -> Option<Task<A::Conn>>
-    requires one { mine.old.out.amount ≡ 1 }
-    requires pair { reader_pair reader.old ≡ N.made.pair }
+    requires one { worker.old.mine.out.amount ≡ 1 }
     requires nth { IsNth N.made.doors.tells N.made.doors.conns task.number task.ends }
-    requires learnt { task.handed < length (seen_by reader.old) }
-    ensures pair { reader_pair reader.new ≡ N.made.pair }
-    ensures counted { IfSome result (λ _. mine.new.out.amount ≡ 1) }
-    ensures closed { IfNone result (mine.new.out.amount ≡ 0) }
-    ensures told { IfNone result (0 < mine.new.told.amount) }
+    requires learnt { task.handed < length (seen_by worker.old.reader) }
+    ensures counted { IfSome result (λ _. worker.new.mine.out.amount ≡ 1) }
+    ensures closed { IfNone result (worker.new.mine.out.amount ≡ 0) }
+    ensures told { IfNone result (0 < worker.new.mine.told.amount) }
     ensures nth { IfSome result (λ task. IsNth N.made.doors.tells N.made.doors.conns task.number task.ends) }
-    ensures learnt { IfSome result (λ task. task.handed < length (seen_by reader.new)) }
+    ensures learnt { IfSome result (λ task. task.handed < length (seen_by worker.new.reader)) }
 {
-    let number = reader.current().number;
-    match reader.owner() {
+    let number = worker.reader.current().number;
+    match worker.reader.owner() {
         Ok(owner) => {
             let mut store = Store::new(alloc, number, &owner);
-            serve_while_stored(rt, alloc, shared, mine, reader, &mut store, task)
+            serve_while_stored(rt, alloc, shared, worker, &mut store, task)
         }
         Err(CountFull) => {
             let mut store = Store::Wanting;
-            serve_while_stored(rt, alloc, shared, mine, reader, &mut store, task)
+            serve_while_stored(rt, alloc, shared, worker, &mut store, task)
         }
     }
 }
 
 /// Serves one connection after another, until the desk says that no more come.
-fn serve_each<N: Making, L: Ledger, F: Files, A: Doors, E: Sink, R: Threads + Wait + Sync>(
-    rt: &R,
-    alloc: Global,
-    shared: &Mutex<Shared<N, L, F, A, E>>,
-    mine: &mut Shares<N, L>,
-    reader: &mut ConfigReader<Config>,
-)
-    requires idle { mine.old.out.amount ≡ 0 }
-    requires pair { reader_pair reader.old ≡ N.made.pair }
-    ensures idle { mine.new.out.amount ≡ 0 }
-    ensures told { 0 < mine.new.told.amount }
-    ensures pair { reader_pair reader.new ≡ N.made.pair }
+fn serve_each<
+    N: Making,
+    L: Ledger,
+    F: Files,
+    A: Doors,
+    E: Sink,
+    I: Inside,
+    R: Threads + Wait + Sync,
+>(rt: &R, alloc: Global, shared: &Mutex<Shared<N, L, F, A, E>>, worker: &mut Worker<N, L, I>)
+    requires idle { worker.old.mine.out.amount ≡ 0 }
+    ensures idle { worker.new.mine.out.amount ≡ 0 }
+    ensures told { 0 < worker.new.mine.told.amount }
 {
-    let mut next = take(rt, shared, mine, reader);
+    let mut next = take(rt, shared, &mut worker.mine, &mut worker.reader);
     'more: for _ in rt.forever() {
         match next {
-            Some(task) => next = serve_entry(rt, alloc, shared, mine, reader, task),
+            Some(task) => next = serve_entry(rt, alloc, shared, worker, task),
             None => return,
         }
     }
@@ -372,16 +404,16 @@ fn serve_each<N: Making, L: Ledger, F: Files, A: Doors, E: Sink, R: Threads + Wa
 }
 
 /// Lets a worker serve until the desk says that no more connections come.
-fn work<N: Making, L: Ledger, F: Files, A: Doors, E: Sink, R: Threads + Wait + Sync>(
+fn work<N: Making, L: Ledger, F: Files, A: Doors, E: Sink, I: Inside, R: Threads + Wait + Sync>(
     rt: &R,
     alloc: Global,
     shared: &Mutex<Shared<N, L, F, A, E>>,
-    worker: &mut Worker<N, L>,
+    idle: &mut IdleWorker<N, L, I>,
 )
-    ensures told { 0 < worker.new.mine.told.amount }
+    ensures told { 0 < idle.new.worker.mine.told.amount }
 {
-    let Worker { mine, reader } = worker;
-    serve_each(rt, alloc, shared, mine, reader);
+    let IdleWorker { worker } = idle;
+    serve_each(rt, alloc, shared, worker);
 }
 
 /// What no worker has of both books.
@@ -391,12 +423,15 @@ struct AllShares<N: Ledger, L: Ledger> {
     told: Share<L>,
 }
 
-/// A worker for each reader.
-fn cut<N: Making, L: Ledger>(
+/// A worker for each reader, with one of the insides, which are taken out of their list. For want of memory they stay there.
+fn cut<N: Making, L: Ledger, I: Inside>(
     alloc: Global,
     all: &mut AllShares<N, L>,
     mut readers: Vec<ConfigReader<Config>>,
-) -> Result<Vec<Worker<N, L>>, Mem>
+    insides: &mut Vec<I>,
+) -> Result<Vec<IdleWorker<N, L, I>>, Mem>
+    requires lawful { IsWithinLaw I.lawful BoardLaw }
+    requires one_each { vec_len insides.old ≡ vec_len readers }
     requires pair { All (λ r. reader_pair r ≡ N.made.pair) readers.items }
     requires parts_out { all.old.out.parts ≡ vec_len readers }
     requires parts_told { all.old.told.parts ≡ vec_len readers }
@@ -405,33 +440,58 @@ fn cut<N: Making, L: Ledger>(
     ensures none_out { OnOk result ((all.new.out.parts ≡ 0) × (all.new.out.amount ≡ 0)) }
     ensures none_told { OnOk result ((all.new.told.parts ≡ 0) × (all.new.told.amount ≡ 0)) }
     ensures each { IfOk result (λ v. vec_len v ≡ vec_len readers) }
+    ensures taken { OnOk result (vec_len insides.new ≡ 0) }
+    ensures room { IfOk result (λ v. vec_len v ≤ vec_capacity insides.new) }
+    ensures kept { OnErr result (vec_len insides.new ≡ vec_len insides.old) }
 {
     let mut workers = Vec::with_capacity(alloc, readers.len())?;
     'each: while let Some(reader) = readers.pop() {
+        let Some(inside) = insides.pop() else {
+            unreachable!()
+        };
         let mine = Shares {
             out: all.out.split_off(1, 0),
             told: all.told.split_off(1, 0),
         };
-        workers.push_reserved(Worker { mine, reader });
+        let worker = Worker {
+            mine,
+            reader,
+            inside,
+        };
+        workers.push_reserved(IdleWorker { worker });
     }
     Ok(workers)
 }
 
-/// Puts the parts together.
-fn gather<N: Making, L: Ledger>(all: &mut AllShares<N, L>, mut workers: Vec<Worker<N, L>>)
+/// Puts the parts together, and the insides back into their list.
+fn gather<N: Making, L: Ledger, I: Inside>(
+    all: &mut AllShares<N, L>,
+    mut workers: Vec<IdleWorker<N, L, I>>,
+    insides: &mut Vec<I>,
+)
     requires none { all.old.out.amount ≡ 0 }
-    requires told { All (λ w. 0 < w.mine.told.amount) workers.items }
+    requires told { All (λ w. 0 < w.worker.mine.told.amount) workers.items }
+    requires empty { vec_len insides.old ≡ 0 }
+    requires room { vec_len workers ≤ vec_capacity insides.old }
     ensures parts_out { all.new.out.parts ≡ all.old.out.parts + vec_len workers }
     ensures parts_told { all.new.told.parts ≡ all.old.told.parts + vec_len workers }
     ensures idle { all.new.out.amount ≡ 0 }
     ensures told { 0 < vec_len workers → 0 < all.new.told.amount }
+    ensures back { vec_len insides.new ≡ vec_len workers }
 {
-    'next: while let Some(worker) = workers.pop() {
-        let Worker { mine, reader: _ } = worker;
+    'next: while let Some(idle) = workers.pop() {
+        let IdleWorker { worker } = idle;
+        let Worker {
+            mine,
+            reader: _,
+            inside,
+        } = worker;
         let Shares { out, told } = mine;
         all.out.merge(out);
         all.told.merge(told);
+        insides.push_reserved(inside);
     }
+    workers.destroy_empty();
 }
 
 /// Runs each worker in a thread of its own.
@@ -441,72 +501,81 @@ fn work_all<
     F: Files,
     A: Doors,
     E: Sink,
+    I: Inside,
     R: Threads + Wait + Sync,
 >(
     rt: &R,
     alloc: &Global,
     shared: &Mutex<Shared<N, L, F, A, E>>,
-    workers: &mut [Worker<N, L>],
+    workers: &mut [IdleWorker<N, L, I>],
     threads: usize,
 )
     requires some { 0 < length workers.old }
     requires each { threads ≡ length workers.old }
-    ensures told { All (λ w. 0 < w.mine.told.amount) workers.new }
+    ensures told { All (λ w. 0 < w.worker.mine.told.amount) workers.new }
 {
     thread::for_each_mut(
         rt,
         workers,
         threads,
-        &|_, worker: &mut Worker<N, L>|
-            requires { IsSend F.row × IsSend A.row × IsSend E.row × IsSend A.Conn.In.row × IsSend A.Conn.Out.row × IsSend A.Conn.Dial.row × IsSend A.Conn.Time.row × IsSend A.Conn.Dial.In.row × IsSend A.Conn.Dial.Out.row }
-            ensures { 0 < worker.exit.now.mine.told.amount }
-        { work(rt, *alloc, shared, worker) },
+        &|_, idle: &mut IdleWorker<N, L, I>|
+            requires { IsSend F.row × IsSend A.row × IsSend E.row × IsSend I.row × IsSend A.Conn.In.row × IsSend A.Conn.Out.row × IsSend A.Conn.Dial.row × IsSend A.Conn.Time.row × IsSend A.Conn.Dial.In.row × IsSend A.Conn.Dial.Out.row }
+            ensures { 0 < idle.exit.now.worker.mine.told.amount }
+        { work(rt, *alloc, shared, idle) },
     );
 }
 
-/// Runs the workers, and takes the desk back.
+/// Runs the workers, and takes the desk and the insides back.
 fn run<
     N: Making + Send + Sync,
     L: Ledger + Send + Sync,
     F: Files,
     A: Doors,
     E: Sink,
+    I: Inside,
     R: Threads + Wait + Sync,
 >(
     rt: &R,
     alloc: Global,
     shared: Shared<N, L, F, A, E>,
     mut all: AllShares<N, L>,
-    mut workers: Vec<Worker<N, L>>,
+    mut workers: Vec<IdleWorker<N, L, I>>,
+    insides: &mut Vec<I>,
 ) -> Desk<F, A, E>
     requires all_out { (all.out.parts ≡ 0) × (all.out.amount ≡ 0) }
     requires all_told { (all.told.parts ≡ 0) × (all.told.amount ≡ 0) }
     requires parts_out { vec_len workers ≡ N.parts }
     requires parts_told { vec_len workers ≡ L.parts }
     requires some { 0 < vec_len workers }
+    requires empty { vec_len insides.old ≡ 0 }
+    requires room { vec_len workers ≤ vec_capacity insides.old }
     ensures made { made_of F.state A.state E.state result ≡ N.made }
     ensures none_out { result.out ≡ [] }
     ensures closed { result.closing ≢ None }
+    ensures back { vec_len insides.new ≡ vec_len workers }
 {
     let shared = Mutex::new(shared);
     let threads = workers.len();
     work_all(rt, &alloc, &shared, workers.as_mut_slice(), threads);
-    gather(&mut all, workers);
+    gather(&mut all, workers, insides);
     shared.into_inner().finish(&mut all)
 }
 
+/// Serves the connections of a desk under two ledgers that were picked for it. The insides are lent.
 fn serve_named<
     N: Making + Send + Sync,
     L: Ledger + Send + Sync,
     F: Files,
     A: Doors,
     E: Sink,
+    I: Inside,
     R: Threads + Wait + Sync,
 >(
     rt: &R,
     alloc: Global,
     desk: Desk<F, A, E>,
     readers: Vec<ConfigReader<Config>>,
+    insides: &mut Vec<I>,
     out: Blank,
     told: Blank,
 ) -> ServedDesk<F, A, E>
@@ -520,9 +589,12 @@ fn serve_named<
     requires pair { All (λ r. reader_pair r ≡ desk.pair) readers.items }
     requires none_out { desk.out ≡ [] }
     requires some { 0 < vec_len readers }
+    requires lawful { IsWithinLaw I.lawful BoardLaw }
+    requires one_each { vec_len insides.old ≡ vec_len readers }
     ensures stands { StandsAfter (made_of F.state A.state E.state desk) (F.state result.parts.files) (A.state result.parts.doors) (E.state result.parts.err) result.counts }
     ensures closes { IsClosed (A.state desk.made_doors) desk.most (A.state result.parts.doors) result.closing }
     ensures unopened { IfNone result.closing (A.state result.parts.doors ≡ A.state desk.doors) }
+    ensures back { vec_len insides.new ≡ vec_len insides.old }
 {
     let (out, all_out) = out.open::<N>();
     let (told, all_told) = told.open::<L>();
@@ -530,32 +602,46 @@ fn serve_named<
         out: all_out,
         told: all_told,
     };
-    match cut(alloc, &mut all, readers) {
+    match cut(alloc, &mut all, readers, insides) {
         Ok(workers) => {
             let shared = Shared { desk, out, told };
-            run(rt, alloc, shared, all, workers).into_parts(rt)
+            run(rt, alloc, shared, all, workers, insides).into_parts(rt)
         }
         Err(Mem) => desk.into_parts(rt),
     }
 }
 
-/// Serves the connections of a desk that has none out, by one worker for each reader, which serves until the desk
-/// says that no more come. Afterwards each was parted once. Where the desk didn't close, memory was wanting for the workers, and the
-/// doors are as they were. It may wait.
-pub fn serve_all<F: Files, A: Doors, E: Sink, R: Threads + Wait + Sync>(
+/// Serves the connections of a desk that has none out, by one worker for each reader and inside, which serves until the desk says
+/// that no more come. Each taking is one of its worker's inside, and so by the law of pages over a board. Afterwards each
+/// connection was parted once, and the insides come back, as many as were given. Where the desk didn't close, memory was wanting
+/// for the workers, and the doors are as they were. It may wait.
+pub fn serve_all<F: Files, A: Doors, E: Sink, I: Inside, R: Threads + Wait + Sync>(
     rt: &R,
     alloc: Global,
     desk: Desk<F, A, E>,
     readers: Vec<ConfigReader<Config>>,
-) -> ServedDesk<F, A, E>
+    mut insides: Vec<I>,
+) -> ServedAll<F, A, E, I>
     requires pair { All (λ r. reader_pair r ≡ desk.pair) readers.items }
     requires none_out { desk.out ≡ [] }
     requires some { 0 < vec_len readers }
-    ensures stands { StandsAfter (made_of F.state A.state E.state desk) (F.state result.parts.files) (A.state result.parts.doors) (E.state result.parts.err) result.counts }
-    ensures closes { IsClosed (A.state desk.made_doors) desk.most (A.state result.parts.doors) result.closing }
-    ensures unopened { IfNone result.closing (A.state result.parts.doors ≡ A.state desk.doors) }
+    requires one_each { vec_len insides ≡ vec_len readers }
+    requires lawful { IsWithinLaw I.lawful BoardLaw }
+    ensures stands { StandsAfter (made_of F.state A.state E.state desk) (F.state result.desk.parts.files) (A.state result.desk.parts.doors) (E.state result.desk.parts.err) result.desk.counts }
+    ensures closes { IsClosed (A.state desk.made_doors) desk.most (A.state result.desk.parts.doors) result.desk.closing }
+    ensures unopened { IfNone result.desk.closing (A.state result.desk.parts.doors ≡ A.state desk.doors) }
+    ensures back { vec_len result.insides ≡ vec_len insides }
 {
     let out = Blank::new(readers.len() as u64);
     let told = Blank::new(readers.len() as u64);
-    serve_named::<Brand, Brand, F, A, E, R>(rt, alloc, desk, readers, out, told)
+    let desk = serve_named::<Brand, Brand, F, A, E, I, R>(
+        rt,
+        alloc,
+        desk,
+        readers,
+        &mut insides,
+        out,
+        told,
+    );
+    ServedAll { desk, insides }
 }

@@ -1,6 +1,7 @@
 //! The command `serve`: the connections of doors, served by workers with a configuration that is loaded again with each.
 #![tactic(auto)]
 
+mod boards;
 mod endings;
 mod proxies;
 

@@ -11,6 +11,7 @@ ghost use Rattle.px_desk.specs.Sets.{Spells};
 ghost use Rattle.px_desk.specs.Turns.{none};
 ghost use Rattle.px_serve_command.specs.Proxies.{ProxyGoesOn, RunsProxy, RunsServe, ServesBy, ServesFirst, ServesLoaded, ServesPublished, ServesSharing};
 
+use crate::boards::serve_desk;
 use crate::endings::status_of_serving;
 use px_base::{Dialer, Failed, Files, Mem, Sink};
 use px_commands::{ServeWords, Status, USAGE, parse_serve, read_serve, report, report_load};
@@ -19,7 +20,6 @@ use px_desk::{Desk, DeskParts, ReloadCounts};
 use px_doors::{Doors, ListenAddress};
 use px_ends::Outside;
 use px_link_pool::{Look, Sees};
-use px_proxy::serve_all;
 use px_publish::{ConfigReader, Publisher, publish_pair};
 use px_shared::{Opening, SharedDoors};
 use std::alloc::Global;
@@ -302,6 +302,7 @@ fn serve_published<R: Threads + Wait + Sync, F: Files, A: Doors, E: Sink>(
     requires first { BeginsWithSpelling loaded (published publisher) }
     requires some { 0 < vec_len readers }
     requires workers { vec_len readers ≡ serve.workers }
+    requires at_most { vec_len readers ≤ 64 }
     requires pair { All (λ r. reader_pair r ≡ pair_of publisher) readers.items }
     ensures serves { ServesPublished
         (record { files = F.state parts.files; doors = A.state parts.doors; err = E.state parts.err; main = serve.entry.config.now; loaded = loaded; pair = pair_of publisher; most = serve.entry.most })
@@ -317,7 +318,7 @@ fn serve_published<R: Threads + Wait + Sync, F: Files, A: Doors, E: Sink>(
         serve.most,
     ) {
         Ok(desk) => {
-            let served = serve_all(rt, alloc, desk, readers);
+            let served = serve_desk(rt, alloc, desk, readers);
             Ended {
                 status: status_of_serving(served.closing),
                 parts: served.parts,

@@ -1,6 +1,8 @@
 //! The tests of sessions and of what stands above that aren't rows of data: pumps, shared links, doors, workers and commands.
 #![tactic(auto)]
 
+#[cfg(test)]
+mod client_tags;
 mod command_rows;
 #[cfg(test)]
 mod common;

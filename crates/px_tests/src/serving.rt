@@ -17,10 +17,16 @@ const GET: &[u8] = b"GET http://a.test/x HTTP/1.1\r\nHost: a.test\r\n\r\n";
 
 const ANSWER: &[u8] = b"HTTP/1.1 200 OK\r\nContent-Length: 2\r\n\r\nhi";
 
-const REPLY: &[u8] = b"HTTP/1.1 200 OK\r\nContent-Length: 2\r\nConnection: keep-alive\r\n\r\nhi";
+pub(crate) const REPLY: &[u8] =
+    b"HTTP/1.1 200 OK\r\nContent-Length: 2\r\nConnection: keep-alive\r\n\r\nhi";
 
-/// The ends of a client that says those bytes, whose dials have those answers.
-fn ends_of(alloc: Global, said: &[u8], answers: List<Answer>) -> Result<MemEnds, Mem>
+/// The ends of a client with that address that says those bytes, whose dials have those answers.
+pub(crate) fn ends_from(
+    alloc: Global,
+    address: &[u8],
+    said: &[u8],
+    answers: List<Answer>,
+) -> Result<MemEnds, Mem>
     ensures { IfOk result (λ conn. IsFreshEnds conn) }
 {
     let client_in = TapeIn::new(alloc, said, &[], &[])?;
@@ -28,15 +34,20 @@ fn ends_of(alloc: Global, said: &[u8], answers: List<Answer>) -> Result<MemEnds,
     let dialer = MemDialer::new(alloc, answers)?;
     let clock = FixedClock::new(List::new(alloc));
     let peer = Peer {
-        address: Text::from_bytes(alloc, b"127.0.0.1")?,
+        address: Text::from_bytes(alloc, address)?,
     };
     Ok(Ends::new(alloc, client_in, client_out, dialer, clock, peer))
 }
 
-/// A connection with one request, whose one dial has one answer.
-fn conn(alloc: Global) -> Result<MemEnds, Mem>
+/// The same of a client of this machine.
+fn ends_of(alloc: Global, said: &[u8], answers: List<Answer>) -> Result<MemEnds, Mem>
     ensures { IfOk result (λ conn. IsFreshEnds conn) }
 {
+    ends_from(alloc, b"127.0.0.1", said, answers)
+}
+
+/// The answers of a server that is dialled once and answers once.
+pub(crate) fn one_answer(alloc: Global) -> Result<List<Answer>, Mem> {
     let mut answers = List::new(alloc);
     answers.add(Answer::Link {
         bytes: Text::from_bytes(alloc, ANSWER)?,
@@ -44,7 +55,14 @@ fn conn(alloc: Global) -> Result<MemEnds, Mem>
         read_fails: List::new(alloc),
         write_fails: List::new(alloc),
     })?;
-    ends_of(alloc, GET, answers)
+    Ok(answers)
+}
+
+/// A connection with one request, whose one dial has one answer.
+fn conn(alloc: Global) -> Result<MemEnds, Mem>
+    ensures { IfOk result (λ conn. IsFreshEnds conn) }
+{
+    ends_of(alloc, GET, one_answer(alloc)?)
 }
 
 /// A connection with two requests. Each of its two dials would give an answer to both, one at a time.
@@ -76,7 +94,22 @@ fn two_answers(alloc: Global) -> Result<Answer, Mem> {
 pub(crate) fn three_conns(alloc: Global) -> Result<List<MemEnds>, Mem>
     ensures { IfOk result (λ conns. All IsFreshEnds conns) }
 {
-    let conns = vec![in alloc; conn(alloc)?, conn(alloc)?, conn(alloc)?]?;
+    three_of(alloc, conn(alloc)?, conn(alloc)?, conn(alloc)?)
+}
+
+/// Those three connections.
+pub(crate) fn three_of(
+    alloc: Global,
+    first: MemEnds,
+    second: MemEnds,
+    third: MemEnds,
+) -> Result<List<MemEnds>, Mem>
+    requires fresh_first { IsFreshEnds first }
+    requires fresh_second { IsFreshEnds second }
+    requires fresh_third { IsFreshEnds third }
+    ensures { IfOk result (λ conns. All IsFreshEnds conns) }
+{
+    let conns = vec![in alloc; first, second, third]?;
     Ok(List::from_vec(conns))
 }
 

@@ -9,5 +9,5 @@ returns-clause-served g c =
     record {
       conn = c.args.task.ends;
       is_nth = c.requires.nth;
-      served = serves_conn _ _ _ _ _ served.ensures.serves.serves ([], append-nil (seen_by served.new.configs)) (omega (arith, c.requires.learnt));
+      served = serves_conn g.I.Inside.lawful _ _ _ _ _ c.requires.lawful served.ensures.serves.serves ([], append-nil (seen_by served.new.configs)) (omega (arith, c.requires.learnt));
     }

@@ -1,6 +1,6 @@
 use Rattle.std.proofs.Common.{rules, All, ◌≡◌, ℕ, zero, suc, ◌<◌, List, [], ◌∷◌, length, slice_index_or, subst, arith}
 use Rattle.px_ends.specs.Ends.{EndsState, IsFreshEnds}
-use Rattle.px_tests.proofs.serving.three_conns.Goals as goal
+use Rattle.px_tests.proofs.serving.three_of.Goals as goal
 
 all_three : (a b c : EndsState) → IsFreshEnds a → IsFreshEnds b → IsFreshEnds c → All IsFreshEnds (a ∷ b ∷ c ∷ [])
 all_three a b c x y z zero d h = x
@@ -10,5 +10,5 @@ all_three a b c x y z (suc (suc (suc k))) d h = absurd (omega (arith, h))
 
 pub returns : goal.returns
 returns c =
-    let three : c.in_ok-conn.field-0 ∷ c.in_ok-conn-2.field-0 ∷ c.in_ok-conn-3.field-0 ∷ [] ≡ c.from_vec.result = search rules in
-    subst (λ (l : List EndsState). All IsFreshEnds l) three (all_three _ _ _ c.in_ok-conn.ensures c.in_ok-conn-2.ensures c.in_ok-conn-3.ensures)
+    let three : c.args.first ∷ c.args.second ∷ c.args.third ∷ [] ≡ c.from_vec.result = search rules in
+    subst (λ (l : List EndsState). All IsFreshEnds l) three (all_three _ _ _ c.requires.fresh_first c.requires.fresh_second c.requires.fresh_third)

@@ -1,0 +1,111 @@
+// Serving with a board, on which clients put tags on their own addresses.
+ghost use Rattle.std.specs.Prelude.{◌≡◌, ◌<◌, ◌≤◌, [], All, IfNone, vec_capacity, vec_len};
+ghost use Rattle.px_publish.specs.Published.{reader_pair};
+ghost use Rattle.px_desk.specs.Desks.{StandsAfter, made_of};
+ghost use Rattle.px_desk.specs.Facts.{IsClosed};
+
+use px_base::{Files, Sink};
+use px_config::Config;
+use px_desk::{Desk, ServedDesk};
+use px_doors::Doors;
+use px_pages::BoardPages;
+use px_proxy::{ServedAll, serve_all};
+use px_publish::ConfigReader;
+use px_tag_board::{BlankBoard, BoardName, Seat, blank_board, board, close};
+use std::alloc::Global;
+use std::marker::Brand;
+use std::sync::Wait;
+use std::thread::Threads;
+
+/// Pages over each seat. The seats are taken out of their list.
+fn pages_over<'r, N: BoardName, R: Wait>(
+    rt: &'r R,
+    seats: &mut Vec<Seat<N>>,
+    mut room: Vec<BoardPages<'r, N, R>>,
+) -> Vec<BoardPages<'r, N, R>>
+    requires empty { vec_len room ≡ 0 }
+    requires room { vec_len seats.old ≤ vec_capacity room }
+    ensures each { vec_len result ≡ vec_len seats.old }
+    ensures taken { vec_len seats.new ≡ 0 }
+    ensures capacity { vec_len seats.old ≤ vec_capacity seats.new }
+{
+    'each: while let Some(seat) = seats.pop() {
+        room.push_reserved(BoardPages::new(rt, seat));
+    }
+    room
+}
+
+/// Puts the seats under the pages back into their list.
+fn put_back<'r, N: BoardName, R: Wait>(
+    mut pages: Vec<BoardPages<'r, N, R>>,
+    seats: &mut Vec<Seat<N>>,
+)
+    requires empty { vec_len seats.old ≡ 0 }
+    requires room { vec_len pages ≤ vec_capacity seats.old }
+    ensures { vec_len seats.new ≡ vec_len pages.entry }
+{
+    'each: while let Some(page) = pages.pop() {
+        seats.push_reserved(page.into_seat());
+    }
+    pages.destroy_empty();
+}
+
+/// Serves the connections of a desk with the board that N names, whose seats go to the workers, and ends the board.
+fn serve_with_board<
+    N: BoardName + Send + Sync,
+    F: Files,
+    A: Doors,
+    E: Sink,
+    R: Threads + Wait + Sync,
+>(
+    rt: &R,
+    alloc: Global,
+    blank: BlankBoard,
+    desk: Desk<F, A, E>,
+    readers: Vec<ConfigReader<Config>>,
+) -> ServedDesk<F, A, E>
+    requires name { blank ≡ record { name = N.name; seats = N.parts; pair = N.pair } }
+    requires one_each { blank.seats ≡ vec_len readers }
+    requires pair { All (λ r. reader_pair r ≡ desk.pair) readers.items }
+    requires none_out { desk.out ≡ [] }
+    requires some { 0 < vec_len readers }
+    ensures stands { StandsAfter (made_of F.state A.state E.state desk) (F.state result.parts.files) (A.state result.parts.doors) (E.state result.parts.err) result.counts }
+    ensures closes { IsClosed (A.state desk.made_doors) desk.most (A.state result.parts.doors) result.closing }
+    ensures unopened { IfNone result.closing (A.state result.parts.doors ≡ A.state desk.doors) }
+{
+    let Ok(mut seats) = board::<N, R>(rt, blank) else {
+        return desk.into_parts(rt);
+    };
+    let Ok(room) = Vec::with_capacity(alloc, seats.len()) else {
+        close(rt, seats);
+        return desk.into_parts(rt);
+    };
+    let pages = pages_over(rt, &mut seats, room);
+    let ServedAll { desk, insides } = serve_all(rt, alloc, desk, readers, pages);
+    put_back(insides, &mut seats);
+    close(rt, seats);
+    desk
+}
+
+/// Serves the connections of a desk by one worker for each reader, whose clients have the tags of a board that begins empty and
+/// ends with the serving. Where the desk didn't close, memory was wanting for the board or the workers, and the doors are as they
+/// were.
+pub(crate) fn serve_desk<F: Files, A: Doors, E: Sink, R: Threads + Wait + Sync>(
+    rt: &R,
+    alloc: Global,
+    desk: Desk<F, A, E>,
+    readers: Vec<ConfigReader<Config>>,
+) -> ServedDesk<F, A, E>
+    requires pair { All (λ r. reader_pair r ≡ desk.pair) readers.items }
+    requires none_out { desk.out ≡ [] }
+    requires some { 0 < vec_len readers }
+    requires at_most { vec_len readers ≤ 64 }
+    ensures stands { StandsAfter (made_of F.state A.state E.state desk) (F.state result.parts.files) (A.state result.parts.doors) (E.state result.parts.err) result.counts }
+    ensures closes { IsClosed (A.state desk.made_doors) desk.most (A.state result.parts.doors) result.closing }
+    ensures unopened { IfNone result.closing (A.state result.parts.doors ≡ A.state desk.doors) }
+{
+    let Ok(blank) = blank_board(rt, alloc, readers.len() as u32) else {
+        return desk.into_parts(rt);
+    };
+    serve_with_board::<Brand, F, A, E, R>(rt, alloc, blank, desk, readers)
+}
