@@ -17,10 +17,10 @@ kind_send = search sendable depth 200 fits 100000
 kind_sync : IsSync kind.the_row
 kind_sync = search sendable depth 200 fits 100000
 
-update_send : IsSend update.the_row
+pub update_send : IsSend update.the_row
 update_send = declared_send update.the_type (search (sendable, kind_send) depth 40, (search (sendable, crosses, text.the_send) depth 40 fits 20000, tt))
 
-update_sync : IsSync update.the_row
+pub update_sync : IsSync update.the_row
 update_sync = declared_sync update.the_type (search (sendable, kind_sync) depth 40, (search (sendable, crosses, text.the_sync) depth 40 fits 20000, tt))
 
 pub pattern_send : IsSend pattern.the_row

@@ -6,10 +6,8 @@ use Rattle.std.proofs.Crossing.{crosses}
 use Rattle.px_base.proofs.lists.List.TheSendSync as list
 use Rattle.px_base.proofs.texts.Text.TheSendSync as text
 use Rattle.px_host_lists.proofs.lists.HostList.TheSendSync as host_list
-use Rattle.px_actions.specs.contracts.kinds.Kind as kind
-use Rattle.px_actions.specs.contracts.updates.Update as update
 use Rattle.px_patterns.proofs.Crossing.{kept_pattern_send, kept_union_send, union_send, union_sync}
-use Rattle.px_action_files.proofs.Crossing.{section_send, section_sync}
+use Rattle.px_action_files.proofs.Crossing.{section_send, section_sync, update_send, update_sync}
 use Rattle.px_merge.specs.contracts.host_lists.ListedHosts as listed
 use Rattle.px_merge.specs.contracts.places.PatternPlace as place
 use Rattle.px_merge.specs.contracts.places.Placed as placed
@@ -24,18 +22,6 @@ use Rattle.px_merge.specs.contracts.warm.WarmSections as warm
 use Rattle.px_merge.specs.contracts.warm.WarmSections.TheInside as warm_inside
 
 -- ---- lists of hosts
-
-kind_send : IsSend kind.the_row
-kind_send = search sendable depth 200 fits 100000
-
-kind_sync : IsSync kind.the_row
-kind_sync = search sendable depth 200 fits 100000
-
-update_send : IsSend update.the_row
-update_send = declared_send update.the_type (search (sendable, kind_send) depth 40, (search (sendable, crosses, text.the_send) depth 40 fits 20000, tt))
-
-update_sync : IsSync update.the_row
-update_sync = declared_sync update.the_type (search (sendable, kind_sync) depth 40, (search (sendable, crosses, text.the_sync) depth 40 fits 20000, tt))
 
 listed_send : IsSend listed.the_row
 listed_send = declared_send listed.the_type (search (sendable, text.the_send) depth 40, (search (sendable, update_send) depth 40, (search (sendable, host_list.the_send) depth 40, tt)))
