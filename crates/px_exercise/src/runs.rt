@@ -110,7 +110,7 @@ fn run_session<R: Threads + Sync>(
     let dialer = MemDialer::new(alloc, answers)?;
     let clock = fixed_clock(alloc, MOMENT)?;
     let mut ends: Ends<JobConn> = Ends::new(alloc, client_in, client_out, dialer, clock, peer);
-    let served = serve_cold(alloc, way, configs, &mut BarePages::new(), &mut ends);
+    let served = serve_cold(alloc, way, configs, &mut BarePages, &mut ends);
     if served.end == SessionEnd::NoMemory {
         return Err(Mem);
     }

@@ -26,12 +26,6 @@ impl Pages {
     }
 }
 
-impl BarePages {
-    pub fn new() -> BarePages {
-        BarePages
-    }
-}
-
 impl Inside for Pages {
     ghost use Rattle.px_pages.specs.Pages.{FitsPages, IsPaged, pages_state};
 

@@ -113,7 +113,7 @@ where
         alloc,
         &Way::AtOnce(rt),
         &mut FixedConfig::new(config),
-        &mut BarePages::new(),
+        &mut BarePages,
         &mut pooled,
     );
     let (ends, wanting) = without_pool(pooled);
