@@ -42,7 +42,7 @@ reads_none f = record { tells_same = refl; tells_later_same = refl; unchanged = 
 pub serve_refused : {S T : Type 0} (v : Views S T) (words : List (List ℕ)) (f : FilesState) (d : DoorsState) (e e' : SinkState) (s : Status)
     → ((config : List ℕ) (workers most : ℕ) → ¬ IsServe words config workers most)
     → (IsTrue e.tells → ReportsOn e.taken e'.taken USAGE.now status.Usage s) → ReportCause e e' status.Usage s
-    → ServesBy v words (record { files = f; doors = d; errors = e }) (record { files = f; doors = d; errors = e' }) none s
+    → ServesBy v words (record { files = f; doors = d; errors = e }) (record { files = f; doors = d; errors = e' }) none 0 s
 serve_refused v words f d e e' s refused reported cause =
     inl (record { not_serve = refused; reports = (refl, λ i o t. reports_by f f i o e e' t USAGE.now status.Usage s (λ told name. refl) reported cause); none_counted = refl })
 

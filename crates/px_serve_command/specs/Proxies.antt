@@ -52,6 +52,10 @@ Beside Says old new = (new.doors ≡ old.doors) × ((input : SourceState) (out :
 abbrev pub listen_address : Config → ListenAddress
 listen_address config = record { host = config.settings.listen_host; port = config.settings.listen_port }
 
+-- as many workers served as were asked for; or none, and no connection was accepted
+abbrev pub ServedByAsMany : ℕ → DoorsState → DoorsState → ℕ → Type 0
+ServedByAsMany asked old new workers = (workers ≡ asked) ⊎ ((workers ≡ 0) × (new.accepted ≡ old.accepted))
+
 -- no connection was accepted, the files were only read, and nothing was printed
 pub record Unserved (old new : ProxyOutside) (counts : ReloadCounts) : Type 0 where
   pub stays : Stays old.doors new.doors
@@ -147,20 +151,21 @@ pub record RefusesServe (words : List (List ℕ)) (old new : ProxyOutside) (coun
   pub reports : Beside (λ a b. Reports a b USAGE.now status.Usage s) old new
   pub none_counted : counts ≡ none
 
--- the words are those of `serve`
-pub record RunsWords {S T : Type 0} (v : Views S T) (words : List (List ℕ)) (old new : ProxyOutside) (counts : ReloadCounts) (s : Status) : Type 0 where
+-- the words are those of `serve`, by which so many workers served
+pub record RunsWords {S T : Type 0} (v : Views S T) (words : List (List ℕ)) (old new : ProxyOutside) (counts : ReloadCounts) (served_by : ℕ) (s : Status) : Type 0 where
   pub config : List ℕ
   pub workers : ℕ
   pub most : ℕ
   pub is_serve : IsServe words config workers most
+  pub as_many : ServedByAsMany workers old.doors new.doors served_by
   pub runs : RunsServe v config most old new counts s
 
-abbrev pub ServesBy : {S T : Type 0} → Views S T → List (List ℕ) → ProxyOutside → ProxyOutside → ReloadCounts → Status → Type 0
-ServesBy v words old new counts s = RefusesServe words old new counts s ⊎ RunsWords v words old new counts s
+abbrev pub ServesBy : {S T : Type 0} → Views S T → List (List ℕ) → ProxyOutside → ProxyOutside → ReloadCounts → ℕ → Status → Type 0
+ServesBy v words old new counts served_by s = RefusesServe words old new counts s ⊎ RunsWords v words old new counts served_by s
 
 -- how a proxy ends: by one status, with what it did and why, where the ends of links are seen so
-pub record RunsProxy {S T : Type 0} (v : Views S T) (words : List (List ℕ)) (old new : ProxyOutside) (counts : ReloadCounts) (code : ℕ) : Type 0 where
+pub record RunsProxy {S T : Type 0} (v : Views S T) (words : List (List ℕ)) (old new : ProxyOutside) (counts : ReloadCounts) (served_by code : ℕ) : Type 0 where
   pub ended : Status
   pub code_is : code ≡ code_of ended
-  pub serves : ServesBy v words old new counts ended
+  pub serves : ServesBy v words old new counts served_by ended
   pub goes_on : ProxyGoesOn old new

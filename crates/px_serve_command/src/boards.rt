@@ -3,6 +3,7 @@ ghost use Rattle.std.specs.Prelude.{◌≡◌, ◌<◌, ◌≤◌, [], All, IfNo
 ghost use Rattle.px_publish.specs.Published.{reader_pair};
 ghost use Rattle.px_desk.specs.Desks.{StandsAfter, made_of};
 ghost use Rattle.px_desk.specs.Facts.{IsClosed};
+ghost use Rattle.px_serve_command.specs.Proxies.{ServedByAsMany};
 
 use px_base::{Files, Sink};
 use px_config::Config;
@@ -50,7 +51,8 @@ fn put_back<'r, N: BoardName, R: Wait>(
     pages.destroy_empty();
 }
 
-/// Serves the connections of a desk with the board that N names, whose seats go to the workers, and ends the board.
+/// Serves the connections of a desk with the board that N names, whose seats go to the workers, and ends the board. Beside what is
+/// of the desk, by how many workers it was served.
 fn serve_with_board<
     N: BoardName + Send + Sync,
     F: Files,
@@ -63,49 +65,56 @@ fn serve_with_board<
     blank: BlankBoard,
     desk: Desk<F, A, E>,
     readers: Vec<ConfigReader<Config>>,
-) -> ServedDesk<F, A, E>
+) -> (ServedDesk<F, A, E>, u64)
     requires name { blank ≡ record { name = N.name; seats = N.parts; pair = N.pair } }
     requires one_each { blank.seats ≡ vec_len readers }
     requires pair { All (λ r. reader_pair r ≡ desk.pair) readers.items }
     requires none_out { desk.out ≡ [] }
     requires some { 0 < vec_len readers }
-    ensures stands { StandsAfter (made_of F.state A.state E.state desk) (F.state result.parts.files) (A.state result.parts.doors) (E.state result.parts.err) result.counts }
-    ensures closes { IsClosed (A.state desk.made_doors) desk.most (A.state result.parts.doors) result.closing }
-    ensures unopened { IfNone result.closing (A.state result.parts.doors ≡ A.state desk.doors) }
+    ensures stands { StandsAfter (made_of F.state A.state E.state desk) (F.state result.0.parts.files) (A.state result.0.parts.doors) (E.state result.0.parts.err) result.0.counts }
+    ensures closes { IsClosed (A.state desk.made_doors) desk.most (A.state result.0.parts.doors) result.0.closing }
+    ensures unopened { IfNone result.0.closing (A.state result.0.parts.doors ≡ A.state desk.doors) }
+    ensures as_many { ServedByAsMany (vec_len readers) (A.state desk.doors) (A.state result.0.parts.doors) result.1 }
 {
     let Ok(mut seats) = board::<N, R>(rt, blank) else {
-        return desk.into_parts(rt);
+        return (desk.into_parts(rt), 0);
     };
     let Ok(room) = Vec::with_capacity(alloc, seats.len()) else {
         close(rt, seats);
-        return desk.into_parts(rt);
+        return (desk.into_parts(rt), 0);
     };
     let pages = pages_over(rt, &mut seats, room);
     let ServedAll { desk, insides } = serve_all(rt, alloc, desk, readers, pages);
     put_back(insides, &mut seats);
+    let workers = if desk.closing.is_some() {
+        seats.len() as u64
+    } else {
+        0
+    };
     close(rt, seats);
-    desk
+    (desk, workers)
 }
 
 /// Serves the connections of a desk by one worker for each reader, whose clients have the tags of a board that begins empty and
 /// ends with the serving. Where the desk didn't close, memory was wanting for the board or the workers, and the doors are as they
-/// were.
+/// were. Beside what is of the desk, by how many workers it was served.
 pub(crate) fn serve_desk<F: Files, A: Doors, E: Sink, R: Threads + Wait + Sync>(
     rt: &R,
     alloc: Global,
     desk: Desk<F, A, E>,
     readers: Vec<ConfigReader<Config>>,
-) -> ServedDesk<F, A, E>
+) -> (ServedDesk<F, A, E>, u64)
     requires pair { All (λ r. reader_pair r ≡ desk.pair) readers.items }
     requires none_out { desk.out ≡ [] }
     requires some { 0 < vec_len readers }
     requires at_most { vec_len readers ≤ 64 }
-    ensures stands { StandsAfter (made_of F.state A.state E.state desk) (F.state result.parts.files) (A.state result.parts.doors) (E.state result.parts.err) result.counts }
-    ensures closes { IsClosed (A.state desk.made_doors) desk.most (A.state result.parts.doors) result.closing }
-    ensures unopened { IfNone result.closing (A.state result.parts.doors ≡ A.state desk.doors) }
+    ensures stands { StandsAfter (made_of F.state A.state E.state desk) (F.state result.0.parts.files) (A.state result.0.parts.doors) (E.state result.0.parts.err) result.0.counts }
+    ensures closes { IsClosed (A.state desk.made_doors) desk.most (A.state result.0.parts.doors) result.0.closing }
+    ensures unopened { IfNone result.0.closing (A.state result.0.parts.doors ≡ A.state desk.doors) }
+    ensures as_many { ServedByAsMany (vec_len readers) (A.state desk.doors) (A.state result.0.parts.doors) result.1 }
 {
     let Ok(blank) = blank_board(rt, alloc, readers.len() as u32) else {
-        return desk.into_parts(rt);
+        return (desk.into_parts(rt), 0);
     };
     serve_with_board::<Brand, F, A, E, R>(rt, alloc, blank, desk, readers)
 }

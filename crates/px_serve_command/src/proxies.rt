@@ -9,7 +9,7 @@ ghost use Rattle.px_desk.specs.Desks.{BeginsWithSpelling, StandsAfter};
 ghost use Rattle.px_desk.specs.Facts.{DoorsBegun, Closes};
 ghost use Rattle.px_desk.specs.Sets.{Spells};
 ghost use Rattle.px_desk.specs.Turns.{none};
-ghost use Rattle.px_serve_command.specs.Proxies.{ProxyGoesOn, RunsProxy, RunsServe, ServesBy, ServesFirst, ServesLoaded, ServesPublished, ServesSharing};
+ghost use Rattle.px_serve_command.specs.Proxies.{ProxyGoesOn, RunsProxy, RunsServe, ServedByAsMany, ServesBy, ServesFirst, ServesLoaded, ServesPublished, ServesSharing};
 
 use crate::boards::serve_desk;
 use crate::endings::status_of_serving;
@@ -27,13 +27,14 @@ use std::marker::Brand;
 use std::sync::{Arc, Wait};
 use std::thread::Threads;
 
-/// How a proxy ended: the exit status, what it was run with, and how many connections were handed out with each result of loading
-/// the configuration again.
+/// How a proxy ended: the exit status, what it was run with, how many connections were handed out with each result of loading the
+/// configuration again, and by how many workers they were served.
 #[derive(Drop)]
 pub struct Proxied<F, A, E> {
     pub status: u8,
     pub parts: DeskParts<F, A, E>,
     pub counts: ReloadCounts,
+    pub workers: u64,
 }
 
 /// The same before the status is a number.
@@ -41,16 +42,18 @@ struct Ended<F, A, E> {
     status: Status,
     parts: DeskParts<F, A, E>,
     counts: ReloadCounts,
+    workers: u64,
 }
 
 /// No connection was handed out.
 fn unserved<F, A, E>(status: Status, parts: DeskParts<F, A, E>) -> Ended<F, A, E>
-    ensures { result ≡ record { status = status; parts = parts; counts = none } }
+    ensures { result ≡ record { status = status; parts = parts; counts = none; workers = 0 } }
 {
     Ended {
         status,
         parts,
         counts: ReloadCounts::NONE,
+        workers: 0,
     }
 }
 
@@ -69,17 +72,19 @@ where
     requires begun { DoorsBegun (A.state parts.doors) }
     ensures runs { RunsProxy (record { ins = A.Conn.Dial.In.state; outs = A.Conn.Dial.Out.state }) (map string_bytes words.now)
         (record { files = F.state parts.files; doors = A.state parts.doors; errors = E.state parts.err })
-        (record { files = F.state result.parts.files; doors = A.state result.parts.doors; errors = E.state result.parts.err }) result.counts result.status }
+        (record { files = F.state result.parts.files; doors = A.state result.parts.doors; errors = E.state result.parts.err }) result.counts result.workers result.status }
 {
     let Ended {
         status,
         parts,
         counts,
+        workers,
     } = serve_by(alloc, rt, words, parts);
     Proxied {
         status: status.code(),
         parts,
         counts,
+        workers,
     }
 }
 
@@ -94,7 +99,7 @@ where
     requires begun { DoorsBegun (A.state parts.doors) }
     ensures serves { ServesBy (record { ins = A.Conn.Dial.In.state; outs = A.Conn.Dial.Out.state }) (map string_bytes words.now)
         (record { files = F.state parts.files; doors = A.state parts.doors; errors = E.state parts.err })
-        (record { files = F.state result.parts.files; doors = A.state result.parts.doors; errors = E.state result.parts.err }) result.counts result.status }
+        (record { files = F.state result.parts.files; doors = A.state result.parts.doors; errors = E.state result.parts.err }) result.counts result.workers result.status }
     ensures goes_on { ProxyGoesOn
         (record { files = F.state parts.files; doors = A.state parts.doors; errors = E.state parts.err })
         (record { files = F.state result.parts.files; doors = A.state result.parts.doors; errors = E.state result.parts.err }) }
@@ -150,6 +155,7 @@ where
     ensures runs { RunsServe (record { ins = A.Conn.Dial.In.state; outs = A.Conn.Dial.Out.state }) serve.entry.config.now serve.entry.most
         (record { files = F.state parts.files; doors = A.state parts.doors; errors = E.state parts.err })
         (record { files = F.state result.parts.files; doors = A.state result.parts.doors; errors = E.state result.parts.err }) result.counts result.status }
+    ensures as_many { ServedByAsMany serve.entry.workers (A.state parts.doors) (A.state result.parts.doors) result.workers }
     ensures goes_on { ProxyGoesOn
         (record { files = F.state parts.files; doors = A.state parts.doors; errors = E.state parts.err })
         (record { files = F.state result.parts.files; doors = A.state result.parts.doors; errors = E.state result.parts.err }) }
@@ -189,6 +195,7 @@ where
     ensures serves { ServesFirst (record { ins = A.Conn.Dial.In.state; outs = A.Conn.Dial.Out.state }) serve.entry.config.now serve.entry.most loaded first
         (record { files = F.state parts.files; doors = A.state parts.doors; errors = E.state parts.err })
         (record { files = F.state result.parts.files; doors = A.state result.parts.doors; errors = E.state result.parts.err }) result.counts result.status }
+    ensures as_many { ServedByAsMany serve.entry.workers (A.state parts.doors) (A.state result.parts.doors) result.workers }
     ensures goes_on { ProxyGoesOn
         (record { files = F.state parts.files; doors = A.state parts.doors; errors = E.state parts.err })
         (record { files = F.state result.parts.files; doors = A.state result.parts.doors; errors = E.state result.parts.err }) }
@@ -219,6 +226,7 @@ where
     ensures serves { ServesSharing (record { ins = A.Conn.Dial.In.state; outs = A.Conn.Dial.Out.state }) serve.entry.config.now serve.entry.most loaded first
         (record { files = F.state parts.files; doors = A.state parts.doors; errors = E.state parts.err })
         (record { files = F.state result.parts.files; doors = A.state result.parts.doors; errors = E.state result.parts.err }) result.counts result.status }
+    ensures as_many { ServedByAsMany serve.entry.workers (A.state parts.doors) (A.state result.parts.doors) result.workers }
     ensures goes_on { ProxyGoesOn
         (record { files = F.state parts.files; doors = A.state parts.doors; errors = E.state parts.err })
         (record { files = F.state result.parts.files; doors = A.state result.parts.doors; errors = E.state result.parts.err }) }
@@ -230,6 +238,7 @@ where
         status,
         parts,
         counts,
+        workers,
     } = serve_loaded(alloc, rt, serve, loaded, first, parts);
     let DeskParts { files, doors, err } = parts;
     let doors = doors.into_inner();
@@ -237,6 +246,7 @@ where
         status,
         parts: DeskParts { files, doors, err },
         counts,
+        workers,
     }
 }
 
@@ -256,6 +266,7 @@ fn serve_loaded<R: Threads + Wait + Sync, F: Files, A: Doors, E: Sink>(
     ensures serves { ServesLoaded serve.entry.config.now serve.entry.most loaded first
         (record { files = F.state parts.files; doors = A.state parts.doors; errors = E.state parts.err })
         (record { files = F.state result.parts.files; doors = A.state result.parts.doors; errors = E.state result.parts.err }) result.counts result.status }
+    ensures as_many { ServedByAsMany serve.entry.workers (A.state parts.doors) (A.state result.parts.doors) result.workers }
     ensures goes_on { ProxyGoesOn
         (record { files = F.state parts.files; doors = A.state parts.doors; errors = E.state parts.err })
         (record { files = F.state result.parts.files; doors = A.state result.parts.doors; errors = E.state result.parts.err }) }
@@ -307,6 +318,7 @@ fn serve_published<R: Threads + Wait + Sync, F: Files, A: Doors, E: Sink>(
     ensures serves { ServesPublished
         (record { files = F.state parts.files; doors = A.state parts.doors; err = E.state parts.err; main = serve.entry.config.now; loaded = loaded; pair = pair_of publisher; most = serve.entry.most })
         (record { files = F.state result.parts.files; doors = A.state result.parts.doors; errors = E.state result.parts.err }) result.counts result.status }
+    ensures as_many { ServedByAsMany serve.entry.workers (A.state parts.doors) (A.state result.parts.doors) result.workers }
 {
     match Desk::new(
         rt,
@@ -318,11 +330,12 @@ fn serve_published<R: Threads + Wait + Sync, F: Files, A: Doors, E: Sink>(
         serve.most,
     ) {
         Ok(desk) => {
-            let served = serve_desk(rt, alloc, desk, readers);
+            let (served, workers) = serve_desk(rt, alloc, desk, readers);
             Ended {
                 status: status_of_serving(served.closing),
                 parts: served.parts,
                 counts: served.counts,
+                workers,
             }
         }
         Err(refused) => unserved(Status::NoMemory, refused.parts),

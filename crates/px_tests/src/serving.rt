@@ -192,17 +192,17 @@ fn two_of_three_connections_are_served(rt: HostRuntime) -> Result<(), Fail> {
     Ok(())
 }
 
-/// The calls of the doors that fail, listening being the first, the status, whether they listened, and how many connections
-/// were served.
-const FAULTS: [(&[u64], u8, bool, usize); 3] = [
-    (&[0], 7, false, 0),
-    (&[1], 7, true, 0),
-    (&[2], 7, true, 1),
+/// The calls of the doors that fail, listening being the first, the status, whether they listened, how many workers served and how
+/// many connections.
+const FAULTS: [(&[u64], u8, bool, u64, usize); 3] = [
+    (&[0], 7, false, 0, 0),
+    (&[1], 7, true, 1, 0),
+    (&[2], 7, true, 1, 1),
 ];
 
 #[test]
 fn doors_that_fail_are_status_7(rt: HostRuntime) -> Result<(), Fail> {
-    for (fails, status, listened, count) in FAULTS {
+    for (fails, status, listened, workers, count) in FAULTS {
         let conns = three_conns(rt.alloc())?;
         let proxied = proxied(rt.alloc(), &rt, &TWO, b"", conns, fails)?;
         let doors = &proxied.parts.doors;
@@ -212,6 +212,7 @@ fn doors_that_fail_are_status_7(rt: HostRuntime) -> Result<(), Fail> {
             doors.parted().len(),
         );
         same_at(&rt, fails, seen, (status, listened, count));
+        same_at(&rt, fails, proxied.workers, workers);
     }
     Ok(())
 }

@@ -362,7 +362,7 @@ fn a_connection_is_served_while_another_waits_and_the_files_change(
         answered: [AtomicU64::new(0), AtomicU64::new(0), AtomicU64::new(0)],
     };
     let proxied = proxied(&rt, rt.alloc(), &seen)?;
-    same(&rt, proxied.status, 0);
+    same(&rt, (proxied.status, proxied.workers), (0, 2));
     let doors = &proxied.parts.doors;
     same(&rt, (doors.parted.len(), doors.lost), (3, 0));
     same(&rt, numbers(doors, 0), [Some(0), Some(1)]);
