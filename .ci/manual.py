@@ -23,17 +23,20 @@ TOP = os.path.join(HERE, "..")
 MANUAL = os.path.join(TOP, "docs", "MANUAL.md")
 BLOCK = re.compile(r"^```(\w*)\n(.*?)^```$", re.MULTILINE | re.DOTALL)
 PAGE = b"<html><head><title>x</title></head><body>cheap flights</body></html>"
+# A list of hosts, and where the manual has one.
+HOSTS, LISTS = b"0.0.0.0 tracker.list.example\n", "https://lists.example/"
 
 
 class Net(http.server.BaseHTTPRequestHandler):
     """Answers each request, whatever its host."""
 
     def do_GET(self):
+        body, kind = (HOSTS, "text/plain") if self.path == "/hosts" else (PAGE, "text/html")
         self.send_response(200)
-        self.send_header("Content-Type", "text/html")
-        self.send_header("Content-Length", str(len(PAGE)))
+        self.send_header("Content-Type", kind)
+        self.send_header("Content-Length", str(len(body)))
         self.end_headers()
-        self.wfile.write(PAGE)
+        self.wfile.write(body)
 
     do_HEAD = do_GET
 
@@ -45,9 +48,10 @@ class Sandbox:
     """A folder like the top of the repository, a home, and the program on the PATH."""
 
     def __init__(self, folder, program, net):
-        self.top, self.home, self.port, self.proxy, self.serves = (
+        self.top, self.home, self.net, self.port, self.proxy, self.serves = (
             os.path.join(folder, "top"),
             os.path.join(folder, "home"),
+            net,
             free_port(),
             None,
             None,
@@ -86,7 +90,7 @@ class Sandbox:
 
     def run(self, block):
         """Runs one block, line by line; gives what went wrong, or None. The proxy is started anew before each line that asks it."""
-        block = block.replace("8118", str(self.port))
+        block = block.replace("8118", str(self.port)).replace(LISTS, "http://127.0.0.1:%d/" % self.net)
         folder = (
             self.top if re.search(r"conf/|tools/|~/", block) else os.path.join(self.top, "conf")
         )

@@ -26,7 +26,8 @@ from origins import WAIT, Server, comes, free_port, wait_for
 
 HERE = os.path.dirname(os.path.abspath(__file__))
 PACKAGING = os.path.join(HERE, "..", "packaging")
-UNITS = ("helmthread.service", "helmthread@.service")
+UNITS = ("helmthread.service", "helmthread@.service", "helmthread-update-lists.service")
+SCRIPTS = ("helmthread-lint", "helmthread-from-hosts", "helmthread-from-privoxy", "helmthread-update-lists")
 MOST_EXPOSED = 2.5
 # (the name of a machine without a domain isn't one for lintian)
 NAMED = ("--maintainer", "Test of the package <test@example.org>")
@@ -175,7 +176,7 @@ def installed(root, net):
     finally:
         proxy.kill()
         proxy.wait()
-    for name in ("helmthread-lint", "helmthread-from-hosts", "helmthread-from-privoxy"):
+    for name in SCRIPTS:
         ran = subprocess.run(
             [os.path.join(root, "usr/bin", name), "--help"],
             capture_output=True,
@@ -197,6 +198,15 @@ def installed(root, net):
         linted.stdout == "nothing found\n",
         linted.stdout,
     )
+
+
+def updated(root):
+    """The command line of the unit that fetches lists, over the installed file of lists, which names none."""
+    ran = subprocess.run(
+        command(root, "helmthread-update-lists.service", "ExecStart"), capture_output=True, text=True, timeout=600
+    )
+    right = ran.returncode == 0 and ran.stdout.endswith("/lists names no list\n")
+    check("helmthread-update-lists over the installed files", right, ran.stdout + ran.stderr)
 
 
 def anchors(text):
@@ -320,6 +330,7 @@ def main():
             net = Server(Net).start()
             exposure(root)
             installed(root, net)
+            updated(root)
             links(root)
             behind_haproxy(root, net, folder)
     print("package.py: %d failed%s" % (len(failures), "".join("\nfailed: " + it for it in failures)))

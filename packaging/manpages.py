@@ -16,6 +16,7 @@ FILES = [
     ("/etc/helmthread/config", "the main file, which names the others"),
     ("/etc/helmthread/user.action", "what you want otherwise"),
     ("/etc/helmthread/user.filter", "filters of your own"),
+    ("/etc/helmthread/lists", "from where helmthread-update-lists fetches lists of hosts"),
     ("/etc/helmthread/templates", "the pages that the proxy itself answers with"),
 ]
 
@@ -102,7 +103,8 @@ def of_manual(manual, version):
             out
             + [
                 ".SH SEE ALSO",
-                "helmthread\\-lint(1), helmthread\\-from\\-privoxy(1), helmthread\\-from\\-hosts(1)",
+                "helmthread\\-lint(1), helmthread\\-from\\-privoxy(1), helmthread\\-from\\-hosts(1), "
+                "helmthread\\-update\\-lists(1)",
             ]
         )
         + "\n"

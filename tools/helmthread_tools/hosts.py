@@ -299,34 +299,43 @@ def is_plain_name(word):
 
 
 # What a source that is no list looks like: its first bytes, a name, and what makes a list of it.
-PACKED = (
+OTHER_FORMS = (
     (b"\x1f\x8b", "a file packed by gzip", "gzip -dc"),
     (b"\xfd7zXZ\0", "a file packed by xz", "xz -dc"),
     (b"BZh", "a file packed by bzip2", "bzip2 -dc"),
     (b"\x28\xb5\x2f\xfd", "a file packed by zstd", "zstd -dc"),
     (b"PK\3\4", "a zip archive", "unzip -p"),
     (b"7z\xbc\xaf\x27\x1c", "a 7z archive", "7z x -so"),
+    (b"\xff\xfe", "a text in UTF-16", "iconv -f utf-16 -t utf-8"),
+    (b"\xfe\xff", "a text in UTF-16", "iconv -f utf-16 -t utf-8"),
 )
 HTML = re.compile(rb"\s*(<!--.*?-->\s*)*<(!doctype\s+html|html|head|body)\b", re.I | re.S)
 TITLE = re.compile(rb"<title[^>]*>\s*([^<]{1,80})", re.I)
 
 
-def looks_like(data, name):
-    """What a source surely is, where that is no list, and what to do; or None."""
-    for begins, what, command in PACKED:
+def kind_of(data):
+    """What a source surely is, where that is no list; or None."""
+    for begins, what, _ in OTHER_FORMS:
         if data.startswith(begins):
-            return "%s. Unpack it: %s %s | helmthread-from-hosts - TO" % (what, command, name)
-    if data.startswith((b"\xff\xfe", b"\xfe\xff")):
-        how = "iconv -f utf-16 -t utf-8 %s | helmthread-from-hosts - TO" % name
-        return "a text in UTF-16. Write it as UTF-8: " + how
+            return what
     page = data[3:] if data.startswith(b"\xef\xbb\xbf") else data
     if HTML.match(page):
         title = TITLE.search(page)
         told = " with the title `%s`" % title[1].decode("utf-8", "replace").strip() if title else ""
-        return "an HTML page%s, perhaps of an error. Fetch the list itself" % told
+        return "an HTML page%s, perhaps of an error" % told
     if b"\0" in data[:65536]:
         return "bytes that are no text"
     return None
+
+
+def looks_like(data, name):
+    """What a source surely is, where that is no list, and what to do; or None."""
+    kind = kind_of(data)
+    for begins, _, command in OTHER_FORMS:
+        if data.startswith(begins):
+            how = "%s %s | helmthread-from-hosts - TO" % (command, name)
+            return "%s. Make a text of it: %s" % (kind, how)
+    return kind + ". Fetch the list itself" if kind else None
 
 
 def without_hosts(data):
