@@ -1,7 +1,8 @@
 #!/usr/bin/env python3
 """Makes the parts of the documents that the sources say already, between the comments `<!-- made: NAME -->` and `<!-- end: NAME -->`:
 the calls of each crate (docs/PROOFS.md), the floors of the crates (docs/ARCHITECTURE.md), and the directives of the main file
-(docs/MANUAL.md). It makes docs/HEADLINE.md (headline.py), and holds the version and the kit to the files VERSION and KIT.
+(docs/MANUAL.md). It makes docs/HEADLINE.md (headline.py), holds the version and the kit to the files VERSION and KIT, and the cases
+that docs/PROFILE.md cites to those of px_cases.
 
 Run: docs/tools/make.py            writes what is stale
      docs/tools/make.py --check    writes nothing, names what is stale, and ends with 1 where something is
@@ -271,6 +272,19 @@ PARTS = [
 ]
 
 
+# The cases that docs/PROFILE.md cites: a file of px_cases, and behind it their first lines
+CITED = re.compile(r'`(\w+/\w+)`((?:,? "[^"]+")+)')
+
+
+def check_cases():
+    """Refuses a cited case that doesn't stand in its file."""
+    for file, titles in CITED.findall(read("docs/PROFILE.md")):
+        lines = read(f"crates/px_cases/data/{file}.case").split("\n")
+        for title in re.findall('"([^"]+)"', titles):
+            if f"case {title}" not in lines:
+                raise Stale(f"docs/PROFILE.md cites a case that {file}.case doesn't have: {title}")
+
+
 def span(text, path, name):
     start, end = f"<!-- made: {name} -->\n", f"\n<!-- end: {name} -->"
     if text.count(start) != 1 or text.count(end) != 1:
@@ -306,6 +320,7 @@ def main():
         for path, name, make in PARTS:
             text, (start, end) = read(path), span(read(path), path, name)
             stale |= write(path, text[:start] + make() + text[end:], checks)
+        check_cases()
         version = f'VERSION: &[u8] = b"helmthread {read("VERSION").strip()}\n";'
         stale |= write(PROGRAM, re.sub(r'VERSION: &\[u8\] = b"[^"]*";', lambda _: version, read(PROGRAM)), checks)
         kit = f"`{read('KIT').strip()}`"
