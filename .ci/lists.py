@@ -1,11 +1,13 @@
 #!/usr/bin/env python3
-"""Lists of hosts. Runs tools/helmthread-update-lists against a server of its own, as lists are renewed, and as they are when something
-fails or the script is killed. Then `serve` of the built programs has two made lists, and what it answers to GET and CONNECT is held
-against a plain set; it names the lines of the lists, and serves on while they are replaced.
+"""Lists of hosts. Runs tools/helmthread-update-lists against a server of its own, which answers
+rightly and in wrong ways, and kills it. Then `serve` of the built programs has two made lists, and
+what it answers to GET and CONNECT is held against plain sets; it names the lines of the lists, and
+serves on while they are replaced.
 
 Usage: lists.py [--hosts N] [--asked N] [PROGRAM]..
 
-The lists have N hosts together (20000), and N hosts are asked for (2000). Says what failed, and ends with 1 where something did.
+The lists have N hosts together (20000), and N hosts are asked for (2000). Says what failed, and
+ends with 1 where something did.
 """
 import argparse
 import contextlib
@@ -15,6 +17,7 @@ import http.server
 import importlib.machinery
 import importlib.util
 import io
+import itertools
 import os
 import random
 import re
@@ -87,7 +90,7 @@ def reader():
 
 FORMER = b"0.0.0.0 a.example b.example\n||c.example^\n"
 NEXT = b"# new\nb.example\nc.example\nd.example\ne.example\n"
-HTML = b"<!doctype html><html><head><title>Gone</title></head><body>\na.example\nb.example\nc.example\n</body></html>\n"
+HTML = b"<!doctype html><html><head><title>Gone</title></head><body>\n%s</body></html>\n" % FORMER
 # How many times the script is killed, each at another moment of the first so many seconds.
 KILLS, KILL_SECONDS = 12, 0.6
 
@@ -193,7 +196,8 @@ class Folder:
 
     def __init__(self, folder, port, path="list", former=FORMER):
         self.folder, self.list = folder, os.path.join(folder, "ads.hosts")
-        self.write("lists", b"# lists\n\nads.hosts http://127.0.0.1:%d/%s  # ads\n" % (port, path.encode()))
+        line = "# lists\n\nads.hosts http://127.0.0.1:%d/%s  # ads\n" % (port, path)
+        self.write("lists", line.encode())
         if former is not None:
             self.write("ads.hosts", former)
         ListServer.asked, ListServer.etag, ListServer.modified, ListServer.text = [], "", "", NEXT
@@ -213,7 +217,8 @@ class Folder:
         return ran.returncode, ran.stdout, ran.stderr
 
     def start(self):
-        return subprocess.Popen([sys.executable, SCRIPT, "lists"], cwd=self.folder, stdout=subprocess.DEVNULL)
+        words = [sys.executable, SCRIPT, "lists"]
+        return subprocess.Popen(words, cwd=self.folder, stdout=subprocess.DEVNULL)
 
     def look(self):
         found = os.stat(self.list)
@@ -242,7 +247,8 @@ def renewed(port):
         told = "ads.hosts: 4 hosts, before 3; 2 added, 1 removed\n"
         check("a changed list", got == (0, told, "") and it.read() == NEXT, got)
         found = os.stat(it.list)
-        check("its mode and owner", (found.st_mode & 0o7777, found.st_uid, found.st_gid) == (0o640, *owner), found)
+        kept = found.st_mode & 0o7777, found.st_uid, found.st_gid
+        check("its mode and owner", kept == (0o640, *owner), kept)
         check("nothing is left", it.left() == [], it.left())
     for path in ("moved", "packed"):
         with folder_of(port, path) as it:
@@ -251,21 +257,28 @@ def renewed(port):
 
 
 def unchanged(port):
-    """A list isn't fetched again as long as its server says that it is the same, and its file is the one that was put there."""
-    for kind, field, value in (("etag", "If-None-Match", '"x-1"'), ("modified", "If-Modified-Since", "Tue, 01 Dec 2026 10:00:00 GMT")):
+    """A list isn't fetched again as long as its server says that it is the same, and its file is
+    the one that was put there."""
+    date = "Tue, 01 Dec 2026 10:00:00 GMT"
+    for kind, field, value in (
+        ("etag", "If-None-Match", '"x-1"'),
+        ("modified", "If-Modified-Since", date),
+    ):
         with folder_of(port) as it:
             setattr(ListServer, kind, value)
             first, look = it.run(), it.look()
-            second = it.run()
-            check("unchanged by %s" % kind, (first[0], second) == (0, (0, "ads.hosts: unchanged\n", "")), (first, second))
+            got = it.run()
+            right = first[0] == 0 and got == (0, "ads.hosts: unchanged\n", "")
+            check("unchanged by %s" % kind, right and it.look() == look, (first, got))
             sent = [fields[field] for fields in ListServer.asked]
-            check("what is asked by %s" % kind, sent == [None, value] and it.look() == look, sent)
+            check("what is asked by %s" % kind, sent == [None, value], sent)
             it.write("ads.hosts", FORMER)
-            third = it.run()
-            check("a list that was changed by hand, by %s" % kind, third[0] == 0 and it.read() == NEXT, third)
+            got = it.run()
+            check("changed by hand, %s" % kind, got[0] == 0 and it.read() == NEXT, got)
     with folder_of(port, former=NEXT) as it:
         look, got = it.look(), it.run()
-        check("the same bytes", got == (0, "ads.hosts: unchanged\n", "") and it.look() == look, got)
+        right = got == (0, "ads.hosts: unchanged\n", "") and it.look() == look
+        check("the same bytes", right, got)
 
 
 # What a server does by which a list is kept, and words of what is said of it.
@@ -291,18 +304,21 @@ def kept(port):
         with folder_of(port, path) as it:
             look = it.look()
             status, out, err = it.run("--seconds", "2" if path == "slow" else "60", "lists")
-            right = err.startswith("lists:3: ads.hosts stays as it was: ") and err.count("\n") == 1 and word in err
-            check("the fault %s" % path, (status, out) == (1, "") and right, (status, out, err))
-            check("the list behind the fault %s" % path, it.read() == FORMER and it.look() == look and not it.left(), it.left())
-    with folder_of(free_port()) as it:
-        got = it.run()
-        check("a server that isn't there", got[0] == 1 and "Failed to connect" in got[2] and it.read() == FORMER, got)
-    with folder_of(port, "missing", former=None) as it:
-        got = it.run()
-        check("no list yet", got[0] == 1 and "ads.hosts isn't there yet: " in got[2] and not os.path.exists(it.list), got)
-    with folder_of(port, former=b"{+block{x}}\nwww.example/path\n") as it:
-        got = it.run()
-        check("another kind of file", got[0] == 1 and "another kind of file" in got[2] and it.read()[:1] == b"{", got)
+            begins = err.startswith("lists:3: ads.hosts stays as it was: ")
+            right = (status, out, err.count("\n")) == (1, "", 1) and begins and word in err
+            check("the fault %s" % path, right, (status, out, err))
+            stays = it.read() == FORMER and it.look() == look and not it.left()
+            check("the list behind the fault %s" % path, stays, it.left())
+    for what, at, path, former, word in (
+        ("a server that isn't there", free_port(), "list", FORMER, "Failed to connect"),
+        ("no list yet", port, "missing", None, "ads.hosts isn't there yet: "),
+        ("another kind of file", port, "list", b"{+block{x}}\n/path\n", "another kind of file"),
+    ):
+        with folder_of(at, path, former) as it:
+            got = it.run()
+            check(what, got[0] == 1 and word in got[2], got)
+            stays = it.read() == former if former else not os.path.exists(it.list)
+            check("what stays: " + what, stays)
 
 
 def chosen(port):
@@ -311,7 +327,8 @@ def chosen(port):
         got = it.run("--check", "lists")
         told = "ads.hosts: 4 hosts, before 3; 2 added, 1 removed\n"
         check("--check", got == (0, told, "") and it.read() == FORMER, got)
-        check("what --check leaves", sorted(os.listdir(it.folder)) == ["ads.hosts", "lists"], os.listdir(it.folder))
+        names = sorted(os.listdir(it.folder))
+        check("what --check leaves", names == ["ads.hosts", "lists"], names)
     with folder_of(port, "short") as it:
         got = it.run("lists", "--smaller", "ads.hosts")
         check("--smaller", got[0] == 0 and it.read() == b"a.example\n", got)
@@ -319,7 +336,8 @@ def chosen(port):
         for words in (["--help"], ["-h"]):
             got = it.run(*words)
             check(words[0], got[0] == 0 and "usage: helmthread-update-lists" in got[1], got)
-        for words in (["--bad", "lists"], ["--seconds", "0", "lists"], ["--seconds", "x", "lists"], ["--check"]):
+        seconds = [["--seconds", number, "lists"] for number in ("0", "x")]
+        for words in (["--bad", "lists"], ["--check"], *seconds):
             got = it.run(*words)
             check("wrong words", got[0] == 2 and got[2].startswith("usage: "), got)
         got = it.run("lists", "b.hosts")
@@ -350,7 +368,8 @@ def wrong_lines(port):
         right = "ads.hosts http://127.0.0.1:%d/list\n" % port
         it.write("lists", (right + "".join(line + "\n" for line, _ in WRONG_LINES)).encode())
         status, out, err = it.run()
-        check("the list beside wrong lines", status == 1 and out.startswith("ads.hosts: 4 hosts") and it.read() == NEXT, (status, out))
+        right = status == 1 and out.startswith("ads.hosts: 4 hosts") and it.read() == NEXT
+        check("the list beside wrong lines", right, (status, out))
         told = err.splitlines()
         for number, ((line, word), said) in enumerate(zip(WRONG_LINES, told), 2):
             check("the line " + line, said.startswith("lists:%d: " % number) and word in said, said)
@@ -365,23 +384,29 @@ def script():
     return made
 
 
+# A limit, a value of it, and whether the list below comes within it beside the other one.
+LIMITS = [("MOST_HOSTS", 5, False), ("MOST_HOSTS", 6, True)]
+LIMITS += [("MOST_BYTES", 73, False), ("MOST_BYTES", 74, True)]
+
+
 def limits(port):
     """All lists together have no more than the program reads; here with small limits."""
-    for name, most, holds in (("MOST_HOSTS", 5, False), ("MOST_HOSTS", 6, True), ("MOST_BYTES", 73, False), ("MOST_BYTES", 74, True)):
+    for name, most, holds in LIMITS:
         with folder_of(port) as it:
             it.write("b.hosts", b"x.example\ny.example # again\n")
-            lists = b"ads.hosts http://127.0.0.1:%d/list\nb.hosts http://127.0.0.1:%d/missing\n" % (port, port)
-            it.write("lists", lists)
-            module = script()
+            lists = "ads.hosts http://127.0.0.1:%d/list\nb.hosts http://127.0.0.1:1/\n" % port
+            module, said = script(), io.StringIO()
             setattr(module, name, most)
-            with contextlib.redirect_stdout(io.StringIO()), contextlib.redirect_stderr(io.StringIO()) as said:
-                status = module.run(lists.decode(), module.words_of([os.path.join(it.folder, "lists"), "ads.hosts"]))
+            words = module.words_of([os.path.join(it.folder, "lists"), "ads.hosts"])
+            with contextlib.redirect_stdout(said), contextlib.redirect_stderr(said):
+                status = module.run(lists, words)
             right = (status, it.read()) == ((0, NEXT) if holds else (1, FORMER))
-            check("%s %d" % (name, most), right and ("all lists together have 6 hosts" in said.getvalue()) != holds, said.getvalue())
+            is_told = "all lists together have 6 hosts and 74 bytes" in said.getvalue()
+            check("%s %d" % (name, most), right and is_told != holds, said.getvalue())
 
 
 def killed(port):
-    """A script that is killed leaves the former list or the new one, whole; the next run goes on from there."""
+    """A script that is killed leaves a whole list, and the next run goes on."""
     with folder_of(port, "slow") as it:
         ListServer.goes_on.clear()
         run = it.start()
@@ -391,7 +416,8 @@ def killed(port):
         run.kill()
         run.wait()
         ListServer.goes_on.set()
-        check("the list behind a kill", it.read() == FORMER and it.left() == [".ads.hosts.new"], it.left())
+        right = it.read() == FORMER and it.left() == [".ads.hosts.new"]
+        check("the list behind a kill", right, it.left())
         got = it.run()
         check("the run behind a kill", got[0] == 0 and it.read() == NEXT and not it.left(), got)
     dice = random.Random(1)
@@ -415,13 +441,17 @@ def update():
 
 REASONS = {"first.hosts": "On the first list.", "second.hosts": "On the second list."}
 LET_THROUGH = 20
-# How many clients ask at once; and how many hosts are asked for by `show` and by the page that says the same.
+# How many clients ask at once; how many hosts `show` is asked for, and the page that says the same.
 CLIENTS, SHOWN, PAGES = 8, 2, 100
 # How many times a list is replaced under load.
 RELOADS = 6
 # What stands on lines that name no host.
-OTHERS = ["# %s", "! %s", "", "%s##.ad", "@@||%s^", "||%s/path^", "/%s/", "0.0.0.0 localhost", "0.0.0.0", "||%s^$third-party"]
-FORMS = ["0.0.0.0 %s", "127.0.0.1\t%s # x", ":: %s", "%s", " %s ", "||%s^", "||%s^$important,all", "*.%s", ".%s", "%s\r"]
+OTHERS = ["# %s", "! %s", "%s##.ad", "@@||%s^", "||%s/path^", "/%s/", "||%s^$third-party"]
+OTHERS += ["", "0.0.0.0 localhost", "0.0.0.0"]
+# And what stands for a host.
+FORMS = ["0.0.0.0 %s", "127.0.0.1\t%s # x", ":: %s", "%s", " %s ", "%s\r"]
+FORMS += ["||%s^", "||%s^$important,all", "*.%s", ".%s"]
+HEAD = b"HTTP/1.1 200 OK\r\nContent-Type: application/json\r\nContent-Length: 6\r\n\r\n"
 
 
 class Net(http.server.BaseHTTPRequestHandler):
@@ -433,7 +463,7 @@ class Net(http.server.BaseHTTPRequestHandler):
         pass
 
     def do_GET(self):
-        self.wfile.write(b"HTTP/1.1 200 OK\r\nContent-Type: application/json\r\nContent-Length: 6\r\n\r\npassed")
+        self.wfile.write(HEAD + b"passed")
 
     def do_CONNECT(self):
         self.wfile.write(b"HTTP/1.1 200 Passed\r\n\r\n")
@@ -464,38 +494,44 @@ def made_list(dice, many, words):
 
 
 def names_of(host):
-    """The host and those above it, the longest first, in small letters and without one dot at its end."""
+    """The host and those above it, the longest first, without capitals and a dot at the end."""
     host = host.lower()
     labels = (host[:-1] if host.endswith(".") else host).split(".")
     return [".".join(labels[at:]) for at in range(len(labels))]
 
 
 class Expected:
-    """What is blocked, by plain sets: each list by its name, with the first line of each host, and what is let through."""
+    """What is blocked, by plain sets: each list by its name, with the first line of each host, and
+    what is let through."""
 
     def __init__(self, lists, let_through):
         self.lists, self.let_through = lists, let_through
 
     def reason(self, host):
-        if any(name in self.let_through for name in names_of(host)):
+        names = names_of(host)
+        if any(name in self.let_through for name in names):
             return None
-        blocks = [it for it, first in self.lists.items() if any(name in first for name in names_of(host))]
+        blocks = [it for it, first in self.lists.items() if any(name in first for name in names)]
         return REASONS[blocks[-1]] if blocks else None
 
     def lines(self, host):
         """The lines of lists that name a host: of each list that of the longest name."""
-        found = [(it, next((first[name] for name in names_of(host) if name in first), None)) for it, first in self.lists.items()]
-        return ["%s:%d" % (it, line) for it, line in found if line]
+        out = []
+        for it, first in self.lists.items():
+            found = [first[name] for name in names_of(host) if name in first]
+            out += ["%s:%d" % (it, line) for line in found[:1]]
+        return out
 
 
 def made_asked(dice, many, listed, words):
-    """Hosts to ask for: listed ones, below and above such, ones that end alike, and others; some with capitals or a dot at the end."""
+    """Hosts to ask for: listed ones, below and above such, ones that end alike, and others; some
+    with capitals or a dot at the end."""
     out = []
     for _ in range(many):
-        host = dice.choice(listed)
-        host = dice.choice((host, "x." + host, "x" + host, host.partition(".")[2], made_host(dice, words), "w-%s" % made_host(dice, words)))
-        if "." not in host:
-            host = "www." + host
+        host, other = dice.choice(listed), made_host(dice, words)
+        above = host.partition(".")[2]
+        near = (host, "x." + host, "x" + host, above if "." in above else "www." + above)
+        host = dice.choice((*near, other, "w-" + other))
         out.append(dice.choice((host, host, host, host.upper(), host + ".")))
     return out
 
@@ -509,8 +545,9 @@ class Proxy:
         net = Server(Net).start()
         for name, lines in lists.items():
             self.put(name, lines)
-        named = ["host-list %s %s" % it for it in REASONS.items()]
-        self.write("config", ["listen-address 127.0.0.1:%d" % self.port, "forward / 127.0.0.1:%d" % net, *named, "actionsfile user.action"])
+        main = ["listen-address 127.0.0.1:%d" % self.port, "forward / 127.0.0.1:%d" % net]
+        main += ["host-list %s %s" % it for it in REASONS.items()]
+        self.write("config", [*main, "actionsfile user.action"])
         self.write("user.action", ["{-block}", *("." + host for host in let_through)])
         words = [program, "serve", self.config, "32"]
         self.process = subprocess.Popen(words, stderr=subprocess.DEVNULL)
@@ -531,31 +568,22 @@ class Proxy:
 
 
 class Client:
-    """A client that keeps its connection for as long as the proxy does."""
+    """A client that keeps its connection for as long as the proxy does, and then makes another."""
 
     def __init__(self, port):
-        self.port, self.link = port, None
+        self.link = http.client.HTTPConnection("127.0.0.1", port, timeout=WAIT)
 
     def reason(self, host, method="GET"):
-        """The reason for which a host is blocked, or None where it isn't. Anything else is a fault of the proxy's."""
-        if self.link is None:
-            self.link = http.client.HTTPConnection("127.0.0.1", self.port, timeout=WAIT)
+        """The reason for which a host is blocked, or None where it isn't. All else is a fault."""
         self.link.request(method, "http://%s/" % host if method == "GET" else host + ":443")
         answer = self.link.getresponse()
-        body, closes = answer.read(), answer.will_close
-        if closes:
-            self.close()
+        body = answer.read()
         if (answer.status, body) == (200, b"passed" if method == "GET" else b""):
             return None
         found = re.fullmatch(rb"<html><body>blocked: (.*)</body></html>\n", body)
         if answer.status == 403 and found:
             return found[1].decode()
         raise ValueError("%s %s: %d %r" % (method, host, answer.status, body[:200]))
-
-    def close(self):
-        if self.link is not None:
-            self.link.close()
-        self.link = None
 
 
 def reasons(port, hosts, method):
@@ -564,7 +592,7 @@ def reasons(port, hosts, method):
     try:
         return [client.reason(host, method) for host in hosts]
     finally:
-        client.close()
+        client.link.close()
 
 
 def asked(proxy, expected, hosts):
@@ -574,8 +602,9 @@ def asked(proxy, expected, hosts):
         with ThreadPoolExecutor(CLIENTS) as pool:
             found = list(pool.map(lambda part: reasons(proxy.port, part, method), parts))
         pairs = [it for part, them in zip(parts, found) for it in zip(part, them)]
-        wrong = [(host, reason, expected.reason(host)) for host, reason in pairs if reason != expected.reason(host)]
-        check("%d hosts by %s" % (len(pairs), method), len(pairs) == len(hosts) and not wrong, wrong[:5])
+        wrong = [it for it in pairs if it[1] != expected.reason(it[0])]
+        right = len(pairs) == len(hosts) and not wrong
+        check("%d hosts by %s" % (len(pairs), method), right, wrong[:5])
     kinds = {expected.reason(host) for host in hosts}
     check("each reason is among them, and none", kinds == {None, *REASONS.values()}, kinds)
 
@@ -583,30 +612,34 @@ def asked(proxy, expected, hosts):
 def sections(text):
     """The lines of lists among the sections that `show` names."""
     found = re.search(r"^sections:\n((?:.*\n)*?)actions:$", text, re.MULTILINE)
-    return [it for it in found[1].splitlines() if not it.startswith("user.action:")] if found else text
+    lines = found[1].splitlines() if found else [text]
+    return [it for it in lines if not it.startswith("user.action:")]
 
 
 def shown(proxy, expected, hosts):
     """`show`, and the page that says the same, name the lists and the lines."""
     hosts = [host for host in hosts if expected.lines(host)]
     for host in hosts[:SHOWN]:
-        ran = subprocess.run([proxy.program, "show", proxy.config, "http://%s/" % host], capture_output=True, text=True, timeout=600)
-        check("show %s" % host, sections(ran.stdout) == expected.lines(host), (expected.lines(host), ran.stdout, ran.stderr))
+        words = [proxy.program, "show", proxy.config, "http://%s/" % host]
+        ran = subprocess.run(words, capture_output=True, text=True, timeout=600)
+        right = sections(ran.stdout) == expected.lines(host)
+        check("show %s" % host, right, (expected.lines(host), ran.stdout, ran.stderr))
     link, wrong = http.client.HTTPConnection("127.0.0.1", proxy.port, timeout=WAIT), []
     for host in hosts[:PAGES]:
+        # (a connection that the last page has closed is made anew)
         link.request("GET", "http://p.p/show-url-info?url=http://%s/" % host)
         text = link.getresponse().read().decode()
         if sections(text) != expected.lines(host):
             wrong.append((host, expected.lines(host), text))
-        link = link if link.sock else http.client.HTTPConnection("127.0.0.1", proxy.port, timeout=WAIT)
     link.close()
     check("the page on %d hosts" % len(hosts[:PAGES]), not wrong, wrong[:2])
 
 
 def keep_asking(proxy, expected, hosts, until, count):
-    """Asks over connections of its own, one for each host, until it is told to end; counts right answers, and gives wrong ones."""
+    """Asks over connections of its own, one for each host, until it is told to end; counts answers,
+    and gives the wrong ones."""
     wrong = []
-    for host in hosts:
+    for host in itertools.cycle(hosts):
         if until.is_set():
             break
         try:
@@ -619,49 +652,54 @@ def keep_asking(proxy, expected, hosts, until, count):
     return wrong
 
 
-def reloaded(proxy, expected, lines, dice, hosts):
+def reloaded(proxy, expected, lines, hosts):
     """A list is replaced under load: no request fails, and the next connection has the new list."""
     count, until = [], threading.Event()
-    endless = lambda: (dice.choice(hosts) for _ in iter(int, 1))
+    words = proxy, expected, hosts, until, count
     with ThreadPoolExecutor(CLIENTS) as pool:
-        clients = [pool.submit(keep_asking, proxy, expected, endless(), until, count) for _ in range(CLIENTS)]
+        clients = [pool.submit(keep_asking, *words) for _ in range(CLIENTS)]
         try:
             for number in range(RELOADS):
-                host = "new-%d.reload.example" % number
+                replaced(proxy, lines, "new-%d.reload.example" % number)
                 before = len(count)
-                proxy.put("second.hosts", [*lines, host])
-                got = reasons(proxy.port, ["x." + host], "GET")
-                check("the next connection behind a change", got == [REASONS["second.hosts"]], got)
-                proxy.put("second.hosts", lines)
-                got = reasons(proxy.port, ["x." + host], "GET")
-                check("the next connection behind the change back", got == [None], got)
-                check("requests go on", comes(WAIT, lambda: len(count) > before + CLIENTS), len(count))
+                check("requests go on", comes(WAIT, lambda: len(count) > before + CLIENTS))
         finally:
             until.set()
         wrong = [it for client in clients for it in client.result()]
     check("%d requests while a list is replaced" % len(count), not wrong, wrong[:5])
 
 
+def replaced(proxy, lines, host):
+    """A list with a further host takes the place of another, and that one its."""
+    for more, reason in (([host], REASONS["second.hosts"]), ([], None)):
+        proxy.put("second.hosts", lines + more)
+        got = reasons(proxy.port, ["x." + host], "GET")
+        check("the next connection behind a change", got == [reason], got)
+
+
 def served(program, many, many_asked):
     dice = random.Random(2)
-    words = ["w%d" % number for number in range(max(many // 8, 20))] + ["ad-s", "Tracker", "a_b", "xn--bcher-kva", "1", "22"]
+    words = ["w%d" % number for number in range(max(many // 8, 20))]
+    words += ["ad-s", "Tracker", "a_b", "xn--bcher-kva", "1", "22"]
     made = {name: made_list(dice, many // 2, words) for name in REASONS}
     listed = [host for _, first in made.values() for host in first]
     let_through = set(dice.sample(listed, LET_THROUGH))
     expected = Expected({name: first for name, (_, first) in made.items()}, let_through)
     hosts = made_asked(dice, many_asked, listed, words) + ["y." + host for host in let_through]
     with tempfile.TemporaryDirectory() as folder:
-        proxy = Proxy(program, folder, {name: lines for name, (lines, _) in made.items()}, let_through)
+        lists = {name: lines for name, (lines, _) in made.items()}
+        proxy = Proxy(program, folder, lists, let_through)
         try:
             asked(proxy, expected, hosts)
             shown(proxy, expected, hosts)
-            reloaded(proxy, expected, made["second.hosts"][0], dice, hosts)
+            reloaded(proxy, expected, lists["second.hosts"], hosts)
         finally:
             proxy.end()
 
 
 def main():
-    parser = argparse.ArgumentParser(description=__doc__, formatter_class=argparse.RawDescriptionHelpFormatter)
+    plain = argparse.RawDescriptionHelpFormatter
+    parser = argparse.ArgumentParser(description=__doc__, formatter_class=plain)
     parser.add_argument("--hosts", type=int, default=20000)
     parser.add_argument("--asked", type=int, default=2000)
     parser.add_argument("programs", nargs="*", metavar="PROGRAM")
