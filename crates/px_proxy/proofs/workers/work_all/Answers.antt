@@ -9,3 +9,7 @@ for_each_mut-requires-sync-F g c κs _ = param_sync 2 (lts.arg-0-2 g.row.N g.row
 
 pub for_each_mut-requires-send-T : goal.for_each_mut-requires-send-T
 for_each_mut-requires-send-T g c κs _ = search (sendable, crosses, idle_send) depth 60
+
+pub for_each_mut-requires-clause-accepts : goal.for_each_mut-requires-clause-accepts
+for_each_mut-requires-clause-accepts g c κs within = λ i p less at.
+    (search sendable depth 40, (search sendable depth 40, (search sendable depth 40, (search sendable depth 40, (search sendable depth 40, (search sendable depth 40, (search sendable depth 40, (search sendable depth 40, (search sendable depth 40, (search sendable depth 40))))))))))
