@@ -1,4 +1,4 @@
-use denote.Param.Send.{sendable, param_sync, struct_sync}
+use denote.Param.Send.{sendable, param_sync}
 use Rattle.std.proofs.Crossing.{crosses, sync}
 use Rattle.px_proxy.proofs.Crossing.{idle_send, shared_send}
 use Rattle.px_proxy.proofs.workers.work_all.Lts as lts
@@ -9,3 +9,9 @@ for_each_mut-requires-sync-F g c κs _ = param_sync 2 (lts.arg-0-2 g.row.N g.row
 
 pub for_each_mut-requires-send-T : goal.for_each_mut-requires-send-T
 for_each_mut-requires-send-T g c κs _ = search (sendable, crosses, idle_send) depth 60
+
+-- what crosses threads by the bounds of the types, for the closure's clause and for the types of what it calls
+pub for_each_mut-requires-clause-accepts : goal.for_each_mut-requires-clause-accepts
+for_each_mut-requires-clause-accepts g c κs within = λ i p less at. (
+    (search sendable depth 40, search sendable depth 40, search sendable depth 40, search sendable depth 40, search sendable depth 40, search sendable depth 40, search sendable depth 40, search sendable depth 40, search sendable depth 40, search sendable depth 40),
+    (search sendable depth 40, search sendable depth 40, search sendable depth 40, search sendable depth 40, search sendable depth 40, search sendable depth 40, search sendable depth 40, search sendable depth 40, search sendable depth 40, search sendable depth 40, search sendable depth 40, search sendable depth 40, search sendable depth 40, search sendable depth 40, search sendable depth 40, search sendable depth 40))
