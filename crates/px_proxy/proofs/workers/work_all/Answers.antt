@@ -13,5 +13,6 @@ for_each_mut-requires-send-T g c κs _ = search (sendable, crosses, idle_send) d
 -- what crosses threads by the bounds of the types, for the closure's clause and for the types of what it calls
 pub for_each_mut-requires-clause-accepts : goal.for_each_mut-requires-clause-accepts
 for_each_mut-requires-clause-accepts g c κs within = λ i p less at. (
-    (search sendable depth 40, search sendable depth 40, search sendable depth 40, search sendable depth 40, search sendable depth 40, search sendable depth 40, search sendable depth 40, search sendable depth 40, search sendable depth 40, search sendable depth 40),
-    (search sendable depth 40, search sendable depth 40, search sendable depth 40, search sendable depth 40, search sendable depth 40, search sendable depth 40, search sendable depth 40, search sendable depth 40, search sendable depth 40, search sendable depth 40, search sendable depth 40, search sendable depth 40, search sendable depth 40, search sendable depth 40, search sendable depth 40, search sendable depth 40))
+  (search sendable depth 40, search sendable depth 40, search sendable depth 40, search sendable depth 40, search sendable depth 40, search sendable depth 40, search sendable depth 40, search sendable depth 40, search sendable depth 40, search sendable depth 40),
+  (search sendable depth 40, search sendable depth 40, search sendable depth 40, search sendable depth 40, search sendable depth 40, search sendable depth 40, search sendable depth 40, search sendable depth 40, search sendable depth 40, search sendable depth 40, search sendable depth 40, search sendable depth 40, search sendable depth 40, search sendable depth 40, search sendable depth 40, search sendable depth 40),
+)
