@@ -129,12 +129,13 @@ impl Files for MemFiles {
       steady = length m.fails.items == 0;
     } };
 
-    fn turn(&mut self) {
+    fn turn(&mut self) -> bool {
         self.turn_count = self.turn_count.saturating_add(1);
         if self.states.len() > 0 && self.at < self.states.len() - 1 {
             self.at += 1;
             self.puts.clear();
         }
+        true
     }
 
     fn read(&mut self, name: &str, limit: u64) -> Result<Content, FilesFault> {
