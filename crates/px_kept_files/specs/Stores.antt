@@ -1,14 +1,27 @@
--- What is so of the files that are kept.
-use Rattle.std.specs.Prelude.{◌≡◌, ◌≤◌, true, length, Some}
+-- What is so of the names that were asked.
+use Rattle.std.specs.Prelude.{◌≡◌, ℕ, ◌≤◌, true, List, length, Option, Some, None, IfSome, IsSomeAnd}
 use Rattle.px_kept_files.specs.Readings.{last_reading}
 use Rattle.px_kept_files.specs.Stamps.{is_settled}
+use Rattle.px_kept_files.specs.declared.looks.Look.{Look}
+use Rattle.px_kept_files.specs.declared.looks.Look.TheVariants as look
 use Rattle.px_kept_files.specs.declared.readings.Readings.{Readings}
-use Rattle.px_kept_files.specs.declared.stores.KeptFile.{KeptFile}
+use Rattle.px_kept_files.specs.declared.stores.AskedFile.{AskedFile}
+use Rattle.px_kept_files.specs.declared.stores.SeenFile.{SeenFile}
 
--- a file that is kept: its bytes are all that the newest reading of its name gave, when it looked so; a change since would have
--- changed that; and there are few of them
-pub record IsKeptAsRead (readings : Readings) (kept : KeptFile) : Type 0 where
-  pub last : last_reading readings kept.name ≡ Some (record { begun = kept.begun; stamp = Some kept.stamp; bytes = kept.bytes })
-  pub settled : is_settled kept.stamp kept.begun ≡ true
-  pub whole : kept.stamp.size ≡ length kept.bytes
-  pub short : length kept.bytes ≤ 1048576
+-- the look that tells that a name holds what it held when it was asked
+abbrev pub look_of : Option SeenFile → Look
+look_of None = look.Missing
+look_of (Some seen) = look.Stamp seen.stamp
+
+-- the bytes that are kept are all that was read, and they are few
+abbrev pub AreBytes : List ℕ → Option (List ℕ) → Type 0
+AreBytes bytes kept = IfSome kept (λ b. (b ≡ bytes) × (length b ≤ 1048576))
+
+-- the newest reading of a name gave its bytes whole, when the file looked so; a change since would have changed that
+abbrev pub IsSeenAsRead : Readings → List ℕ → SeenFile → Type 0
+IsSeenAsRead readings name seen = IsSomeAnd (last_reading readings name)
+    (λ r. (r.stamp ≡ Some seen.stamp) × ((is_settled seen.stamp r.begun ≡ true) × ((seen.stamp.size ≡ length r.bytes) × AreBytes r.bytes seen.bytes)))
+
+-- a name that was asked: it was missing, or was read so
+abbrev pub IsKeptAsRead : Readings → AskedFile → Type 0
+IsKeptAsRead readings kept = IfSome kept.seen (IsSeenAsRead readings kept.name)

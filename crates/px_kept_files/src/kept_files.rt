@@ -1,24 +1,25 @@
 // The files of the system, of which those that were read are kept.
-ghost use Rattle.std.specs.Prelude.{◌≡◌, ◌≤◌, IfErr, IfOk, IfSome, length, Some};
+ghost use Rattle.std.specs.Prelude.{◌≡◌, ◌≤◌, ℕ, List, IfErr, IfOk, IfSome, length, Some};
 ghost use Rattle.px_base.specs.Causes.{Rose};
 ghost use Rattle.px_base.specs.Contents.{FilesCause, FilesGoOn, FilesState, FitsLimit, ReadsFile, content_of, untold_files};
 ghost use Rattle.px_kept_files.specs.Readings.{IsFoundAs, IsLastRead, ReadsOnly};
 ghost use Rattle.px_kept_files.specs.Contents.{FitsReading};
 ghost use Rattle.px_kept_files.specs.Lookings.{GivenByLook};
-ghost use Rattle.px_kept_files.specs.Stores.{IsKeptAsRead};
+ghost use Rattle.px_kept_files.specs.Stores.{IsSeenAsRead};
 
+use crate::looks::{Look, is_missing, look_at};
 use crate::readings::Readings;
 use crate::stamps::FileStamp;
-use crate::stores::{FileStore, KeptFile};
+use crate::stores::{FileStore, SeenFile};
 use crate::wholes::{ReadFault, read_whole};
 use px_base::{Clock, Content, DiskFiles, Files, FilesFault, SystemClock, Text};
 use std::alloc::Global;
 use std::fs::{File, OpenFile};
-use std::io::ErrorKind;
-use std::{fs, io, rt};
+use std::rt;
 
 /// The files of the system. The bytes of a file that was read are kept with its look, and given again where it looks so still: it is
-/// neither opened nor read then. What no name asked for between two turns is let go.
+/// neither opened nor read then. At a turn each name that was asked since the turn before is looked at: where all look as they did,
+/// the turn answers that nothing changed, and they count as asked. Else what no name asked for between two turns is let go.
 #[derive(Drop)]
 pub struct KeptFiles<'r, R> {
     rt: &'r R,
@@ -29,37 +30,6 @@ pub struct KeptFiles<'r, R> {
     read_faults: u64,
     reads: u64,
     turns: u64,
-}
-
-/// What a look at a name gives.
-enum Look {
-    /// There is no file of that name.
-    Missing,
-    Stamp(FileStamp),
-    /// No stamp: it isn't a regular file, or it can't be looked at.
-    Unknown,
-}
-
-/// Whether a file that can't be had isn't there: there is none of that name, or a part of its path is no folder.
-fn is_missing(kind: ErrorKind) -> bool {
-    kind == ErrorKind::NotFound || kind == ErrorKind::NotADirectory
-}
-
-/// Looks at a name, and opens nothing.
-fn look_at<R: rt::Files>(rt: &R, name: &str) -> Look {
-    match fs::metadata(rt, name) {
-        Ok(metadata) => match FileStamp::of(&metadata) {
-            Some(stamp) => Look::Stamp(stamp),
-            None => Look::Unknown,
-        },
-        Err(error) => {
-            if is_missing(error.kind()) {
-                Look::Missing
-            } else {
-                Look::Unknown
-            }
-        }
-    }
 }
 
 /// How an open file looks.
@@ -116,20 +86,33 @@ fn read_file<R: rt::Files>(
     }
 }
 
-/// The content of a file that is kept.
+/// The content of a file that was seen, if it looks so still and its bytes are kept.
 #[tactic(auto, using(crate::proofs::StoreLemmas::read_as))]
-fn kept_content(alloc: Global, kept: &KeptFile, limit: u64) -> Result<Content, FilesFault>
-    ensures content { IfOk result (λ c. c ≡ content_of limit (Some kept.now.bytes)) }
-    ensures last { (readings : Readings) → IsKeptAsRead readings kept.now → IfOk result (IsLastRead readings kept.now.name) }
-    ensures found { (readings : Readings) → IsKeptAsRead readings kept.now → IfOk result (IsFoundAs readings kept.now.name kept.now.stamp) }
-    ensures mem { IfErr result (λ fault. fault ≡ FilesFault.Mem) }
+fn kept_content(
+    alloc: Global,
+    seen: &SeenFile,
+    stamp: FileStamp,
+    limit: u64,
+) -> Option<Result<Content, FilesFault>>
+    ensures looks { IfSome result (λ _. seen.now.stamp ≡ stamp) }
+    ensures content { IfSome seen.now.bytes (λ bytes. IfSome result (λ r. IfOk r (λ c. c ≡ content_of limit (Some bytes)))) }
+    ensures last { (readings : Readings) → (name : List ℕ) → IsSeenAsRead readings name seen.now → IfSome result (λ r. IfOk r (IsLastRead readings name)) }
+    ensures found { (readings : Readings) → (name : List ℕ) → IsSeenAsRead readings name seen.now → IfSome result (λ r. IfOk r (IsFoundAs readings name stamp)) }
+    ensures fits { IfSome result (λ r. IfOk r (FitsLimit limit)) }
+    ensures mem { IfSome result (λ r. IfErr r (λ fault. fault ≡ FilesFault.Mem)) }
 {
-    if kept.bytes.len() as u64 > limit {
-        return Ok(Content::Over);
+    let Some(bytes) = &seen.bytes else {
+        return None;
+    };
+    if seen.stamp != stamp {
+        return None;
     }
-    match Text::from_bytes(alloc, kept.bytes.as_bytes()) {
-        Ok(bytes) => Ok(Content::Found(bytes)),
-        Err(_) => Err(FilesFault::Mem),
+    if bytes.len() as u64 > limit {
+        return Some(Ok(Content::Over));
+    }
+    match Text::from_bytes(alloc, bytes.as_bytes()) {
+        Ok(bytes) => Some(Ok(Content::Found(bytes))),
+        Err(_) => Some(Err(FilesFault::Mem)),
     }
 }
 
@@ -171,14 +154,17 @@ impl<'r, R: rt::Files> KeptFiles<'r, R> {
     {
         let kept = self.store.take(name.as_bytes());
         match look {
-            Look::Missing => Some(Ok(Content::Missing)),
+            Look::Missing => {
+                self.store.put_missing(name.as_bytes());
+                Some(Ok(Content::Missing))
+            }
             Look::Unknown => None,
             Look::Stamp(stamp) => {
                 let kept = kept?;
-                if kept.stamp != stamp {
+                let Some(seen) = &kept.seen else {
                     return None;
-                }
-                let content = kept_content(self.alloc, &kept, limit);
+                };
+                let content = kept_content(self.alloc, seen, stamp, limit)?;
                 self.store.put(kept);
                 Some(content)
             }
@@ -197,9 +183,14 @@ impl<'r, R: rt::Files> KeptFiles<'r, R> {
         ensures turns { self.new.turns ≡ self.old.turns }
     {
         let Ok(copy) = Text::from_bytes(self.alloc, name.as_bytes()) else {
+            self.store.lose();
             return Err(FilesFault::Mem);
         };
-        match read_file(self.rt, self.alloc, name, limit) {
+        let reading = read_file(self.rt, self.alloc, name, limit);
+        if !matches!(reading, Ok(Reading::Whole { .. })) {
+            self.store.lose();
+        }
+        match reading {
             Ok(Reading::Whole { bytes, stamp }) => {
                 self.store.add(copy, stamp, &bytes, begun);
                 Ok(Content::Found(bytes))
@@ -218,9 +209,13 @@ impl<'r, R: rt::Files> KeptFiles<'r, R> {
 impl<'r, R: rt::Files + rt::Clock + Sync> Files for KeptFiles<'r, R> {
     ghost state = { λ f. untold_files f.read_faults (⟦<DiskFiles<'r, R> as Files>⟧.state f.disk).put_faults (⟦<DiskFiles<'r, R> as Files>⟧.state f.disk).puts f.reads f.turns };
 
-    fn turn(&mut self) {
+    fn turn(&mut self) -> bool {
         self.turns = self.turns.saturating_add(1);
+        if self.store.is_still(self.rt) {
+            return false;
+        }
         self.store.turn();
+        true
     }
 
     fn read(&mut self, name: &str, limit: u64) -> Result<Content, FilesFault>

@@ -2,6 +2,7 @@
 #![tactic(auto)]
 
 mod kept_files;
+mod looks;
 mod readings;
 mod stamps;
 mod stores;

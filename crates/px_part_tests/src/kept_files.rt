@@ -165,6 +165,10 @@ const CHANGED: &str = "px_kept_files-changed";
 
 const UNASKED: &str = "px_kept_files-unasked";
 
+const BESIDE: &str = "px_kept_files-beside";
+
+const LONG: &str = "px_kept_files-long";
+
 /// Writes a file, so much later than it was last written that the system's times differ.
 fn write<R: rt::Files + rt::Clock + Abort>(rt: &R, name: &str, bytes: &str) {
     sleep(rt, Duration::from_millis(40));
@@ -201,15 +205,16 @@ fn a_file_that_looks_the_same_is_opened_once(rt: HostRuntime) {
         read(&watched, &mut files, SAME, 10, "first"),
         (true, 1),
     );
-    files.turn();
+    same(&rt, files.turn(), false);
     same(
         &rt,
         read(&watched, &mut files, SAME, 10, "first"),
         (true, 0),
     );
     same(&rt, read(&watched, &mut files, SAME, 4, "OVER"), (true, 0));
-    files.turn();
+    same(&rt, files.turn(), false);
     write(&rt, SAME, "other");
+    same(&rt, files.turn(), true);
     same(
         &rt,
         read(&watched, &mut files, SAME, 10, "other"),
@@ -253,13 +258,15 @@ fn a_file_that_is_gone_is_missing_until_it_is_back(rt: HostRuntime) {
         (true, 1),
     );
     holds(&rt, fs::remove_file(&rt, REMOVED).is_ok(), "it goes");
-    files.turn();
+    same(&rt, files.turn(), true);
     same(
         &rt,
         read(&watched, &mut files, REMOVED, 10, "MISSING"),
         (true, 0),
     );
+    same(&rt, files.turn(), false);
     write(&rt, REMOVED, "again");
+    same(&rt, files.turn(), true);
     same(
         &rt,
         read(&watched, &mut files, REMOVED, 10, "again"),
@@ -270,6 +277,7 @@ fn a_file_that_is_gone_is_missing_until_it_is_back(rt: HostRuntime) {
         read(&watched, &mut files, "/", 10, "FAILED"),
         (true, 1),
     );
+    same(&rt, files.turn(), true);
     holds(&rt, fs::remove_file(&rt, REMOVED).is_ok(), "it goes");
 }
 
@@ -282,12 +290,14 @@ fn a_file_that_was_just_written_is_read_again(rt: HostRuntime) {
         same(&rt, read(&watched, &mut files, YOUNG, 10, bytes), (true, 1));
         same(&rt, read(&watched, &mut files, YOUNG, 10, bytes), (true, 1));
     }
+    same(&rt, files.turn(), true);
     watched.ahead.store(AHEAD, Ordering::SeqCst);
     same(
         &rt,
         read(&watched, &mut files, YOUNG, 10, "other"),
         (true, 1),
     );
+    same(&rt, files.turn(), false);
     same(
         &rt,
         read(&watched, &mut files, YOUNG, 10, "other"),
@@ -331,12 +341,48 @@ fn a_file_that_isn_t_asked_for_a_turn_is_let_go(rt: HostRuntime) {
         read(&watched, &mut files, UNASKED, 10, "first"),
         (true, 1),
     );
-    files.turn();
-    files.turn();
+    for bytes in ["one", "another"] {
+        write(&rt, BESIDE, bytes);
+        same(
+            &rt,
+            read(&watched, &mut files, BESIDE, 10, bytes),
+            (true, 1),
+        );
+        write(&rt, BESIDE, "new");
+        same(&rt, files.turn(), true);
+    }
     same(
         &rt,
         read(&watched, &mut files, UNASKED, 10, "first"),
         (true, 1),
     );
     holds(&rt, fs::remove_file(&rt, UNASKED).is_ok(), "it goes");
+    holds(&rt, fs::remove_file(&rt, BESIDE).is_ok(), "it goes");
+}
+
+#[test]
+fn a_file_of_more_than_a_mebibyte_is_read_once_for_all_turns_that_leave_it(rt: HostRuntime) {
+    let watched = watching(&rt, AHEAD);
+    let mut files = KeptFiles::new(rt.alloc(), &watched);
+    let mut bytes = String::new(rt.alloc());
+    for _ in 0..65_537 {
+        bytes.push_str("0123456789abcdef").expect(&rt, "memory");
+    }
+    write(&rt, LONG, bytes.as_str());
+    same(&rt, files.turn(), true);
+    same(
+        &rt,
+        read(&watched, &mut files, LONG, 2_000_000, bytes.as_str()),
+        (true, 1),
+    );
+    same(&rt, files.turn(), false);
+    same(&rt, files.turn(), false);
+    write(&rt, LONG, "short");
+    same(&rt, files.turn(), true);
+    same(
+        &rt,
+        read(&watched, &mut files, LONG, 2_000_000, "short"),
+        (true, 1),
+    );
+    holds(&rt, fs::remove_file(&rt, LONG).is_ok(), "it goes");
 }

@@ -256,7 +256,7 @@ fn files_in_memory_change_at_their_turns(rt: HostRuntime) {
     same(&rt, read(&mut files, "c", 100, "old"), Reading::Wanted);
     same(&rt, read(&mut files, "c", 2, "old"), Reading::Over);
     same(&rt, read(&mut files, "d", 2, ""), Reading::Missing);
-    files.turn();
+    same(&rt, files.turn(), true);
     same(&rt, read(&mut files, "c", 100, "new"), Reading::Wanted);
     same(&rt, read(&mut files, "c", 2, "new"), Reading::Failed);
     same(&rt, files.put("c", b"put"), Ok(()));
