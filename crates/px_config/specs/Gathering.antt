@@ -82,11 +82,11 @@ ReadsEach old new before after = new.reads + length before ≤ old.reads + lengt
 abbrev pub ReadsSet : FilesState → FilesState → List Item → FileSet → Type 0
 ReadsSet old new before set = new.reads + length before ≤ old.reads + (length set.items + length set.lists)
 
--- why files weren't gathered: the count of faults rose in a read, or memory was wanting
+-- why files weren't gathered: the count of faults rose in a read, or memory was wanting and no read had failed
 abbrev pub GatherCause : ℕ → ℕ → LoadFault → Type 0
 GatherCause before now (fault.Spelled file line number) = ⊥
 GatherCause before now (fault.Read file) = Rose before now
-GatherCause before now fault.Mem = Unit {0}
+GatherCause before now fault.Mem = now ≡ before
 
 -- the count is as before where the files were read
 abbrev pub GatherCauses : {T : Type 0} → FilesState → FilesState → Result T LoadFault → Type 0

@@ -16,7 +16,7 @@ IsLoadFault {X} meaning fault.Mem = Unit {0}
 abbrev pub LoadCause : ℕ → ℕ → LoadFault → Type 0
 LoadCause before now (fault.Spelled file line number) = now ≡ before
 LoadCause before now (fault.Read file) = Rose before now
-LoadCause before now fault.Mem = Unit {0}
+LoadCause before now fault.Mem = now ≡ before
 
 abbrev pub LoadCauses : {T : Type 0} → FilesState → FilesState → Result T LoadFault → Type 0
 LoadCauses old new result = MatchResult result (λ _. new.read_faults ≡ old.read_faults) (λ f. LoadCause old.read_faults new.read_faults f)

@@ -1,12 +1,11 @@
 // Reading the files of a configuration.
 ghost use Rattle.std.specs.Prelude.{◌≡◌, ◌≤◌, ◌+◌, ◌++◌, ◌∷◌, [], ℕ, All, Err, IfOk, IfErr, IsTrue, Ok, OnOk, Some, option_copied};
 ghost use Rattle.px_base.specs.Contents.{FilesGoOn, FitsLimit, content_of};
-ghost use Rattle.px_config.specs.Gathering.{GatherCause, GatherCauses, IsReadFault, OnlyReads, ReadsEach, ReadsOneOf, ReadsSet, all_items, all_lists, gathered, item_of, names_behind, names_read, names_with_lists, set_behind, with_files, with_item};
+ghost use Rattle.px_config.specs.Gathering.{GatherCauses, IsReadFault, OnlyReads, ReadsEach, ReadsOneOf, ReadsSet, all_items, all_lists, gathered, item_of, names_behind, names_read, names_with_lists, set_behind, with_files, with_item};
 ghost use Rattle.px_config.specs.MainFiles.{IsMainOf};
 ghost use Rattle.px_config.specs.Names.{places_of, template_names};
 ghost use Rattle.px_config.specs.Parts.{content_lines};
 ghost use Rattle.px_config.specs.Sets.{FitsItem, FitsWithin, all_included};
-ghost use Rattle.px_base.specs.Causes.{Rose};
 
 use crate::contents::content_lines;
 use crate::faults::LoadFault;
@@ -35,23 +34,11 @@ fn read_content<F: Files>(
     ensures only_reads { OnlyReads (F.state files.old) (F.state files.new) }
     ensures go_on { FilesGoOn (F.state files.old) (F.state files.new) }
 {
+    let file = Text::from_bytes(alloc, written)?;
     match files.read(name, limit) {
         Ok(content) => Ok(content),
-        Err(fault) => match fault {
-            FilesFault::Failed => Err(read_fault(alloc, written)),
-            FilesFault::Mem => Err(LoadFault::Mem),
-        },
-    }
-}
-
-/// The fault of a file that couldn't be read.
-fn read_fault(alloc: Global, written: &[u8]) -> LoadFault
-    ensures named { IsReadFault written.now result }
-    ensures cause { (before now : ℕ) → Rose before now → GatherCause before now result }
-{
-    match Text::from_bytes(alloc, written) {
-        Ok(file) => LoadFault::Read { file },
-        Err(_) => LoadFault::Mem,
+        Err(FilesFault::Failed) => Err(LoadFault::Read { file }),
+        Err(FilesFault::Mem) => Err(LoadFault::Mem),
     }
 }
 
