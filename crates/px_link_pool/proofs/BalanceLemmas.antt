@@ -6,6 +6,7 @@ use Rattle.px_link_pool.specs.declared.shelves.KeptLink.{KeptLink}
 use Rattle.px_link_pool.specs.declared.shelves.Shelf.{Shelf}
 use Rattle.px_link_pool.specs.Shelves.{items, in_front, without_first}
 use Rattle.px_link_pool.specs.Balances.{HangsUpOthers, IsBalanced}
+use Rattle.px_link_pool.specs.Pools.{counts_on}
 use Rattle.px_link_pool.proofs.HandingLemmas.{Shelved}
 
 one_more : (n m : ℕ) → IsOneMore n m → m < 2 ^ 64 - 1 → m ≡ n + 1
@@ -65,8 +66,13 @@ hangs_on a b c m n i j k h g e later = record {
 
 -- ---- the balance
 
-pub balanced_first : (d : DialerState) (opened hung_up : ℕ) → d.opened ≡ d.hung_up → opened ≡ 0 → hung_up ≡ 0 → IsBalanced d opened hung_up 0
-balanced_first d opened hung_up e o h = λ a b c d. omega (arith, e, o, h)
+-- a count that goes on from another is one more where its own is
+pub counts_on_more : (first own more : ℕ) → IsOneMore own more → IsOneMore (counts_on first own) (counts_on first more)
+counts_on_more first own more h = omega (arith, h)
+
+-- a pool that was just made keeps none, and counts on from the dialer
+pub balanced_first : (d first : DialerState) → first ≡ d → IsBalanced d (counts_on first.opened 0) (counts_on first.hung_up 0) 0
+balanced_first d first e = rw e (λ a b c f. omega arith)
 
 -- some of the kept links were hung up
 pub balanced_others : (old new : DialerState) (opened hung_up n m : ℕ) → IsBalanced old opened hung_up n → HangsUpOthers old new n m → old.hung_up ≤ new.hung_up → IsBalanced new opened hung_up m

@@ -23,4 +23,4 @@ module _ (K : RattleType) where
 
 module _ (D N I O : RattleType) (d : dialer.Ghosts D.Denot I.Denot O.Denot) (i : source.Ghosts I.Denot) (o : sink.Ghosts O.Denot) (n : base.Ghosts N.Denot) where
   pub pool_send : IsSend D → IsSend N → IsSend I → IsSend O → IsSend (pool.the_row D N I O d i o n)
-  pool_send sd sn si so = declared_send (pool.the_type D N I O d i o n) (search (sendable, crosses) depth 40, (search (sendable, crosses) depth 40, (search (sendable, crosses) depth 40, (search (sendable, crosses, kept_send, shelf_send) depth 40, (search (sendable, crosses) depth 40, (search (sendable, crosses) depth 40, (search (sendable, crosses) depth 40, (search (sendable, crosses) depth 40, (search (sendable, crosses) depth 40, (search (sendable, crosses) depth 40, tt))))))))))
+  pool_send sd sn si so = declared_send (pool.the_type D N I O d i o n) (search (sendable, crosses) depth 40, (search (sendable, crosses) depth 40, (search (sendable, crosses) depth 40, (search (sendable, crosses) depth 40, (search (sendable, crosses, kept_send, shelf_send) depth 40, (search (sendable, crosses) depth 40, (search (sendable, crosses) depth 40, (search (sendable, crosses) depth 40, (search (sendable, crosses) depth 40, (search (sendable, crosses) depth 40, (search (sendable, crosses) depth 40, tt)))))))))))

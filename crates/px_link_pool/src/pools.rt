@@ -9,7 +9,7 @@ ghost use Rattle.px_pool_ends.specs.Outgoings.{outer_sink, inner_sink};
 ghost use Rattle.px_link_pool.specs.Histories.{dials_of, are_due, inner_of, kept_links, all_closed, wanting_count, HistoryTells, AreJudged};
 ghost use Rattle.px_link_pool.specs.Joins.{Joins, dials_over, are_home, inner_at_end};
 ghost use Rattle.px_link_pool.specs.Coming.{MeetsComing};
-ghost use Rattle.px_link_pool.specs.Pools.{pool_state};
+ghost use Rattle.px_link_pool.specs.Pools.{counts_on, pool_state};
 ghost use Rattle.px_link_pool.specs.declared.histories.History.{Start};
 ghost use Rattle.px_link_pool.specs.Balances.{HangsUpOthers, IsBalanced};
 ghost use Rattle.px_link_pool.specs.Shelves.{items};
@@ -27,12 +27,14 @@ use std::marker::PhantomData;
 use std::mem;
 use std::snapshot::Snapshot;
 
-/// A dialer over another one that keeps up to four links that were hung up, and gives them again. The history and what the inner
-/// dialer had dialled before are there for contracts alone, and take no bytes.
+/// A dialer over another one that keeps up to four links that were hung up, and gives them again. The history, what the inner
+/// dialer had dialled before and how it was then are there for contracts alone, and take no bytes.
 pub struct LinkPool<D: LocalDialer, N: Base = Anew> {
     alloc: Global,
     inner: D,
     base: PhantomData<N>,
+    /// The inner dialer as the pool was made.
+    made_over: Snapshot<D>,
     kept: Shelf<KeptLink<D::In, D::Out>>,
     history: Past<D::In, D::Out>,
     link_reads: u64,
@@ -47,26 +49,28 @@ pub struct LinkPool<D: LocalDialer, N: Base = Anew> {
     ghost judged: { IsTrue (D.state inner).tells → ∥ AreJudged history ∥₁ },
     ghost servers: { ForSome N.first (λ d. (D.state inner).through_servers ≡ d.through_servers) },
     ghost coming: { ForSome N.first (λ d. IsTrue (D.state inner).tells → IsTrue (D.state inner).tells_coming → ∥ MeetsComing (record { ins = D.In.state; outs = D.Out.state }) d history (D.state inner).coming ∥₁) },
-    ghost balance: { IsBalanced (D.state inner) opened hung_up (length (items kept)) },
+    ghost balance: { IsBalanced (D.state inner) (counts_on (D.state made_over.value).opened opened) (counts_on (D.state made_over.value).hung_up hung_up) (length (items kept)) },
 }
 
 impl<D: LocalDialer, N: Base> LinkPool<D, N> {
-    /// A pool over a dialer that has hung up as many links as it opened, with no kept links. It takes no memory.
+    /// A pool over a dialer, with no kept links. It takes no memory.
     pub fn new(alloc: Global, inner: D) -> LinkPool<D, N>
         requires base { (D.state inner).dials ≡ N.dialled }
         requires first { ForSome N.first (λ d. D.state inner ≡ d) }
-        requires none_open { (D.state inner).opened ≡ (D.state inner).hung_up }
         ensures inner { result.inner ≡ inner }
+        ensures made_over { result.made_over.value ≡ inner }
         ensures history { result.history ≡ Start }
         ensures no_link_read_failed { result.link_reads ≡ 0 }
         ensures no_link_write_failed { result.link_writes ≡ 0 }
         ensures none_opened { result.opened ≡ 0 }
         ensures none_hung_up { result.hung_up ≡ 0 }
     {
+        let made_over = Snapshot::of(&inner);
         LinkPool {
             alloc,
             inner,
             base: PhantomData,
+            made_over,
             kept: Shelf::Empty,
             history: History::Start,
             link_reads: 0,
@@ -102,13 +106,14 @@ impl<D: LocalDialer, N: Base> LinkPool<D, N> {
         ensures dials { IsTrue (D.state self.inner).tells → (D.state result).dials ≡ all_closed (kept_states D.In.state D.Out.state (items self.kept)) (inner_of N.dialled D.In.state D.Out.state self.history) }
         ensures judged { IsTrue (D.state self.inner).tells → ∥ AreJudged self.history ∥₁ }
         ensures coming { ForSome N.first (λ d. IsTrue (D.state self.inner).tells → IsTrue (D.state self.inner).tells_coming → ∥ MeetsComing (record { ins = D.In.state; outs = D.Out.state }) d self.history (D.state result).coming ∥₁) }
-        ensures balance { IsBalanced (D.state result) self.opened self.hung_up 0 }
+        ensures balance { IsBalanced (D.state result) (counts_on (D.state self.made_over.value).opened self.opened) (counts_on (D.state self.made_over.value).hung_up self.hung_up) 0 }
         ensures goes_on { DialerGoesOn (D.state self.inner) (D.state result) }
     {
         let LinkPool {
             alloc: _,
             mut inner,
             base: _,
+            made_over: _,
             kept,
             history: _,
             link_reads: _,
@@ -123,10 +128,10 @@ impl<D: LocalDialer, N: Base> LinkPool<D, N> {
 
     /// Hangs up the kept links, the oldest first, so that none is kept. As a dialer the pool stays what it was.
     pub fn rest(&mut self)
-        ensures same { pool_state (D.state self.new.inner) self.new.history self.new.link_reads self.new.link_writes self.new.opened self.new.hung_up ≡ pool_state (D.state self.old.inner) self.old.history self.old.link_reads self.old.link_writes self.old.opened self.old.hung_up }
+        ensures same { pool_state (D.state self.new.made_over.value) (D.state self.new.inner) self.new.history self.new.link_reads self.new.link_writes self.new.opened self.new.hung_up ≡ pool_state (D.state self.old.made_over.value) (D.state self.old.inner) self.old.history self.old.link_reads self.old.link_writes self.old.opened self.old.hung_up }
         ensures none_kept { items self.new.kept ≡ [] }
         ensures wanting { self.new.wanting ≡ self.old.wanting }
-        ensures balance { IsBalanced (D.state self.new.inner) self.new.opened self.new.hung_up 0 }
+        ensures balance { IsBalanced (D.state self.new.inner) (counts_on (D.state self.new.made_over.value).opened self.new.opened) (counts_on (D.state self.new.made_over.value).hung_up self.new.hung_up) 0 }
         ensures joined { IsTrue (D.state self.old.inner).tells → (D.state self.new.inner).dials ≡ inner_at_end N.dialled (record { ins = D.In.state; outs = D.Out.state }) self.old.history }
         ensures goes_on { DialerGoesOn (D.state self.old.inner) (D.state self.new.inner) }
     {
@@ -197,7 +202,7 @@ where
 
     type Out = Outgoing<D::In, D::Out>;
 
-    ghost state = { λ p. pool_state (D.state p.inner) p.history p.link_reads p.link_writes p.opened p.hung_up };
+    ghost state = { λ p. pool_state (D.state p.made_over.value) (D.state p.inner) p.history p.link_reads p.link_writes p.opened p.hung_up };
 
     fn dial(
         &mut self,

@@ -9,7 +9,7 @@ use Rattle.px_link_pool.specs.Standing.{kept_state, kept_states}
 use Rattle.px_link_pool.proofs.ComingLemmas.{meets_on, meets_dialled}
 use Rattle.px_link_pool.proofs.StandingLemmas.{TakenOff, taken_by, none_taken_by, ready_parts, again_on, again_new, told_parts, dialled_ok, dialled_err, stands_told, stands_seen}
 use Rattle.px_base.specs.Dials.{LinkState}
-use Rattle.px_link_pool.proofs.BalanceLemmas.{balanced_others, balanced_again, balanced_dialled, balanced_refused}
+use Rattle.px_link_pool.proofs.BalanceLemmas.{counts_on_more, balanced_others, balanced_again, balanced_dialled, balanced_refused}
 use Rattle.px_link_pool.proofs.JoinLemmas.{there_by, same_label, joins_again, joins_dialled, joins_refused, told_by, unknown, fresh_given, tells_seen, joins_seen}
 use mathlib.Core.Logic.{∥∥₁_map}
 use Rattle.px_link_pool.proofs.HandingLemmas.{gone_by, found_by, none_found_by, again_tells, dialled_tells}
@@ -44,7 +44,7 @@ invariant_of-self g c =
       servers = λ d k. c.take_resting-rest.ensures.goes_on.through_servers_same ∙ c.args.self.now.servers d k;
       coming = λ d k. let m = c.args.self.now.coming d k in λ t u. let was = sym c.take_resting-rest.ensures.tells ∙ t in let told = sym c.take_resting-rest.ensures.goes_on.tells_coming_same ∙ u in
           meets_on (record { ins = g.D.In.Source.state; outs = g.D.Out.Sink.state }) d _ _ c.args.self.now.history c.taken_again.result (c.taken_again.ensures.coming (record { ins = g.D.In.Source.state; outs = g.D.Out.Sink.state }) d) (ap (λ x. x.coming) (c.take_resting-rest.ensures.same was)) (m was told);
-      balance = rw c.fill.ensures (balanced_again (g.D.Dialer.state c.take_resting-rest.new.inner) _ _ _ _ (balanced_others _ _ _ _ _ _ c.args.self.now.balance (rw (c.replace-shelf.ensures.value, c.in-Some.is) at c.take_resting-rest.ensures.hung_up) c.take_resting-rest.ensures.goes_on.hung_up_later) c.raised-self.ensures.exact);
+      balance = rw c.fill.ensures (balanced_again (g.D.Dialer.state c.take_resting-rest.new.inner) _ _ _ _ (balanced_others _ _ _ _ _ _ c.args.self.now.balance (rw (c.replace-shelf.ensures.value, c.in-Some.is) at c.take_resting-rest.ensures.hung_up) c.take_resting-rest.ensures.goes_on.hung_up_later) (counts_on_more _ _ _ c.raised-self.ensures.exact));
     }
 
 pub invariant_of-self-in-Ok : goal.invariant_of-self-in-Ok
@@ -71,7 +71,7 @@ invariant_of-self-in-Ok g c =
           meets_dialled (record { ins = g.D.In.Source.state; outs = g.D.Out.Sink.state }) d (g.D.Dialer.state c.take_resting-rest.new.inner) (g.D.Dialer.state c.dial-asked.new.self) c.args.self.now.history c.dialled.result c.args.host.now _ _ _ (c.dialled.ensures.coming (record { ins = g.D.In.Source.state; outs = g.D.Out.Sink.state }) d) (c.take_resting-rest.ensures.goes_on.through_servers_same ∙ e) (c.of-noted.ensures ∙ c.in_ok-name.ensures) c.of-noted_asked.ensures
           (c.dial-asked.ensures.coming asks) (c.dial-asked.ensures.coming_left asks)
           (meets_on (record { ins = g.D.In.Source.state; outs = g.D.Out.Sink.state }) d _ _ c.args.self.now.history c.args.self.now.history (λ left h. h) (ap (λ x. x.coming) (c.take_resting-rest.ensures.same was)) (m was told));
-      balance = rw c.fill.ensures (balanced_dialled (g.D.Dialer.state c.take_resting-rest.new.inner) (g.D.Dialer.state c.dial-asked.new.self) _ _ _ _ (balanced_others _ _ _ _ _ _ c.args.self.now.balance (rw (c.replace-shelf.ensures.value, c.in-None.is) at c.take_resting-rest.ensures.hung_up) c.take_resting-rest.ensures.goes_on.hung_up_later) (rw c.in-Ok.is at c.dial-asked.ensures.cause.opened) c.dial-asked.ensures.cause.hung_up_same c.raised-self-in-Ok.ensures.exact);
+      balance = rw c.fill.ensures (balanced_dialled (g.D.Dialer.state c.take_resting-rest.new.inner) (g.D.Dialer.state c.dial-asked.new.self) _ _ _ _ (balanced_others _ _ _ _ _ _ c.args.self.now.balance (rw (c.replace-shelf.ensures.value, c.in-None.is) at c.take_resting-rest.ensures.hung_up) c.take_resting-rest.ensures.goes_on.hung_up_later) (rw c.in-Ok.is at c.dial-asked.ensures.cause.opened) c.dial-asked.ensures.cause.hung_up_same (counts_on_more _ _ _ c.raised-self-in-Ok.ensures.exact));
     }
 
 pub invariant_of-self-in-Err : goal.invariant_of-self-in-Err

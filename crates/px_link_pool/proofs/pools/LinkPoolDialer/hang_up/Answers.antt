@@ -10,7 +10,7 @@ use Rattle.px_link_pool.proofs.ComingLemmas.{meets_on}
 use Rattle.px_link_pool.proofs.MarkLemmas.{IsLent, lent_by}
 use Rattle.px_link_pool.proofs.StandingLemmas.{told_parts}
 use Rattle.px_link_pool.proofs.HandingLemmas.{shelved_by, handed_by, none_stands, some_told, some_stands, shelved_states, same_kept, handed_tells, closes_some, closes_none, counted_by}
-use Rattle.px_link_pool.proofs.BalanceLemmas.{kept_one, kept_same, balanced_kept, balanced_closed}
+use Rattle.px_link_pool.proofs.BalanceLemmas.{counts_on_more, kept_one, kept_same, balanced_kept, balanced_closed}
 use Rattle.px_link_pool.proofs.JoinLemmas.{joins_back}
 use Rattle.px_link_pool.proofs.pools.LinkPoolDialer.hang_up.Goals as goal
 
@@ -33,7 +33,7 @@ invariant_of-self-in-None g c =
       judged = λ t. ∥∥₁_map (c.args.self.now.judged t) (c.hung_up.ensures.judged (rw (c.of-noted_in.ensures, c.of-noted_out.ensures) (c.handed-link.ensures.judged (lent t).in_tells (lent t).out_tells)));
       servers = c.args.self.now.servers;
       coming = λ d k. let m = c.args.self.now.coming d k in λ t u. meets_on (record { ins = g.D.In.Source.state; outs = g.D.Out.Sink.state }) d _ _ c.args.self.now.history c.hung_up.result (c.hung_up.ensures.coming (record { ins = g.D.In.Source.state; outs = g.D.Out.Sink.state }) d) refl (m t u);
-      balance = balanced_kept (g.D.Dialer.state c.args.self.now.inner) _ _ _ _ _ c.args.self.now.balance c.raised-self-4.ensures.exact (kept_one _ _ _ _ _ shelved c.in-None.is);
+      balance = balanced_kept (g.D.Dialer.state c.args.self.now.inner) _ _ _ _ _ c.args.self.now.balance (counts_on_more _ _ _ c.raised-self-4.ensures.exact) (kept_one _ _ _ _ _ shelved c.in-None.is);
     }
 
 pub hang_up-requires-clause-open : goal.hang_up-requires-clause-open
@@ -73,5 +73,5 @@ invariant_of-self g c =
       judged = λ t. let was = sym c.hang_up.ensures.goes_on.tells_same ∙ t in ∥∥₁_map (c.args.self.now.judged was) (c.hung_up.ensures.judged (rw (c.of-noted_in.ensures, c.of-noted_out.ensures) (c.handed-link.ensures.judged (lent was).in_tells (lent was).out_tells)));
       servers = λ d k. c.hang_up.ensures.goes_on.through_servers_same ∙ c.args.self.now.servers d k;
       coming = λ d k. let m = c.args.self.now.coming d k in λ t u. let was = sym c.hang_up.ensures.goes_on.tells_same ∙ t in let told = sym c.hang_up.ensures.goes_on.tells_coming_same ∙ u in meets_on (record { ins = g.D.In.Source.state; outs = g.D.Out.Sink.state }) d _ _ c.args.self.now.history c.hung_up.result (c.hung_up.ensures.coming (record { ins = g.D.In.Source.state; outs = g.D.Out.Sink.state }) d) (c.hang_up.ensures.hung_up.coming_same told) (m was told);
-      balance = balanced_closed (g.D.Dialer.state c.args.self.now.inner) (g.D.Dialer.state c.hang_up.new.self) _ _ _ _ _ c.args.self.now.balance c.raised-self-4.ensures.exact c.hang_up.ensures.hung_up.hung_up c.hang_up.ensures.hung_up.opened_same (kept_same _ _ _ _ c.in-Some.closing _ shelved c.in-Some.is);
+      balance = balanced_closed (g.D.Dialer.state c.args.self.now.inner) (g.D.Dialer.state c.hang_up.new.self) _ _ _ _ _ c.args.self.now.balance (counts_on_more _ _ _ c.raised-self-4.ensures.exact) c.hang_up.ensures.hung_up.hung_up c.hang_up.ensures.hung_up.opened_same (kept_same _ _ _ _ c.in-Some.closing _ shelved c.in-Some.is);
     }
