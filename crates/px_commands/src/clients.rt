@@ -83,8 +83,8 @@ pub fn made_client(alloc: Global, loaded: Config, tags: &[String]) -> Result<Pas
     })
 }
 
-/// Serves the client over a dialer that has dialled nothing, and of which no link is open: where the configuration says so, over a pool of links of that
-/// dialer, and else each dial is a new link.
+/// Serves the client over a dialer that has dialled nothing: where the configuration says so, over a pool of links of that dialer,
+/// and else each dial is a new link.
 pub fn serve_client<R: Threads + Sync, S: Source, O: Sink, D: Dialer, T: Clock>(
     alloc: Global,
     way: &Way<'_, R>,
@@ -96,7 +96,6 @@ where
     Look: Sees<D::In>,
     requires peer { client.peer.address ≡ codes "127.0.0.1" }
     requires undialled { (D.state dialer).dials ≡ [] }
-    requires none_open { (D.state dialer).opened ≡ (D.state dialer).hung_up }
     ensures serves { ServesClient (record { ins = D.In.state; outs = D.Out.state }) client.sharing client.tags
         (looks_of ⟦<FixedConfig<Config> as Configs>⟧.tells ⟦<FixedConfig<Config> as Configs>⟧.view ⟦<FixedConfig<Config> as Configs>⟧.pair ⟦<FixedConfig<Config> as Configs>⟧.coming client.configs)
         (streams_as S.state O.state T.state streams) (streams_as S.state O.state T.state result.streams) (D.state dialer) (D.state result.dialer) result.end }
@@ -154,7 +153,6 @@ fn serve_ends<R: Threads + Sync, A: Outside>(
 where
     Look: Sees<<A::Dial as Dialer>::In>,
     requires undialled { ends.dialer.dials ≡ [] }
-    requires none_open { ends.dialer.opened ≡ ends.dialer.hung_up }
     ensures serves { ServesEnds (record { ins = A.Dial.In.state; outs = A.Dial.Out.state }) sharing pages.tags
         (looks_of ⟦<FixedConfig<Config> as Configs>⟧.tells ⟦<FixedConfig<Config> as Configs>⟧.view ⟦<FixedConfig<Config> as Configs>⟧.pair ⟦<FixedConfig<Config> as Configs>⟧.coming configs)
         ends result.ends result.end }
@@ -177,7 +175,6 @@ fn share_links<R: Threads + Sync, A: Outside>(
 where
     Look: Sees<<A::Dial as Dialer>::In>,
     requires undialled { ends.dialer.dials ≡ [] }
-    requires none_open { ends.dialer.opened ≡ ends.dialer.hung_up }
     ensures serves { ServesEnds (record { ins = A.Dial.In.state; outs = A.Dial.Out.state }) true pages.tags
         (looks_of ⟦<FixedConfig<Config> as Configs>⟧.tells ⟦<FixedConfig<Config> as Configs>⟧.view ⟦<FixedConfig<Config> as Configs>⟧.pair ⟦<FixedConfig<Config> as Configs>⟧.coming configs)
         ends result.ends result.end }

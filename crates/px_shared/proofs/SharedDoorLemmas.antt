@@ -2,6 +2,7 @@
 use Rattle.std.proofs.Common.{◌≡◌, ℕ, zero, suc, ◌<◌, IsTrue, List, [], ◌∷◌, ◌++◌, length, length-append, drop, map, slice_get, Some, refl, sym, ap, ◌∙◌, arith}
 use mathlib.Core.Logic.{∥∥₁_map}
 use Rattle.px_link_pool.specs.Histories.{Views}
+use Rattle.px_link_pool.specs.Pools.{counts_on}
 use Rattle.px_ends.specs.Ends.{EndsState}
 use Rattle.px_doors.specs.Doors.{DoorsState, DoorsGoesOn, Stays, ConnComes, DoorsEnd}
 use Rattle.px_doors.specs.Parted.{PartedState}
@@ -45,8 +46,8 @@ comes_over old new ps c on h = record {
     no_reach_failed = h.fresh.no_reach_failed;
     no_link_read_failed = refl;
     no_link_write_failed = refl;
-    none_opened = refl;
-    none_hung_up = refl;
+    none_opened = ap (λ (n : ℕ). counts_on n 0) h.fresh.none_opened;
+    none_hung_up = ap (λ (n : ℕ). counts_on n 0) h.fresh.none_hung_up;
     clock = h.fresh.clock;
   };
   mark = record { source = h.mark.source; sink = h.mark.sink; dialer = h.mark.dialer };

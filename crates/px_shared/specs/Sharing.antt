@@ -8,18 +8,21 @@ use Rattle.px_pool_ends.specs.Outgoings.{Sending}
 use Rattle.px_link_pool.specs.Balances.{IsBalanced}
 use Rattle.px_link_pool.specs.Histories.{Views, are_due, wanting_count, AreJudged}
 use Rattle.px_link_pool.specs.Joins.{dials_over, inner_at_end}
+use Rattle.px_link_pool.specs.Pools.{counts_on}
 use Rattle.px_link_pool.specs.declared.histories.History.{History}
 
--- a pool that was just made over a dialer, as a dialer
+-- a pool that was just made over a dialer, as a dialer: how many links its dials gave, and how many were hung up, goes on from the
+-- dialer's counts
 abbrev pub pooled : DialerState → DialerState
-pooled d = record { tells = d.tells; dials = []; tells_coming = false; coming = []; through_servers = false; names = d.names; reach = d.reach; link_reads = 0; link_writes = 0; opened = 0; hung_up = 0; mark = d.mark }
+pooled d = record { tells = d.tells; dials = []; tells_coming = false; coming = []; through_servers = false; names = d.names; reach = d.reach; link_reads = 0; link_writes = 0; opened = counts_on d.opened 0; hung_up = counts_on d.hung_up 0; mark = d.mark }
 
 -- the same ends, with a pool over their dialer that was just made
 abbrev pub pooled_ends : EndsState → EndsState
 pooled_ends e = record { client = e.client; client_out = e.client_out; dialer = pooled e.dialer; clock = e.clock; peer = e.peer }
 
--- The dialer that a pool leaves when it is taken apart: as many of its links are open as of the pool's, so that where the pool's were
--- hung up every one of its own was, unless a count is at its end.
+-- The dialer that a pool leaves when it is taken apart: as many of its links are open as of the pool's, which counts on from the
+-- dialer over which it was made; so where every link of the pool was hung up, as many of its own are open as were then, unless a
+-- count is at its end.
 pub record IsLeftBy (pool inner : DialerState) : Type 0 where
   pub tells : inner.tells ≡ pool.tells
   pub names_later : pool.names ≤ inner.names

@@ -26,13 +26,12 @@ where
     type Time = B::Time;
 }
 
-/// The same ends, with a pool of links over their dialer, which has dialled nothing, and of which no link is open. The pool is made for these ends alone, so
-/// that no link is shared with another client. It takes no memory.
+/// The same ends, with a pool of links over their dialer, which has dialled nothing. The pool is made for these ends alone, so that
+/// no link is shared with another client. It takes no memory.
 pub fn with_pool<B: Outside>(alloc: Global, ends: Ends<B>) -> Ends<Pooled<B>>
 where
     Look: Sees<<B::Dial as Dialer>::In>,
     requires undialled { ends.dialer.dials ≡ [] }
-    requires none_open { ends.dialer.opened ≡ ends.dialer.hung_up }
     ensures { result ≡ pooled_ends ends }
 {
     let Ends {

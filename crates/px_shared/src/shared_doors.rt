@@ -35,8 +35,8 @@ where
     opening: PhantomData<N>,
     partings: Partings<Parted<A::Conn>, LinkPool<<A::Conn as Outside>::Dial>>,
     ghost goes_on: { DoorsGoesOn N.doors (A.state inner) },
-    ghost below: { IsTrue (A.state inner).tells → ∥ EachComesOf (record { ins = ⟦<<<A::Conn as Outside>::Dial as LocalDialer>::In as LocalSource>⟧.state; outs = ⟦<<<A::Conn as Outside>::Dial as LocalDialer>::Out as LocalSink>⟧.state }) (parted_of (over_pool (λ p. pool_state (⟦<<A::Conn as Outside>::Dial as LocalDialer>⟧.state p.inner) p.history p.link_reads p.link_writes p.opened p.hung_up)) partings) (A.state inner).parted ∥₁ },
-    ghost none_lost: { IsTrue (A.state inner).tells → length (parted_of (over_pool (λ p. pool_state (⟦<<A::Conn as Outside>::Dial as LocalDialer>⟧.state p.inner) p.history p.link_reads p.link_writes p.opened p.hung_up)) partings) ≡ length (A.state inner).parted },
+    ghost below: { IsTrue (A.state inner).tells → ∥ EachComesOf (record { ins = ⟦<<<A::Conn as Outside>::Dial as LocalDialer>::In as LocalSource>⟧.state; outs = ⟦<<<A::Conn as Outside>::Dial as LocalDialer>::Out as LocalSink>⟧.state }) (parted_of (over_pool (λ p. pool_state (⟦<<A::Conn as Outside>::Dial as LocalDialer>⟧.state p.made_over.value) (⟦<<A::Conn as Outside>::Dial as LocalDialer>⟧.state p.inner) p.history p.link_reads p.link_writes p.opened p.hung_up)) partings) (A.state inner).parted ∥₁ },
+    ghost none_lost: { IsTrue (A.state inner).tells → length (parted_of (over_pool (λ p. pool_state (⟦<<A::Conn as Outside>::Dial as LocalDialer>⟧.state p.made_over.value) (⟦<<A::Conn as Outside>::Dial as LocalDialer>⟧.state p.inner) p.history p.link_reads p.link_writes p.opened p.hung_up)) partings) ≡ length (A.state inner).parted },
 }
 
 impl<A: Doors, N: Opening + Send> SharedDoors<A, N>

@@ -53,8 +53,7 @@ fn config(rt: &impl Abort, alloc: Global) -> Config {
 
 /// A dialer whose first dial gives a link with two answers that come in those cuts, and whose others aren't reached.
 fn dialer(rt: &impl Abort, alloc: Global, cuts: &[usize]) -> MemDialer
-    ensures none_dialled { (⟦<MemDialer as Dialer>⟧.state result).dials ≡ [] }
-    ensures none_open { (⟦<MemDialer as Dialer>⟧.state result).opened ≡ (⟦<MemDialer as Dialer>⟧.state result).hung_up }
+    ensures { (⟦<MemDialer as Dialer>⟧.state result).dials ≡ [] }
 {
     let mut answers = List::new(alloc);
     answers
@@ -73,8 +72,7 @@ type TwiceConn = Joined<TapeIn, TapeOut, MemDialer, FixedClock>;
 
 /// The ends of a client that asks twice, over such a dialer.
 fn ends(rt: &impl Abort, alloc: Global, cuts: &[usize]) -> Ends<TwiceConn>
-    ensures none_dialled { result.dialer.dials ≡ [] }
-    ensures none_open { result.dialer.opened ≡ result.dialer.hung_up }
+    ensures { result.dialer.dials ≡ [] }
 {
     let asked = twice(rt, alloc, GET);
     let client_in = TapeIn::new(alloc, asked.as_bytes(), &[], &[]).expect(rt, "memory");
@@ -106,7 +104,6 @@ fn over_pool<R: Threads + Sync, A: Outside>(
 where
     Look: Sees<<A::Dial as Dialer>::In>,
     requires undialled { ends.dialer.dials ≡ [] }
-    requires none_open { ends.dialer.opened ≡ ends.dialer.hung_up }
 {
     let mut pooled = with_pool(alloc, ends);
     let session = serve_cold(

@@ -180,7 +180,6 @@ impl Run<'_, '_> {
 
     fn dialer(&self) -> Result<MemDialer, Fault>
         ensures none_dialled { IfOk result (λ d. (⟦<MemDialer as Dialer>⟧.state d).dials ≡ []) }
-        ensures none_open { IfOk result (λ d. (⟦<MemDialer as Dialer>⟧.state d).opened ≡ (⟦<MemDialer as Dialer>⟧.state d).hung_up) }
     {
         let mut answers = List::new(self.alloc);
         for (dial, origin) in self.setup.origins.iter().enumerate() {
@@ -254,7 +253,6 @@ impl Run<'_, '_> {
     /// The ends of a session, with a dialer through SOCKS servers.
     fn ends(&self) -> Result<Ends<CaseConn>, Fault>
         ensures none_dialled { IfOk result (λ ends. ends.dialer.dials ≡ []) }
-        ensures none_open { IfOk result (λ ends. ends.dialer.opened ≡ ends.dialer.hung_up) }
     {
         let input = self.input()?;
         let out = self.output(Device::ClientWrite)?;
@@ -457,7 +455,6 @@ fn share_links<R: Threads + Sync, A: Outside>(
 where
     Look: Sees<<A::Dial as Dialer>::In>,
     requires undialled { ends.dialer.dials ≡ [] }
-    requires none_open { ends.dialer.opened ≡ ends.dialer.hung_up }
 {
     let mut pooled = with_pool(alloc, ends);
     let session = serve_cold(alloc, way, configs, pages, &mut pooled);
