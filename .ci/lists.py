@@ -443,6 +443,9 @@ REASONS = {"first.hosts": "On the first list.", "second.hosts": "On the second l
 LET_THROUGH = 20
 # How many clients ask at once; how many hosts `show` is asked for, and the page that says the same.
 CLIENTS, SHOWN, PAGES = 8, 2, 100
+# How many connections are made over lists that stay; so many seconds behind a change a look tells
+# that a file is the same; the bytes of a file that has more aren't kept.
+CONNECTIONS, SETTLED, MOST_KEPT = 20, 4, 1 << 20
 # How many times a list is replaced under load.
 RELOADS = 6
 # What stands on lines that name no host.
@@ -635,6 +638,25 @@ def shown(proxy, expected, hosts):
     check("the page on %d hosts" % len(hosts[:PAGES]), not wrong, wrong[:2])
 
 
+def bytes_read(process):
+    """How many bytes a process has read so far, of files and of sockets."""
+    with open("/proc/%d/io" % process.pid, encoding="ascii") as file:
+        return int(re.search(r"rchar: (\d+)", file.read())[1])
+
+
+def unread(proxy, hosts):
+    """No connection reads a list that stays as it is, though it is too long to be kept."""
+    size = os.path.getsize(os.path.join(proxy.folder, "first.hosts"))
+    time.sleep(SETTLED)
+    reasons(proxy.port, hosts[:1], "GET")
+    before = bytes_read(proxy.process)
+    for host in hosts[:CONNECTIONS]:
+        reasons(proxy.port, [host], "GET")
+    more = bytes_read(proxy.process) - before
+    right = size > MOST_KEPT and more < size
+    check("%d connections read no list again" % CONNECTIONS, right, (size, more))
+
+
 def keep_asking(proxy, expected, hosts, until, count):
     """Asks over connections of its own, one for each host, until it is told to end; counts answers,
     and gives the wrong ones."""
@@ -682,6 +704,7 @@ def served(program, many, many_asked):
     words = ["w%d" % number for number in range(max(many // 8, 20))]
     words += ["ad-s", "Tracker", "a_b", "xn--bcher-kva", "1", "22"]
     made = {name: made_list(dice, many // 2, words) for name in REASONS}
+    made["first.hosts"][0].extend(["# " + "-" * 1000] * (MOST_KEPT // 1000))
     listed = [host for _, first in made.values() for host in first]
     let_through = set(dice.sample(listed, LET_THROUGH))
     expected = Expected({name: first for name, (_, first) in made.items()}, let_through)
@@ -692,6 +715,7 @@ def served(program, many, many_asked):
         try:
             asked(proxy, expected, hosts)
             shown(proxy, expected, hosts)
+            unread(proxy, hosts)
             reloaded(proxy, expected, lists["second.hosts"], hosts)
         finally:
             proxy.end()

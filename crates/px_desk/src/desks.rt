@@ -97,7 +97,7 @@ impl<F: Files, A: Doors, E: Sink> Model for Desk<F, A, E> {
     ghost use Rattle.px_base.specs.Causes.{Rose};
     ghost use Rattle.px_publish.specs.Published.{published, pair_of};
     ghost use Rattle.px_desk.specs.Facts.{DeskStands, IsClosed};
-    ghost use Rattle.px_desk.specs.Reloads.{loader_as};
+    ghost use Rattle.px_desk.specs.Reloads.{IsCurrent, loader_as};
     ghost use Rattle.px_desk.specs.Desks.{DeskState};
     ghost use Rattle.px_desk.specs.declared.desks.ServeEnd.TheVariants.{DoorsFailed};
 
@@ -127,7 +127,8 @@ impl<F: Files, A: Doors, E: Sink> Model for Desk<F, A, E> {
         (record { files = F.state s.made_files.value; doors = A.state s.made_doors.value; err = E.state s.made_err.value; main = string_bytes s.made_main.value; loaded = s.loaded.value; pair = pair_of s.loader.publisher; most = s.most })
         (record { loader = loader_as F.state E.state s.loader; doors = A.state s.doors; out = s.out.items; counts = s.counts })
         × (s.accepted ≡ (A.state s.doors).accepted)
-        × IsClosed (A.state s.made_doors.value) s.most (A.state s.doors) s.closing };
+        × IsClosed (A.state s.made_doors.value) s.most (A.state s.doors) s.closing
+        × IsCurrent s.loader.current (loader_as F.state E.state s.loader) };
 }
 
 // One reload more.
@@ -165,19 +166,20 @@ impl<F: Files, A: Doors, E: Sink> Desk<F, A, E> {
         ensures closed { IfErr result (λ _. StaysBut (now_of F.state A.state E.state self.old) (now_of F.state A.state E.state self.new)) }
         ensures listens { (A.state self.new.doors).listens_at ≡ (A.state self.old.doors).listens_at }
         ensures again { MatchOption self.old.closing (Unit {0}) (λ e. result ≡ Err e) }
+        ensures full { self.old.closing ≡ None → self.old.most ≤ (A.state self.old.doors).accepted → result ≡ Err ServeEnd.End }
         ensures closing { ClosesBy result self.new.closing }
     {
         if let Some(closing) = self.closing {
             return Err(closing);
+        }
+        if self.accepted >= self.most {
+            return closed(&mut self.closing, ServeEnd::End);
         }
         let Ok(first) = self.loader.publisher.receipt() else {
             return closed(&mut self.closing, ServeEnd::NoMemory);
         };
         if self.out.reserve(1).is_err() {
             return closed(&mut self.closing, ServeEnd::NoMemory);
-        }
-        if self.accepted >= self.most {
-            return closed(&mut self.closing, ServeEnd::End);
         }
         match self.doors.accept() {
             Ok(Some(ends)) => {
@@ -274,6 +276,7 @@ impl<F: Files, A: Doors, E: Sink> Desk<F, A, E> {
                 err,
                 main,
                 remembered: loaded,
+                current: false,
                 publisher,
             },
             doors,
