@@ -1,16 +1,16 @@
 -- The one dial of a route.
-use Rattle.std.proofs.Common.{◌≡◌, ℕ, Bool, IsTrue, true, false, not, ◌==◌, List, [], ◌∷◌, ◌++◌, Ok, ap, ◌∙◌, refl, subst, rules}
+use Rattle.std.proofs.Common.{◌≡◌, ℕ, Bool, IsTrue, true, false, not, ◌==◌, List, [], ◌∷◌, ◌++◌, Ok, Err, ap, ◌∙◌, refl, subst, rules}
 use Rattle.std.specs.Prelude.{MatchBool}
 use Rattle.std.proofs.lemmas.Bool.{or_parts, or_right, or_left, eq-eqb}
 use Rattle.px_base.specs.Causes.{Rose, RisesWith}
 use Rattle.px_base.specs.declared.dials.Dial.{Dial}
+use Rattle.px_base.specs.declared.faults.DialFault.TheVariants as fault
 use Rattle.px_base.specs.declared.dials.DialOutcome.TheVariants as outcome
 use Rattle.px_base.specs.Sources.{SourceState, SourceGoesOn}
 use Rattle.px_base.specs.Sinks.{SinkState}
 use Rattle.px_base.specs.Dials.{DialerState, DialerGoesOn, Met, offers, nameless, unreached, untold, met, coming_behind, IsFresh, IsTold, HangsUp, traffic, Traffic, is_open, is_open_at, finish, closed_dial, agrees}
-use Rattle.px_base.specs.declared.dials.DialOutcome.{DialOutcome}
 use Rattle.px_decide.specs.declared.routes.Route.{Route}
-use Rattle.px_exchange.specs.Forwarding.{link_seen}
+use Rattle.px_exchange.specs.Exchange.{link_seen}
 use Rattle.px_exchange.specs.Dialling.{DialsOnce, DialComes}
 
 -- the last dial is open
@@ -81,7 +81,7 @@ added_once old mid new i i' o' host port tells em unmarked on_in hung =
     en ∙ ap (finish i.mark t) em ∙ finish-last i.mark t d old.dials unmarked (eq-eqb i.mark i.mark refl) ∙ ap (λ (x : Dial). old.dials ++ x ∷ []) seen
 
 -- a dial, a talk over its link, and hanging up
-pub dialed_once : (old mid new : DialerState) (i i' : SourceState) (o o' : SinkState) (route : Route) (Gives : DialOutcome → Type 0)
+pub dialed_once : (old mid new : DialerState) (i i' : SourceState) (o o' : SinkState) (route : Route)
     → IsTrue mid.tells
     → mid.dials ≡ old.dials ++ record { host = route.host; port = route.port; outcome = outcome.Open i.mark i.offered } ∷ []
     → IsTold old (record { link_in = i; link_out = o })
@@ -94,17 +94,38 @@ pub dialed_once : (old mid new : DialerState) (i i' : SourceState) (o o' : SinkS
     → SourceGoesOn i i'
     → (IsTrue o.steady → o'.faults ≡ o.faults)
     → HangsUp mid new i' o'
-    → Gives (outcome.Link (link_seen i' o'))
-    → DialsOnce route Gives old new
-dialed_once old mid new i i' o o' route Gives tells em told fresh agree left lasts_dial lasts_hung stay on_in calm_out hung gives =
+    → DialsOnce route (outcome.Link (link_seen i' o')) old new
+dialed_once old mid new i i' o o' route tells em told fresh agree left lasts_dial lasts_hung stay on_in calm_out hung =
     record {
-      dial = record { host = route.host; port = route.port; outcome = outcome.Link (link_seen i' o') };
       added = added_once old mid new i i' o' route.host route.port tells em told.new_mark on_in hung;
-      to_host = refl;
-      to_port = refl;
-      gives = gives;
       comes = λ c. comes (met old route.host) i i' o o' (agree c) fresh on_in calm_out;
       coming_left = λ c. hung.coming_same (lasts_dial.tells_coming_same ∙ c) ∙ left c;
       goes_on = dialer_goes_on lasts_dial lasts_hung;
       cause = (rises old.link_reads mid.link_reads new.link_reads i'.faults stay.0 hung.link_reads, rises old.link_writes mid.link_writes new.link_writes o'.faults stay.1 hung.link_writes);
     }
+
+-- ---- a dial that was refused
+
+no_name_comes : (m : Met) → agrees m (Err fault.NoName) → DialComes m outcome.NoName
+no_name_comes (offers bytes reads writes) a = absurd a
+no_name_comes nameless a = tt
+no_name_comes unreached a = absurd a
+no_name_comes untold a = tt
+
+not_reached_comes : (m : Met) → agrees m (Err fault.NotReached) → DialComes m outcome.NotReached
+not_reached_comes (offers bytes reads writes) a = absurd a
+not_reached_comes nameless a = absurd a
+not_reached_comes unreached a = tt
+not_reached_comes untold a = tt
+
+pub no_name_once : (old new : DialerState) (route : Route) → new.dials ≡ old.dials ++ record { host = route.host; port = route.port; outcome = outcome.NoName } ∷ []
+    → (IsTrue old.tells_coming → agrees (met old route.host) (Err fault.NoName)) → (IsTrue old.tells_coming → new.coming ≡ coming_behind old route.host)
+    → DialerGoesOn old new → Rose old.names new.names → DialsOnce route outcome.NoName old new
+no_name_once old new route added agree left lasts rose =
+    record { added = added; comes = λ c. no_name_comes (met old route.host) (agree c); coming_left = left; goes_on = lasts; cause = rose }
+
+pub not_reached_once : (old new : DialerState) (route : Route) → new.dials ≡ old.dials ++ record { host = route.host; port = route.port; outcome = outcome.NotReached } ∷ []
+    → (IsTrue old.tells_coming → agrees (met old route.host) (Err fault.NotReached)) → (IsTrue old.tells_coming → new.coming ≡ coming_behind old route.host)
+    → DialerGoesOn old new → Rose old.reach new.reach → DialsOnce route outcome.NotReached old new
+not_reached_once old new route added agree left lasts rose =
+    record { added = added; comes = λ c. not_reached_comes (met old route.host) (agree c); coming_left = left; goes_on = lasts; cause = rose }

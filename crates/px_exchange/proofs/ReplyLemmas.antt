@@ -1,29 +1,16 @@
--- Replies without a dial: what follows from them, and that none is a page that speaks of one.
-use Rattle.std.proofs.Common.{◌≡◌, ℕ, List, refl, inl, inr}
+-- No reply without a dial is a page that speaks of one.
+use Rattle.std.proofs.Common.{◌≡◌, refl}
 use Rattle.px_base.specs.Dials.{DialerState}
 use Rattle.px_templates.specs.declared.pages.Page.{Page}
 use Rattle.px_templates.specs.declared.pages.Page.TheVariants as page
-use Rattle.px_config.specs.declared.configs.Config.{Config}
-use Rattle.px_notes.specs.declared.endings.Conclusion.{Conclusion}
 use Rattle.px_notes.specs.declared.endings.Ending.{Ending}
 use Rattle.px_notes.specs.declared.endings.Ending.TheVariants as ending
 use Rattle.px_judging.specs.Judging.{IsBeforeDials, NamesNoDial}
-use Rattle.px_judging.specs.declared.judgements.Judgement.TheVariants as judgement
 use Rattle.px_judging.specs.declared.replies.LocalReply.{LocalReply}
 use Rattle.px_judging.specs.declared.replies.ReplyKind.{ReplyKind}
 use Rattle.px_judging.specs.declared.replies.ReplyKind.TheVariants as kind
 use Rattle.px_exchange.specs.Causes.{EndingCause, PageCause}
-use Rattle.px_exchange.specs.Exchange.{Answers}
-use Rattle.px_exchange.specs.Forwarding.{Client}
-use Rattle.px_exchange.specs.Replies.{ReturnsSome, reply_ending, local_due}
-
--- a reply without a dial
-pub local_answers : (config : Config) (reply : LocalReply) (c : Client) (d : DialerState) (taken taken' : List ℕ) (x : Conclusion)
-    → c.behind ≡ c.stream → ReturnsSome (local_due config reply) taken taken' x → Answers config (judgement.Local reply) c d d taken taken' x
-local_answers config reply c d taken taken' x u (inl whole) = inl (refl, u, whole)
-local_answers config reply c d taken taken' x u (inr wants) = inr (wants.1, (refl, u, wants.0))
-
--- ---- no reply without a dial is a page that speaks of one
+use Rattle.px_exchange.specs.Replies.{reply_ending}
 
 before_dials : (old new : DialerState) (p : Page) → IsBeforeDials p → PageCause old new p
 before_dials old new page.Blocked h = tt

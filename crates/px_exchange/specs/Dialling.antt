@@ -2,7 +2,6 @@
 use Rattle.std.specs.Prelude.{◌≡◌, false, true, IsTrue, [], ◌∷◌, ◌++◌}
 use Rattle.px_base.specs.Causes.{Rose}
 use Rattle.px_base.specs.Dials.{DialerState, DialerGoesOn, Met, offers, nameless, unreached, untold, met, coming_behind}
-use Rattle.px_base.specs.declared.dials.Dial.{Dial}
 use Rattle.px_base.specs.declared.dials.DialOutcome.{DialOutcome}
 use Rattle.px_base.specs.declared.dials.DialOutcome.TheVariants as outcome
 use Rattle.px_decide.specs.declared.routes.Route.{Route}
@@ -23,14 +22,10 @@ OutcomeCause old new (outcome.Open mark offered) = ⊥
 OutcomeCause old new (outcome.Link seen) =
     (seen.read_failed ≡ true → Rose old.link_reads new.link_reads) × (seen.write_failed ≡ true → Rose old.link_writes new.link_writes)
 
--- one dial was added by that route; Gives is what its outcome says of the rest of the exchange
-pub record DialsOnce (route : Route) (Gives : DialOutcome → Type 0) (old new : DialerState) : Type 0 where
-  pub dial : Dial
-  pub added : new.dials ≡ old.dials ++ dial ∷ []
-  pub to_host : dial.host ≡ route.host
-  pub to_port : dial.port ≡ route.port
-  pub gives : Gives dial.outcome
-  pub comes : IsTrue old.tells_coming → DialComes (met old dial.host) dial.outcome
-  pub coming_left : IsTrue old.tells_coming → new.coming ≡ coming_behind old dial.host
+-- one dial was added by that route, and came to that
+pub record DialsOnce (route : Route) (o : DialOutcome) (old new : DialerState) : Type 0 where
+  pub added : new.dials ≡ old.dials ++ record { host = route.host; port = route.port; outcome = o } ∷ []
+  pub comes : IsTrue old.tells_coming → DialComes (met old route.host) o
+  pub coming_left : IsTrue old.tells_coming → new.coming ≡ coming_behind old route.host
   pub goes_on : DialerGoesOn old new
-  pub cause : OutcomeCause old new dial.outcome
+  pub cause : OutcomeCause old new o

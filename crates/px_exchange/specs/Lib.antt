@@ -1,6 +1,6 @@
 pub mod Replies
 pub mod Dialling
-pub mod Forwarding
-pub mod Tunnels
+pub mod Rows
+pub mod Standing
 pub mod Causes
 pub mod Exchange

@@ -1,22 +1,18 @@
--- What is due to the client without an origin's answer, and what was returned of it.
-use Rattle.std.specs.Prelude.{◌≡◌, ◌⊎◌, ℕ, Bool, true, not, List, [], ◌++◌, codes}
+-- What is due to the client without an origin's answer.
+use Rattle.std.specs.Prelude.{ℕ, Bool, true, not, List, [], ◌++◌, codes}
 use Rattle.std.specs.Fmt.{decimal}
-use Rattle.px_base.specs.Sinks.{AddsFront}
 use Rattle.px_patterns.specs.declared.urls.Url.{Url}
 use Rattle.px_decide.specs.declared.routes.Route.{Route}
 use Rattle.px_templates.specs.declared.pages.Page.{Page}
 use Rattle.px_templates.specs.declared.pages.Page.TheVariants as page
 use Rattle.px_config.specs.declared.configs.Config.{Config}
-use Rattle.px_notes.specs.Endings.{after_whole, broken}
+use Rattle.px_notes.specs.Endings.{after_whole}
 use Rattle.px_notes.specs.declared.endings.Ending.{Ending}
 use Rattle.px_notes.specs.declared.endings.Ending.TheVariants as ending
-use Rattle.px_notes.specs.declared.endings.After.TheVariants as after
-use Rattle.px_notes.specs.declared.endings.Conclusion.{Conclusion}
 use Rattle.px_judging.specs.Replies.{reply_bytes, url_symbols}
 use Rattle.px_judging.specs.declared.replies.LocalReply.{LocalReply}
 use Rattle.px_judging.specs.declared.replies.ReplyKind.{ReplyKind}
 use Rattle.px_judging.specs.declared.replies.ReplyKind.TheVariants as kind
-use Rattle.px_pumps.specs.Returning.{Returns}
 use Rattle.px_pumps.specs.declared.dues.Due.{Due}
 
 -- what a reply of that kind is
@@ -75,11 +71,3 @@ page_reply url route bodiless p = url_page p url (error_of p) (parent_value rout
 -- the same as what is due
 abbrev pub page_due : Config → Url → Route → Bool → Page → Due
 page_due config url route bodiless p = local_due config (page_reply url route bodiless p)
-
--- memory was wanting, and a front of what is due was returned
-abbrev pub WantsReturning : Due → List ℕ → List ℕ → Conclusion → Type 0
-WantsReturning due taken taken' x = AddsFront taken taken' due.bytes × (x ≡ broken after.NoMemory)
-
--- what is due was returned, or for want of memory a front of it
-abbrev pub ReturnsSome : Due → List ℕ → List ℕ → Conclusion → Type 0
-ReturnsSome due taken taken' x = Returns due taken taken' x ⊎ WantsReturning due taken taken' x

@@ -1,5 +1,5 @@
 // Dialling: the one dial of a request that is sent on.
-ghost use Rattle.std.specs.Prelude.{◌≡◌, IsTrue};
+ghost use Rattle.std.specs.Prelude.{◌≡◌, IsTrue, Bool};
 ghost use Rattle.px_base.specs.Dials.{DialerGoesOn};
 ghost use Rattle.px_base.specs.Sinks.{SinkGoesOn};
 ghost use Rattle.px_base.specs.Sources.{SourceGoesOn};
@@ -9,8 +9,8 @@ ghost use Rattle.px_pumps.specs.declared.dues.Due as due;
 ghost use Rattle.px_pumps.specs.Asking.{ask_of};
 ghost use Rattle.px_pumps.specs.Returning.{TalkCause};
 ghost use Rattle.px_exchange.specs.Causes.{TalkPageCause, TalkReadCause};
-ghost use Rattle.px_exchange.specs.Exchange.{TalksOn};
-ghost use Rattle.px_exchange.specs.Forwarding.{no_name_page, not_reached_page};
+ghost use Rattle.px_exchange.specs.Exchange.{Does};
+ghost use Rattle.px_exchange.specs.Rows.{Forward, no_name_page, not_reached_page};
 
 use crate::forwarding::talk_over;
 use px_base::{DialFault, Dialer, Sink, Source};
@@ -56,8 +56,8 @@ pub fn dial_and_send<S: Source, D: Dialer, O: Sink>(
     dialer: &mut D,
 ) -> Talked
     ensures talks { IsTrue client.old.source.tells → IsTrue (O.state client_out.old).tells → IsTrue (D.state dialer.old).tells
-        → (page_due : page.Page → due.Due)
-        → TalksOn (ask_of running.old errand.asked page_due) route.now errand.message
+        → (page_due : page.Page → due.Due) (failed : Bool)
+        → Does failed (Forward (ask_of running.old errand.asked page_due) route.now errand.message)
         (record { stream = bytes_behind client.old; behind = bytes_behind client.new })
         (D.state dialer.old) (D.state dialer.new) (O.state client_out.old).taken (O.state client_out.new).taken result }
     ensures read_cause { TalkReadCause client.old.source client.new.source result }

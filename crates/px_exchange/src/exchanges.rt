@@ -1,5 +1,5 @@
 // One exchange: a request, and all that follows from it.
-ghost use Rattle.std.specs.Prelude.{◌≡◌, ◌≢◌, IsTrue};
+ghost use Rattle.std.specs.Prelude.{◌≡◌, ◌≢◌, IsTrue, Bool};
 ghost use Rattle.px_base.specs.Dials.{DialerGoesOn};
 ghost use Rattle.px_base.specs.Sinks.{SinkGoesOn};
 ghost use Rattle.px_base.specs.Sources.{SourceGoesOn};
@@ -7,8 +7,10 @@ ghost use Rattle.px_streams.specs.Feeds.{bytes_behind};
 ghost use Rattle.px_judging.specs.Judging.{SpeaksOfNoDial};
 ghost use Rattle.px_pumps.specs.Returning.{WriteCause as SinkCause};
 ghost use Rattle.px_exchange.specs.Causes.{EndingCause, ClientReadCause, ClientStaysOpen, ClientWriteCause};
-ghost use Rattle.px_exchange.specs.Exchange.{Answers, ForwardsSome, TunnelsSome};
-ghost use Rattle.px_exchange.specs.Replies.{ReturnsSome, page_due};
+ghost use Rattle.px_exchange.specs.Exchange.{Answers, Does, WhereFailed};
+ghost use Rattle.px_exchange.specs.Replies.{page_due};
+ghost use Rattle.px_exchange.specs.Rows.{task_of};
+ghost use Rattle.px_exchange.specs.Standing.{ReturnsDue};
 
 use crate::dialling::dial_and_send;
 use crate::replies::{page_reply, return_reply};
@@ -37,7 +39,7 @@ fn return_page<O: Sink>(
     client_out: &mut O,
 ) -> Conclusion
     ensures returns { IsTrue (O.state client_out.old).tells
-        → ReturnsSome (page_due config.now url.now route.now bodiless page) (O.state client_out.old).taken (O.state client_out.new).taken result }
+        → ReturnsDue (page_due config.now url.now route.now bodiless page) (O.state client_out.old).taken (O.state client_out.new).taken result }
     ensures cause { SinkCause (O.state client_out.old) (O.state client_out.new) result.after }
     ensures unread { result.after ≢ After.ReadFailed }
     ensures page { (p : Page) → result.ending ≡ Ending.Page p → p ≡ page }
@@ -60,9 +62,9 @@ fn forward<S: Source, O: Sink, D: Dialer>(
     dialer: &mut D,
 ) -> Conclusion
     ensures forwards { IsTrue client.old.source.tells → IsTrue (O.state client_out.old).tells → IsTrue (D.state dialer.old).tells
-        → ForwardsSome running.old plan
+        → (failed : Bool) → Does failed (task_of running.old (Judgement.Forward plan))
         (record { stream = bytes_behind client.old; behind = bytes_behind client.new })
-        (D.state dialer.old) (D.state dialer.new) (O.state client_out.old).taken (O.state client_out.new).taken result }
+        (D.state dialer.old) (D.state dialer.new) (O.state client_out.old).taken (O.state client_out.new).taken (Talked.Ended result) }
     ensures read_cause { ClientReadCause client.old.source client.new.source result.after }
     ensures write_cause { SinkCause (O.state client_out.old) (O.state client_out.new) result.after }
     ensures page_cause { EndingCause (D.state dialer.old) (D.state dialer.new) result.ending }
@@ -98,9 +100,9 @@ fn open_tunnel<R: Threads + Sync, S: Source, O: Sink, D: Dialer>(
     dialer: &mut D,
 ) -> Conclusion
     ensures tunnels { IsTrue client.old.source.tells → IsTrue (O.state client_out.old).tells → IsTrue (D.state dialer.old).tells
-        → TunnelsSome config.now plan.now
+        → WhereFailed (O.state client_out.old) (O.state client_out.new) (λ failed. Does failed (task_of config.now (Judgement.Tunnel plan.now))
         (record { stream = bytes_behind client.old; behind = bytes_behind client.new })
-        (D.state dialer.old) (D.state dialer.new) (O.state client_out.old).taken (O.state client_out.new).taken result }
+        (D.state dialer.old) (D.state dialer.new) (O.state client_out.old).taken (O.state client_out.new).taken (Talked.Ended result)) }
     ensures read_cause { ClientReadCause client.old.source client.new.source result.after }
     ensures write_cause { ClientWriteCause (O.state client_out.old) (O.state client_out.new) result }
     ensures page_cause { EndingCause (D.state dialer.old) (D.state dialer.new) result.ending }
@@ -140,6 +142,10 @@ pub fn exchange<R: Threads + Sync, S: Source, O: Sink, D: Dialer>(
     ensures answers { IsTrue client.old.source.tells → IsTrue (O.state client_out.old).tells → IsTrue (D.state dialer.old).tells
         → Answers running.old judgement (record { stream = bytes_behind client.old; behind = bytes_behind client.new })
         (D.state dialer.old) (D.state dialer.new) (O.state client_out.old).taken (O.state client_out.new).taken result }
+    ensures counted { IsTrue client.old.source.tells → IsTrue (O.state client_out.old).tells → IsTrue (D.state dialer.old).tells
+        → WhereFailed (O.state client_out.old) (O.state client_out.new) (λ failed. Does failed (task_of running.old judgement)
+        (record { stream = bytes_behind client.old; behind = bytes_behind client.new })
+        (D.state dialer.old) (D.state dialer.new) (O.state client_out.old).taken (O.state client_out.new).taken (Talked.Ended result)) }
     ensures read_cause { ClientReadCause client.old.source client.new.source result.after }
     ensures write_cause { ClientWriteCause (O.state client_out.old) (O.state client_out.new) result }
     ensures page_cause { EndingCause (D.state dialer.old) (D.state dialer.new) result.ending }

@@ -1,5 +1,5 @@
 // Forwarding: sends a request over a link, and returns its answer.
-ghost use Rattle.std.specs.Prelude.{◌≡◌, IsTrue};
+ghost use Rattle.std.specs.Prelude.{◌≡◌, IsTrue, Bool};
 ghost use Rattle.px_base.specs.Dials.{IsFresh};
 ghost use Rattle.px_base.specs.Sinks.{SinkGoesOn};
 ghost use Rattle.px_base.specs.Sources.{SourceGoesOn};
@@ -9,7 +9,10 @@ ghost use Rattle.px_pumps.specs.declared.dues.Due as due;
 ghost use Rattle.px_pumps.specs.Asking.{ask_of};
 ghost use Rattle.px_pumps.specs.Returning.{TalkCause};
 ghost use Rattle.px_exchange.specs.Causes.{TalkLinkCause, TalkReadCause};
-ghost use Rattle.px_exchange.specs.Forwarding.{TalksOverLink, link_seen, stopped};
+ghost use Rattle.px_decide.specs.declared.routes.Route as route;
+ghost use Rattle.px_exchange.specs.Exchange.{DoesOver, link_seen};
+ghost use Rattle.px_exchange.specs.Rows.{Forward};
+ghost use Rattle.px_exchange.specs.Standing.{stopped};
 
 use px_base::{Sink, Source};
 use px_config::Running;
@@ -48,8 +51,8 @@ pub fn talk_over<S: Source, I: Source, P: Sink, O: Sink>(
 ) -> Talked
     ensures talks { IsTrue client.old.source.tells → IsTrue (I.state link_in.old).tells → IsTrue (P.state link_out.old).tells → IsTrue (O.state client_out.old).tells
         → IsFresh (record { link_in = I.state link_in.old; link_out = P.state link_out.old })
-        → (page_due : page.Page → due.Due)
-        → TalksOverLink (ask_of running.old errand.asked page_due) errand.message
+        → (page_due : page.Page → due.Due) (by : route.Route) (failed : Bool)
+        → DoesOver failed (Forward (ask_of running.old errand.asked page_due) by errand.message)
         (record { stream = bytes_behind client.old; behind = bytes_behind client.new })
         (O.state client_out.old).taken (O.state client_out.new).taken result (link_seen (I.state link_in.new) (P.state link_out.new)) }
     ensures read_cause { TalkReadCause client.old.source client.new.source result }

@@ -2,7 +2,8 @@
 ghost use Rattle.std.specs.Prelude.{◌≡◌, ◌≢◌, IfOk, IsTrue};
 ghost use Rattle.px_base.specs.Sinks.{SinkGoesOn};
 ghost use Rattle.px_pumps.specs.Returning.{WriteCause};
-ghost use Rattle.px_exchange.specs.Replies.{ReturnsSome, reply_ending, error_of, local_due, page_reply, parent_value, parent_text, url_page};
+ghost use Rattle.px_exchange.specs.Replies.{reply_ending, error_of, local_due, page_reply, parent_value, parent_text, url_page};
+ghost use Rattle.px_exchange.specs.Standing.{ReturnsDue};
 
 use itoa::Buffer;
 use px_base::{Mem, Sink, SinkFault, Text, write_all};
@@ -35,7 +36,7 @@ pub fn return_reply<O: Sink>(
     reply: &LocalReply,
     client_out: &mut O,
 ) -> Conclusion
-    ensures returns { IsTrue (O.state client_out.old).tells → ReturnsSome (local_due config.now reply.now) (O.state client_out.old).taken (O.state client_out.new).taken result }
+    ensures returns { IsTrue (O.state client_out.old).tells → ReturnsDue (local_due config.now reply.now) (O.state client_out.old).taken (O.state client_out.new).taken result }
     ensures cause { WriteCause (O.state client_out.old) (O.state client_out.new) result.after }
     ensures unread { result.after ≢ After.ReadFailed }
     ensures page { (p : Page) → result.ending ≡ Ending.Page p → reply_ending reply.now.kind ≡ Ending.Page p }

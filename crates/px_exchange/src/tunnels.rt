@@ -7,8 +7,8 @@ ghost use Rattle.px_streams.specs.Feeds.{bytes_behind};
 ghost use Rattle.px_templates.specs.declared.pages.Page as page;
 ghost use Rattle.px_pumps.specs.declared.dues.Due as due;
 ghost use Rattle.px_exchange.specs.Causes.{TalkReadCause, TalkStaysOpen, TalkWriteCause, TunnelLinkCause, TunnelPageCause};
-ghost use Rattle.px_exchange.specs.Forwarding.{link_seen};
-ghost use Rattle.px_exchange.specs.Tunnels.{TunnelTalksOver, TunnelsOn, after_tunnel, carried_so};
+ghost use Rattle.px_exchange.specs.Exchange.{Does, DoesOver, WhereFailed, link_seen};
+ghost use Rattle.px_exchange.specs.Rows.{Tunnel, after_tunnel, carried_so};
 
 use crate::dialling::{no_name_page, not_reached_page};
 use px_base::{DialFault, Dialer, Sink, SinkFault, Source, write_all};
@@ -60,9 +60,9 @@ fn tunnel_over<R: Threads + Sync, S: Source, I: Source, P: Sink, O: Sink>(
     ensures talks { IsTrue (S.state client_in.old).tells → IsTrue (I.state link_in.old).tells → IsTrue (P.state link_out.old).tells → IsTrue (O.state client_out.old).tells
         → IsFresh (record { link_in = I.state link_in.old; link_out = P.state link_out.old })
         → (page_due : page.Page → due.Due)
-        → TunnelTalksOver page_due plan.now
+        → WhereFailed (O.state client_out.old) (O.state client_out.new) (λ failed. DoesOver failed (Tunnel page_due plan.now)
         (record { stream = ahead.old ++ (S.state client_in.old).left; behind = ahead.new ++ (S.state client_in.new).left })
-        (O.state client_out.old).taken (O.state client_out.new).taken result (link_seen (I.state link_in.new) (P.state link_out.new)) }
+        (O.state client_out.old).taken (O.state client_out.new).taken result (link_seen (I.state link_in.new) (P.state link_out.new))) }
     ensures read_cause { TalkReadCause (S.state client_in.old) (S.state client_in.new) result }
     ensures write_cause { TalkWriteCause (O.state client_out.old) (O.state client_out.new) result }
     ensures page_cause { TunnelLinkCause (P.state link_out.old) (P.state link_out.new) result }
@@ -106,9 +106,9 @@ pub fn dial_tunnel<R: Threads + Sync, S: Source, D: Dialer, O: Sink>(
 ) -> Talked
     ensures talks { IsTrue client.old.source.tells → IsTrue (O.state client_out.old).tells → IsTrue (D.state dialer.old).tells
         → (page_due : page.Page → due.Due)
-        → TunnelsOn page_due plan.now
+        → WhereFailed (O.state client_out.old) (O.state client_out.new) (λ failed. Does failed (Tunnel page_due plan.now)
         (record { stream = bytes_behind client.old; behind = bytes_behind client.new })
-        (D.state dialer.old) (D.state dialer.new) (O.state client_out.old).taken (O.state client_out.new).taken result }
+        (D.state dialer.old) (D.state dialer.new) (O.state client_out.old).taken (O.state client_out.new).taken result) }
     ensures read_cause { TalkReadCause client.old.source client.new.source result }
     ensures write_cause { TalkWriteCause (O.state client_out.old) (O.state client_out.new) result }
     ensures page_cause { TunnelPageCause (D.state dialer.old) (D.state dialer.new) result }

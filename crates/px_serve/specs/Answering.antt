@@ -9,8 +9,7 @@ use Rattle.px_notes.specs.Endings.{broken}
 use Rattle.px_notes.specs.declared.endings.After.TheVariants as after
 use Rattle.px_notes.specs.declared.endings.Conclusion.{Conclusion}
 use Rattle.px_exchange.specs.Causes.{ClientReadCause, ClientStaysOpen, ClientWriteCause}
-use Rattle.px_exchange.specs.Exchange.{Answers}
-use Rattle.px_exchange.specs.Forwarding.{Client}
+use Rattle.px_exchange.specs.Exchange.{Answers, Client}
 
 -- memory was wanting before anything was dialled or returned
 abbrev pub AnswersNothing : Client → DialerState → DialerState → List ℕ → List ℕ → Conclusion → Type 0

@@ -21,15 +21,16 @@ use Rattle.px_config.specs.declared.configs.Config.{Config}
 use Rattle.px_judging.specs.Judging.{judged}
 use Rattle.px_judging.specs.declared.handed.Handed.{Handed}
 use Rattle.px_judging.specs.declared.judgements.Judgement.{Judgement}
-use Rattle.px_judging.specs.declared.judgements.Judgement.TheVariants as judgement
 use Rattle.px_judging.specs.declared.judgements.TunnelPlan.{TunnelPlan}
 use Rattle.px_pool_ends.specs.Answers.{IsAnswer}
 use Rattle.px_pumps.specs.Answering.{Ask, Answered}
 use Rattle.px_pumps.specs.declared.dues.Due.{Due}
+use Rattle.px_pumps.specs.declared.talks.Talked.TheVariants as talked
+use Rattle.px_notes.specs.declared.endings.After.{After}
 use Rattle.px_exchange.specs.Dialling.{DialsOnce, OutcomeCause}
-use Rattle.px_exchange.specs.Exchange.{Answers, Does, asking, tunnel_page_due}
-use Rattle.px_exchange.specs.Forwarding.{Client, Says, FollowsSending, Forwards, concluded}
-use Rattle.px_exchange.specs.Tunnels.{Tunnels, TunnelsOver}
+use Rattle.px_exchange.specs.Exchange.{Answers, Client, DialsBy, Does, Reads}
+use Rattle.px_exchange.specs.Rows.{Answer, Came, Forward, NoName, NotReached, Over, Reply, Task, Through, Tunnel, Undialled, after_tunnel, page_of, row, task_of}
+use Rattle.px_exchange.specs.Standing.{ReturnsOwed, Stands, answer_of}
 use Rattle.px_serve.specs.Ends.{end_after}
 use Rattle.px_serve.specs.Histories.{Begun}
 use Rattle.px_serve.specs.Answering.{AnswersHanded, AnswersNothing}
@@ -91,34 +92,42 @@ heard_due ask offered heard behind due e (inr all) false a = rw all at a
 abbrev as_heard : LinkSeen → LinkSeen
 as_heard seen = record { offered = seen.heard; heard = seen.heard; sent = seen.sent; read_failed = seen.read_failed; write_failed = seen.write_failed; finished = seen.finished }
 
-follows_heard : (ask : Ask) (says : Says) (seen : LinkSeen) (mid : List ℕ) (how : Sent) → AnswersOne seen → FollowsSending ask says seen mid how → FollowsSending ask says (as_heard seen) mid how
-follows_heard ask says seen mid sent.Whole w h = record { due = h.due; is_due = heard_due ask seen.offered seen.heard w.behind h.due w.offered w.whole seen.read_failed h.is_due; is_so = h.is_so }
-follows_heard ask says seen mid sent.LinkFailed w h = h
-follows_heard ask says seen mid sent.Misframed w h = h
-follows_heard ask says seen mid sent.Cut w h = h
-follows_heard ask says seen mid sent.ReadFailed w h = h
-follows_heard ask says seen mid sent.WriteFailed w h = h
-follows_heard ask says seen mid sent.NoMemory w h = h
+-- what is owed for a request that was sent whole
+whole_heard : (ask : Ask) (seen : LinkSeen) (mid taken' : List ℕ) (x : Conclusion) → AnswersOne seen → ReturnsOwed (Answer ask seen) mid taken' x → ReturnsOwed (Answer ask (as_heard seen)) mid taken' x
+whole_heard ask seen mid taken' x w (inl h) =
+    inl (record { due = h.due; is_due = heard_due ask seen.offered seen.heard w.behind h.due w.offered w.whole seen.read_failed h.is_due; is_so = h.is_so })
+whole_heard ask seen mid taken' x w (inr silent) = inr silent
 
-forwards_heard : (ask : Ask) (route : Route) (m : Message) (c : Client) (says : Says) (taken : List ℕ) (o : DialOutcome) → GivesOne o → Forwards ask route m c says taken o → Forwards ask route m c says taken (offers_heard o)
-forwards_heard ask route m c says taken outcome.NoName w h = h
-forwards_heard ask route m c says taken outcome.NotReached w h = h
-forwards_heard ask route m c says taken (outcome.Open mark offered) w h = h
-forwards_heard ask route m c says taken (outcome.Link seen) w h = record { how = h.how; mid = h.mid; sends = h.sends; by_link = h.by_link; follows = follows_heard ask says seen h.mid h.how w h.follows }
+-- a request over a link
+forward_heard : (ask : Ask) (route : Route) (m : Message) (seen : LinkSeen) (stream taken taken' : List ℕ) (x : Conclusion) (how : Sent) → AnswersOne seen
+    → Stands ask.page_due (row (Forward ask route m) (Over seen stream how)) (Over seen stream how) taken taken' (talked.Ended x)
+    → Stands ask.page_due (row (Forward ask route m) (Over (as_heard seen) stream how)) (Over (as_heard seen) stream how) taken taken' (talked.Ended x)
+forward_heard ask route m seen stream taken taken' x sent.Whole w s = record { sent = s.sent; mid = s.mid; first = s.first; talks = whole_heard ask seen s.mid taken' x w s.talks }
+forward_heard ask route m seen stream taken taken' x sent.LinkFailed w s = record { sent = s.sent; mid = s.mid; first = s.first; talks = s.talks }
+forward_heard ask route m seen stream taken taken' x sent.Misframed w s = record { sent = s.sent; mid = s.mid; first = s.first; talks = s.talks }
+forward_heard ask route m seen stream taken taken' x sent.Cut w s = record { sent = s.sent; mid = s.mid; first = s.first; talks = s.talks }
+forward_heard ask route m seen stream taken taken' x sent.ReadFailed w s = record { sent = s.sent; mid = s.mid; first = s.first; talks = s.talks }
+forward_heard ask route m seen stream taken taken' x sent.WriteFailed w s = record { sent = s.sent; mid = s.mid; first = s.first; talks = s.talks }
+forward_heard ask route m seen stream taken taken' x sent.NoMemory w s = record { sent = s.sent; mid = s.mid; first = s.first; talks = s.talks }
 
 -- a tunnel that wasn't carried
-uncarried : (page_due : Page → Due) (t : TunnelPlan) (c : Client) (x : Conclusion) (taken taken' : List ℕ) (seen : LinkSeen) → x.ending ≢ ending.Tunnel
-    → TunnelsOver page_due t c (concluded taken' x) taken seen → TunnelsOver page_due t c (concluded taken' x) taken (as_heard seen)
-uncarried page_due t c x taken taken' seen n (inl h) = absurd (n (ap (λ (y : Conclusion). y.ending) h.says_so.1))
-uncarried page_due t c x taken taken' seen n (inr (inl h)) = inr (inl (record { sent = h.sent; failed = h.failed; unread = h.unread; says_so = h.says_so }))
-uncarried page_due t c x taken taken' seen n (inr (inr h)) = inr (inr (record { sent = h.sent; unfailed = h.unfailed; unread = h.unread; mid = h.mid; greeted = h.greeted; says_so = h.says_so }))
+tunnel_heard : (failed : Bool) (pages : Page → Due) (t : TunnelPlan) (c : Client) (seen : LinkSeen) (stream taken taken' : List ℕ) (x : Conclusion) (how : Sent)
+    → Reads failed (Tunnel pages t) c (Over seen stream how)
+    → Stands pages (row (Tunnel pages t) (Over seen stream how)) (Over seen stream how) taken taken' (talked.Ended x)
+    → Stands pages (row (Tunnel pages t) (Over (as_heard seen) stream how)) (Over (as_heard seen) stream how) taken taken' (talked.Ended x)
+tunnel_heard failed pages t c seen stream taken taken' x sent.LinkFailed r s = record { sent = s.sent; mid = s.mid; first = s.first; talks = s.talks }
+tunnel_heard failed pages t c seen stream taken taken' x sent.WriteFailed r s = record { sent = s.sent; mid = s.mid; first = s.first; talks = s.talks }
+tunnel_heard failed pages t c seen stream taken taken' x sent.NoMemory r s = record { sent = s.sent; mid = s.mid; first = s.first; talks = s.talks }
+tunnel_heard failed pages t c seen stream taken taken' x sent.Whole r s = absurd r.1
+tunnel_heard failed pages t c seen stream taken taken' x sent.Misframed r s = absurd r.1
+tunnel_heard failed pages t c seen stream taken taken' x sent.Cut r s = absurd r.1
+tunnel_heard failed pages t c seen stream taken taken' x sent.ReadFailed r s = absurd r.1
 
-tunnels_heard : (page_due : Page → Due) (t : TunnelPlan) (c : Client) (x : Conclusion) (taken taken' : List ℕ) (o : DialOutcome) → x.ending ≢ ending.Tunnel
-    → Tunnels page_due t c (concluded taken' x) taken o → Tunnels page_due t c (concluded taken' x) taken (offers_heard o)
-tunnels_heard page_due t c x taken taken' outcome.NoName n h = h
-tunnels_heard page_due t c x taken taken' outcome.NotReached n h = h
-tunnels_heard page_due t c x taken taken' (outcome.Open mark offered) n h = h
-tunnels_heard page_due t c x taken taken' (outcome.Link seen) n h = uncarried page_due t c x taken taken' seen n h
+-- a tunnel that was carried says so, or that memory was wanting
+carried_says : (wanting : Bool) (a : After) (x : Conclusion) → x ≡ (if wanting then broken after.NoMemory else record { ending = ending.Tunnel; after = a })
+    → x.ending ≢ ending.Tunnel → x ≢ broken after.NoMemory → ⊥
+carried_says true a x e n m = m e
+carried_says false a x e n m = n (ap (λ (y : Conclusion). y.ending) e)
 
 cause_heard : (old new : DialerState) (o : DialOutcome) → OutcomeCause old new o → OutcomeCause (with_heard old) (with_heard new) (offers_heard o)
 cause_heard old new outcome.NoName h = h
@@ -141,21 +150,16 @@ lasts_heard h = record {
 }
 
 -- the dials before, and the one that was added
-before_last : (route : Route) (G : DialOutcome → Type 0) (old new : DialerState) → EachGives new.dials → (d : DialsOnce route G old new) → EachGives old.dials × GivesOne d.dial.outcome
-before_last route G old new all d = all_but_last (λ (x : Dial). GivesOne x.outcome) old.dials new.dials d.dial d.added all
+before_last : (route : Route) (o : DialOutcome) (old new : DialerState) → EachGives new.dials → (d : DialsOnce route o old new) → EachGives old.dials × GivesOne o
+before_last route o old new all d = all_but_last (λ (x : Dial). GivesOne x.outcome) old.dials new.dials (record { host = route.host; port = route.port; outcome = o }) d.added all
 
-dials_heard : (route : Route) (G H : DialOutcome → Type 0) (old new : DialerState) → ((o : DialOutcome) → GivesOne o → G o → H (offers_heard o)) → EachGives new.dials → DialsOnce route G old new
-    → DialsOnce route H (with_heard old) (with_heard new)
-dials_heard route G H old new f all d = record {
-  dial = record { host = d.dial.host; port = d.dial.port; outcome = offers_heard d.dial.outcome };
-  added = ap offering_heard d.added ∙ offering-append old.dials (d.dial ∷ []);
-  to_host = d.to_host;
-  to_port = d.to_port;
-  gives = f d.dial.outcome (before_last route G old new all d).1 d.gives;
+dial_heard : (route : Route) (o : DialOutcome) (old new : DialerState) → DialsOnce route o old new → DialsOnce route (offers_heard o) (with_heard old) (with_heard new)
+dial_heard route o old new d = record {
+  added = ap offering_heard d.added ∙ offering-append old.dials (record { host = route.host; port = route.port; outcome = o } ∷ []);
   comes = λ t. absurd (cc);
   coming_left = λ t. absurd (cc);
   goes_on = lasts_heard d.goes_on;
-  cause = cause_heard old new d.dial.outcome d.cause;
+  cause = cause_heard old new o d.cause;
 }
 
 -- ---- one exchange
@@ -168,26 +172,60 @@ record Alone (old : DialerState) (Same : Type 0) : Type 0 where
 undialled : (old new : DialerState) → new ≡ old → EachGives new.dials → EachGives old.dials
 undialled old new e all = subst (λ (d : DialerState). EachGives d.dials) e all
 
-does_alone : (config : Config) (j : Judgement) (c : Client) (old new : DialerState) (taken taken' : List ℕ) (x : Conclusion) → EachGives new.dials → x.ending ≢ ending.Tunnel
-    → Does config j c old new taken taken' x → Alone old (Does config j c (with_heard old) (with_heard new) taken taken' x)
-does_alone config (judgement.Local reply) c old new taken taken' x all n h = record { before = undialled old new h.0 all; same = (ap with_heard h.0, h.1, h.2) }
-does_alone config (judgement.Forward plan) c old new taken taken' x all n h = record {
-  before = (before_last plan.route (Forwards (asking config plan) plan.route plan.errand.message c (concluded taken' x) taken) old new all h).0;
-  same = dials_heard plan.route (Forwards (asking config plan) plan.route plan.errand.message c (concluded taken' x) taken) (Forwards (asking config plan) plan.route plan.errand.message c (concluded taken' x) taken) old new
-      (λ o w f. forwards_heard (asking config plan) plan.route plan.errand.message c (concluded taken' x) taken o w f) all h;
-}
-does_alone config (judgement.Tunnel t) c old new taken taken' x all n h = record {
-  before = (before_last t.route (Tunnels (tunnel_page_due config t) t c (concluded taken' x) taken) old new all h).0;
-  same = dials_heard t.route (Tunnels (tunnel_page_due config t) t c (concluded taken' x) taken) (Tunnels (tunnel_page_due config t) t c (concluded taken' x) taken) old new
-      (λ o w f. tunnels_heard (tunnel_page_due config t) t c x taken taken' o n f) all h;
-}
+reply_alone : (failed : Bool) (due : Due) (c : Client) (old new : DialerState) (taken taken' : List ℕ) (x : Conclusion) → EachGives new.dials
+    → Does failed (Reply due) c old new taken taken' (talked.Ended x) → Alone old (Does failed (Reply due) c (with_heard old) (with_heard new) taken taken' (talked.Ended x))
+reply_alone failed due c old new taken taken' x all d = by d.came d.dials d.reads d.stands
+  where
+    by : (came : Came) → new ≡ old → Reads failed (Reply due) c came → Stands (page_of (Reply due)) (row (Reply due) came) came taken taken' (talked.Ended x)
+        → Alone old (Does failed (Reply due) c (with_heard old) (with_heard new) taken taken' (talked.Ended x))
+    by Undialled e r s = record { before = undialled old new e all; same = record { came = Undialled; dials = ap with_heard e; reads = r; stands = s } }
+    by NoName e r s = absurd r
+    by NotReached e r s = absurd r
+    by (Over seen stream how) e r s = absurd r
+    by (Through seen carried out back) e r s = absurd r
+
+forward_alone : (failed : Bool) (ask : Ask) (route : Route) (p : Message) (c : Client) (old new : DialerState) (taken taken' : List ℕ) (x : Conclusion) → EachGives new.dials → x ≢ broken after.NoMemory
+    → Does failed (Forward ask route p) c old new taken taken' (talked.Ended x) → Alone old (Does failed (Forward ask route p) c (with_heard old) (with_heard new) taken taken' (talked.Ended x))
+forward_alone failed ask route p c old new taken taken' x all m d = by d.came d.dials d.reads d.stands
+  where
+    by : (came : Came) → DialsBy route came old new → Reads failed (Forward ask route p) c came → Stands ask.page_due (row (Forward ask route p) came) came taken taken' (talked.Ended x)
+        → Alone old (Does failed (Forward ask route p) c (with_heard old) (with_heard new) taken taken' (talked.Ended x))
+    by Undialled e r s = absurd (m s.talks.1)
+    by NoName e r s = record { before = (before_last route outcome.NoName old new all e).0; same = record { came = NoName; dials = dial_heard route outcome.NoName old new e; reads = r; stands = s } }
+    by NotReached e r s = record { before = (before_last route outcome.NotReached old new all e).0; same = record { came = NotReached; dials = dial_heard route outcome.NotReached old new e; reads = r; stands = s } }
+    by (Over seen stream how) e r s = let b = before_last route (outcome.Link seen) old new all e in
+      record {
+        before = b.0;
+        same = record { came = Over (as_heard seen) stream how; dials = dial_heard route (outcome.Link seen) old new e; reads = r; stands = forward_heard ask route p seen stream taken taken' x how b.1 s };
+      }
+    by (Through seen carried out back) e r s = absurd r
+
+tunnel_alone : (failed : Bool) (pages : Page → Due) (t : TunnelPlan) (c : Client) (old new : DialerState) (taken taken' : List ℕ) (x : Conclusion) → EachGives new.dials → x.ending ≢ ending.Tunnel → x ≢ broken after.NoMemory
+    → Does failed (Tunnel pages t) c old new taken taken' (talked.Ended x) → Alone old (Does failed (Tunnel pages t) c (with_heard old) (with_heard new) taken taken' (talked.Ended x))
+tunnel_alone failed pages t c old new taken taken' x all n m d = by d.came d.dials d.reads d.stands
+  where
+    by : (came : Came) → DialsBy t.route came old new → Reads failed (Tunnel pages t) c came → Stands pages (row (Tunnel pages t) came) came taken taken' (talked.Ended x)
+        → Alone old (Does failed (Tunnel pages t) c (with_heard old) (with_heard new) taken taken' (talked.Ended x))
+    by Undialled e r s = absurd (m s.talks.1)
+    by NoName e r s = record { before = (before_last t.route outcome.NoName old new all e).0; same = record { came = NoName; dials = dial_heard t.route outcome.NoName old new e; reads = r; stands = s } }
+    by NotReached e r s = record { before = (before_last t.route outcome.NotReached old new all e).0; same = record { came = NotReached; dials = dial_heard t.route outcome.NotReached old new e; reads = r; stands = s } }
+    by (Over seen stream how) e r s = record {
+      before = (before_last t.route (outcome.Link seen) old new all e).0;
+      same = record { came = Over (as_heard seen) stream how; dials = dial_heard t.route (outcome.Link seen) old new e; reads = r; stands = tunnel_heard failed pages t c seen stream taken taken' x how r s };
+    }
+    by (Through seen carried out back) e r s = absurd (carried_says carried.no_memory (after_tunnel carried.client_read carried.client_write) x s.talks.1 n m)
+
+does_alone : (failed : Bool) (task : Task) (c : Client) (old new : DialerState) (taken taken' : List ℕ) (x : Conclusion) → EachGives new.dials → x.ending ≢ ending.Tunnel → x ≢ broken after.NoMemory
+    → Does failed task c old new taken taken' (talked.Ended x) → Alone old (Does failed task c (with_heard old) (with_heard new) taken taken' (talked.Ended x))
+does_alone failed (Reply due) c old new taken taken' x all n m d = reply_alone failed due c old new taken taken' x all d
+does_alone failed (Forward ask route p) c old new taken taken' x all n m d = forward_alone failed ask route p c old new taken taken' x all m d
+does_alone failed (Tunnel pages t) c old new taken taken' x all n m d = tunnel_alone failed pages t c old new taken taken' x all n m d
 
 answers_alone : (config : Config) (j : Judgement) (c : Client) (old new : DialerState) (taken taken' : List ℕ) (x : Conclusion) → EachGives new.dials → x.ending ≢ ending.Tunnel → x ≢ broken after.NoMemory
     → Answers config j c old new taken taken' x → Alone old (Answers config j c (with_heard old) (with_heard new) taken taken' x)
-answers_alone config j c old new taken taken' x all n m (inl h) =
-    let d = does_alone config j c old new taken taken' x all n h in
-    record { before = d.before; same = inl d.same }
-answers_alone config j c old new taken taken' x all n m (inr h) = absurd (m h.0)
+answers_alone config j c old new taken taken' x all n m h =
+    let d = does_alone h.failed (task_of config j) c old new taken taken' x all n m h.does in
+    record { before = d.before; same = record { failed = h.failed; does = d.same } }
 
 handed_alone : (config : Config) (peer : List ℕ) (h : Option Handed) (c : Client) (old new : DialerState) (taken taken' : List ℕ) (x : Conclusion) → EachGives new.dials → x.ending ≢ ending.Tunnel → x ≢ broken after.NoMemory
     → AnswersHanded config peer h c old new taken taken' x → Alone old (AnswersHanded config peer h c (with_heard old) (with_heard new) taken taken' x)
