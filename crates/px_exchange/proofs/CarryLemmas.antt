@@ -1,5 +1,5 @@
 -- A tunnel over one link: the head, the greeting, and both directions.
-use Rattle.std.proofs.Common.{◌≡◌, ℕ, Bool, true, false, not, ◌==◌, ◌||◌, nat_le, List, [], ◌++◌, length, take, sym, ap, ◌∙◌, refl, subst, arith, append_assoc}
+use Rattle.std.proofs.Common.{◌≡◌, ℕ, Bool, IsTrue, true, false, not, ◌==◌, ◌||◌, nat_le, List, [], ◌++◌, length, take, sym, ap, ◌∙◌, refl, subst, arith, append_assoc}
 use Rattle.std.proofs.lemmas.Bool.{or_parts}
 use Rattle.std.proofs.lemmas.Bool.Decides.{nat_tests}
 use Rattle.std.proofs.lemmas.List.{append-nil}
@@ -139,12 +139,12 @@ greeting_wanting failed pages t stream taken taken' i l l' fresh none asked calm
 -- both directions were carried
 pub both_carried : (pages : Page → Due) (t : TunnelPlan) (stream behind taken mid taken' : List ℕ) (i i' : SourceState) (l l' : SinkState) (there back : DirectionStop)
     → mid ≡ taken ++ t.greeting → l.taken ≡ t.head → l.faults ≡ 0 → i.faults ≡ 0 → i.left ≡ i.offered → i'.offered ≡ i.offered
-    → DirectionTakes stream l.taken l'.taken there → StopSinkCause l l' there → DirectionTakes i.left mid taken' back → SourceCause i i' back
+    → DirectionTakes stream l.taken l'.taken there → StopSinkCause l l' there → DirectionTakes i.left mid taken' back → SourceCause i i' back → IsTrue l'.finished
     → DoesOver (is_sink_failed back) (Tunnel pages t) (record { stream = stream; behind = behind }) taken taken' (talked.Ended (carried_so (carried_of there back))) (link_seen i' l')
-both_carried pages t stream behind taken mid taken' i i' l l' there back greeted asked calm_out calm_in fresh same takes_there cause_there takes_back cause_back = record {
+both_carried pages t stream behind taken mid taken' i i' l l' there back greeted asked calm_out calm_in fresh same takes_there cause_there takes_back cause_back finished = record {
   came = Through (link_seen i' l') (carried_of there back) (outs.0).out (outs.1).out;
   over = refl;
-  reads = (refl, (outs.0).some, (outs.1).some);
+  reads = (refl, finished, (outs.0).some, (outs.1).some);
   stands = record {
     sent = (outs.0).added ∙ ap (λ (zs : List ℕ). zs ++ (outs.0).out) asked;
     mid = taken';

@@ -1,5 +1,5 @@
 -- No reply without a dial is a page that speaks of one.
-use Rattle.std.proofs.Common.{◌≡◌, refl}
+use Rattle.std.proofs.Common.{◌≡◌, ◌⊎◌, inl, inr, refl}
 use Rattle.px_base.specs.Dials.{DialerState}
 use Rattle.px_templates.specs.declared.pages.Page.{Page}
 use Rattle.px_templates.specs.declared.pages.Page.TheVariants as page
@@ -9,7 +9,7 @@ use Rattle.px_judging.specs.Judging.{IsBeforeDials, NamesNoDial}
 use Rattle.px_judging.specs.declared.replies.LocalReply.{LocalReply}
 use Rattle.px_judging.specs.declared.replies.ReplyKind.{ReplyKind}
 use Rattle.px_judging.specs.declared.replies.ReplyKind.TheVariants as kind
-use Rattle.px_exchange.specs.Causes.{EndingCause, PageCause}
+use Rattle.px_exchange.specs.Causes.{EndingCause, IsPageOr, PageCause}
 use Rattle.px_exchange.specs.Replies.{reply_ending}
 
 before_dials : (old new : DialerState) (p : Page) → IsBeforeDials p → PageCause old new p
@@ -50,3 +50,22 @@ same_page old new ending.Broken e' same h = tt
 pub local_cause : (reply : LocalReply) (old new : DialerState) (e : Ending) → NamesNoDial reply.kind
     → ((p : Page) → e ≡ ending.Page p → reply_ending reply.kind ≡ ending.Page p) → EndingCause old new e
 local_cause reply old new e quiet same = same_page old new e (reply_ending reply.kind) same (kind_cause old new reply.kind quiet)
+
+-- an ending of a kind is a page or one of that kind
+pub of_kind : (IsOf : Ending → Type 0) (e : Ending) → IsOf e → IsPageOr IsOf e
+of_kind IsOf (ending.Page p) h = tt
+of_kind IsOf ending.Image h = h
+of_kind IsOf ending.Empty h = h
+of_kind IsOf ending.Redirect h = h
+of_kind IsOf ending.Inside h = h
+of_kind IsOf ending.Passed h = h
+of_kind IsOf ending.Filtered h = h
+of_kind IsOf ending.Bodiless h = h
+of_kind IsOf ending.CutFront h = h
+of_kind IsOf ending.Tunnel h = h
+of_kind IsOf ending.Broken h = h
+
+-- so is that page, or a broken end, where it is of that kind
+pub page_or_broken : (IsOf : Ending → Type 0) (e : Ending) (p : Page) → IsOf ending.Broken → (e ≡ ending.Page p) ⊎ (e ≡ ending.Broken) → IsPageOr IsOf e
+page_or_broken IsOf e p broken (inl is) = rw is tt
+page_or_broken IsOf e p broken (inr is) = rw is broken

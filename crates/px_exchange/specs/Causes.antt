@@ -11,9 +11,12 @@ use Rattle.px_notes.specs.declared.endings.Ending.TheVariants as ending
 use Rattle.px_notes.specs.declared.endings.After.{After}
 use Rattle.px_notes.specs.declared.endings.After.TheVariants as after
 use Rattle.px_notes.specs.declared.endings.Conclusion.{Conclusion}
+use Rattle.px_judging.specs.declared.judgements.Judgement.{Judgement}
+use Rattle.px_judging.specs.declared.judgements.Judgement.TheVariants as judgement
 use Rattle.px_pumps.specs.Returning.{IsAnswerEnding}
 use Rattle.px_pumps.specs.declared.talks.Talked.{Talked}
 use Rattle.px_pumps.specs.declared.talks.Talked.TheVariants as talked
+use Rattle.px_exchange.specs.Replies.{reply_ending}
 
 -- why a page that speaks of a dial or of a link is returned
 abbrev pub PageCause : DialerState → DialerState → Page → Type 0
@@ -123,3 +126,14 @@ TunnelPageCause old new (talked.Ended x) = IsTunnelEnding x.ending
 abbrev pub TunnelLinkCause : SinkState → SinkState → Talked → Type 0
 TunnelLinkCause old new (talked.Page p) = LinkPageCause old new p
 TunnelLinkCause old new (talked.Ended x) = IsTunnelEnding x.ending
+
+-- a page, or an ending of that kind
+abbrev pub IsPageOr : (Ending → Type 0) → Ending → Type 0
+IsPageOr IsOf (ending.Page p) = Unit {0}
+IsPageOr IsOf e = IsOf e
+
+-- how an exchange may end, by what was judged, whatever the devices tell
+abbrev pub EndsAs : Judgement → Ending → Type 0
+EndsAs (judgement.Local reply) e = (e ≡ reply_ending reply.kind) ⊎ (e ≡ ending.Broken)
+EndsAs (judgement.Forward plan) e = IsPageOr IsAnswerEnding e
+EndsAs (judgement.Tunnel t) e = IsPageOr IsTunnelEnding e

@@ -1,5 +1,5 @@
 -- One exchange: what was dialled, what was read of the client, and how much of its line of the table stands.
-use Rattle.std.specs.Prelude.{◌≡◌, ℕ, not, ◌==◌, Bool, true, false, ◌||◌, List, [], take}
+use Rattle.std.specs.Prelude.{◌≡◌, ℕ, not, ◌==◌, Bool, true, false, IsTrue, ◌||◌, List, [], take}
 use Rattle.px_base.specs.Sources.{SourceState, given}
 use Rattle.px_base.specs.Sinks.{SinkState}
 use Rattle.px_base.specs.Dials.{DialerState}
@@ -76,7 +76,8 @@ abbrev pub CarriesSome : Bool → List ℕ → List ℕ → Type 0
 CarriesSome true bytes carried = AddsSome DIRECTION_LIMIT bytes [] carried
 CarriesSome false bytes carried = carried ≡ take DIRECTION_LIMIT bytes
 
--- what is read of the client by what came; failed is whether the client's sink failed in a tunnel
+-- what is read of the client by what came; failed is whether the client's sink failed in a tunnel, behind which the link was told the
+-- end
 abbrev pub Reads : Bool → Task → Client → Came → Type 0
 Reads failed task c Undialled = c.behind ≡ c.stream
 Reads failed (Reply due) c came = ⊥
@@ -88,6 +89,7 @@ Reads failed (Forward ask route m) c (Through seen carried out back) = ⊥
 Reads failed (Tunnel pages t) c (Over seen stream how) = (c.behind ≡ c.stream) × StopsOpening how × (seen.write_failed ≡ is_link_failed how)
 Reads failed (Tunnel pages t) c (Through seen carried out back) =
     (carried.client_write ≡ failed)
+    × IsTrue seen.finished
     × CarriesSome (carried.no_memory || (carried.client_read || seen.write_failed)) c.stream out
     × CarriesSome (carried.no_memory || (seen.read_failed || failed)) seen.offered back
 

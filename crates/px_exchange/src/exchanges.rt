@@ -1,12 +1,12 @@
 // One exchange: a request, and all that follows from it.
-ghost use Rattle.std.specs.Prelude.{◌≡◌, ◌≢◌, IsTrue, Bool};
+ghost use Rattle.std.specs.Prelude.{◌≡◌, ◌≢◌, ◌⊎◌, IsTrue, Bool};
 ghost use Rattle.px_base.specs.Dials.{DialerGoesOn};
 ghost use Rattle.px_base.specs.Sinks.{SinkGoesOn};
 ghost use Rattle.px_base.specs.Sources.{SourceGoesOn};
 ghost use Rattle.px_streams.specs.Feeds.{bytes_behind};
 ghost use Rattle.px_judging.specs.Judging.{SpeaksOfNoDial};
-ghost use Rattle.px_pumps.specs.Returning.{WriteCause as SinkCause};
-ghost use Rattle.px_exchange.specs.Causes.{EndingCause, ClientReadCause, ClientStaysOpen, ClientWriteCause};
+ghost use Rattle.px_pumps.specs.Returning.{IsAnswerEnding, WriteCause as SinkCause};
+ghost use Rattle.px_exchange.specs.Causes.{EndingCause, EndsAs, ClientReadCause, ClientStaysOpen, ClientWriteCause, IsPageOr, IsTunnelEnding};
 ghost use Rattle.px_exchange.specs.Exchange.{Answers, Does, WhereFailed};
 ghost use Rattle.px_exchange.specs.Replies.{page_due};
 ghost use Rattle.px_exchange.specs.Rows.{task_of};
@@ -43,6 +43,7 @@ fn return_page<O: Sink>(
     ensures cause { SinkCause (O.state client_out.old) (O.state client_out.new) result.after }
     ensures unread { result.after ≢ After.ReadFailed }
     ensures page { (p : Page) → result.ending ≡ Ending.Page p → p ≡ page }
+    ensures ending { (result.ending ≡ Ending.Page page) ⊎ (result.ending ≡ Ending.Broken) }
     ensures open { (O.state client_out.new).finished ≡ (O.state client_out.old).finished }
     ensures goes_on { SinkGoesOn (O.state client_out.old) (O.state client_out.new) }
 {
@@ -68,6 +69,7 @@ fn forward<S: Source, O: Sink, D: Dialer>(
     ensures read_cause { ClientReadCause client.old.source client.new.source result.after }
     ensures write_cause { SinkCause (O.state client_out.old) (O.state client_out.new) result.after }
     ensures page_cause { EndingCause (D.state dialer.old) (D.state dialer.new) result.ending }
+    ensures ending { IsPageOr IsAnswerEnding result.ending }
     ensures open { (O.state client_out.new).finished ≡ (O.state client_out.old).finished }
     ensures in_goes_on { SourceGoesOn client.old.source client.new.source }
     ensures out_goes_on { SinkGoesOn (O.state client_out.old) (O.state client_out.new) }
@@ -106,6 +108,7 @@ fn open_tunnel<R: Threads + Sync, S: Source, O: Sink, D: Dialer>(
     ensures read_cause { ClientReadCause client.old.source client.new.source result.after }
     ensures write_cause { ClientWriteCause (O.state client_out.old) (O.state client_out.new) result }
     ensures page_cause { EndingCause (D.state dialer.old) (D.state dialer.new) result.ending }
+    ensures ending { IsPageOr IsTunnelEnding result.ending }
     ensures open { ClientStaysOpen (O.state client_out.old) (O.state client_out.new) result }
     ensures in_goes_on { SourceGoesOn client.old.source client.new.source }
     ensures out_goes_on { SinkGoesOn (O.state client_out.old) (O.state client_out.new) }
@@ -149,6 +152,7 @@ pub fn exchange<R: Threads + Sync, S: Source, O: Sink, D: Dialer>(
     ensures read_cause { ClientReadCause client.old.source client.new.source result.after }
     ensures write_cause { ClientWriteCause (O.state client_out.old) (O.state client_out.new) result }
     ensures page_cause { EndingCause (D.state dialer.old) (D.state dialer.new) result.ending }
+    ensures ending { EndsAs judgement result.ending }
     ensures open { ClientStaysOpen (O.state client_out.old) (O.state client_out.new) result }
     ensures in_goes_on { SourceGoesOn client.old.source client.new.source }
     ensures out_goes_on { SinkGoesOn (O.state client_out.old) (O.state client_out.new) }

@@ -1,5 +1,5 @@
 // Replies without an origin's answer, returned to the client.
-ghost use Rattle.std.specs.Prelude.{◌≡◌, ◌≢◌, IfOk, IsTrue};
+ghost use Rattle.std.specs.Prelude.{◌≡◌, ◌≢◌, ◌⊎◌, IfOk, IsTrue};
 ghost use Rattle.px_base.specs.Sinks.{SinkGoesOn};
 ghost use Rattle.px_pumps.specs.Returning.{WriteCause};
 ghost use Rattle.px_exchange.specs.Replies.{reply_ending, error_of, local_due, page_reply, parent_value, parent_text, url_page};
@@ -40,6 +40,7 @@ pub fn return_reply<O: Sink>(
     ensures cause { WriteCause (O.state client_out.old) (O.state client_out.new) result.after }
     ensures unread { result.after ≢ After.ReadFailed }
     ensures page { (p : Page) → result.ending ≡ Ending.Page p → reply_ending reply.now.kind ≡ Ending.Page p }
+    ensures ending { (result.ending ≡ reply_ending reply.now.kind) ⊎ (result.ending ≡ Ending.Broken) }
     ensures open { (O.state client_out.new).finished ≡ (O.state client_out.old).finished }
     ensures goes_on { SinkGoesOn (O.state client_out.old) (O.state client_out.new) }
 {

@@ -42,3 +42,12 @@ returns-in-Forward-clause-counted g c s u t =
     rw c.in-Forward.is
     (forward_done c.args.running.now c.in-Forward.plan _ _ _ (g.O.Sink.state c.args.client_out.now) (g.O.Sink.state c.forward.new.client_out) c.forward.result
     c.forward.ensures.write_cause (c.forward.ensures.forwards s u t))
+
+pub returns-in-Local-clause-ending : goal.returns-in-Local-clause-ending
+returns-in-Local-clause-ending g c = rw c.in-Local.is c.return_reply.ensures.ending
+
+pub returns-in-Tunnel-clause-ending : goal.returns-in-Tunnel-clause-ending
+returns-in-Tunnel-clause-ending g c = rw c.in-Tunnel.is c.open_tunnel.ensures.ending
+
+pub returns-in-Forward-clause-ending : goal.returns-in-Forward-clause-ending
+returns-in-Forward-clause-ending g c = rw c.in-Forward.is c.forward.ensures.ending

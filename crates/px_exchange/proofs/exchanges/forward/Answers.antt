@@ -1,7 +1,9 @@
 use Rattle.std.proofs.Common.{◌∙◌}
 use Rattle.px_judging.specs.declared.judgements.Judgement.TheVariants as judgement
+use Rattle.px_pumps.specs.Returning.{IsAnswerEnding}
 use Rattle.px_exchange.specs.Replies.{page_due}
 use Rattle.px_exchange.specs.Rows.{task_of}
+use Rattle.px_exchange.proofs.ReplyLemmas.{of_kind, page_or_broken}
 use Rattle.px_exchange.proofs.StandingLemmas.{page_returned}
 use Rattle.px_exchange.proofs.exchanges.forward.Goals as goal
 
@@ -18,3 +20,9 @@ pub returns-clause-forwards : goal.returns-clause-forwards
 returns-clause-forwards g c s u t failed =
     let plan = c.args.plan in
     rw c.in-Ended.is at (c.dial_and_send.ensures.talks s u t (page_due c.args.running.now plan.url plan.route plan.bodiless) failed)
+
+pub returns-in-Page-clause-ending : goal.returns-in-Page-clause-ending
+returns-in-Page-clause-ending g c = page_or_broken IsAnswerEnding _ c.in-Page.page tt c.return_page.ensures.ending
+
+pub returns-clause-ending : goal.returns-clause-ending
+returns-clause-ending g c = of_kind IsAnswerEnding _ (rw c.in-Ended.is at c.dial_and_send.ensures.page_cause)

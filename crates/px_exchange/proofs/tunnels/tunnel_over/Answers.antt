@@ -62,5 +62,5 @@ returns-clause-talks g c s i p o fresh page_due =
           (g.I.Source.state c.args.link_in.now) (g.I.Source.state c.carry-carried.new.link_in) l (g.P.Sink.state c.carry-carried.new.link_out) k.there k.back
           (rw c.as_bytes-2.ensures at (c.in-Ok-write_all.ensures.bytes o)) (sent_head plan (g.P.Sink.state c.args.link_out.now) l fresh.nothing_taken asked) (c.in-Ok.ensures.cause ∙ fresh.no_write_failed) fresh.no_read_failed fresh.nothing_read
           k.is_back.carries.source_goes_on.offered_same
-          (rw c.as_bytes-3.ensures at (k.is_there.carries.takes s told_link)) k.is_there.carries.sink_cause (k.is_back.carries.takes i told_client) k.is_back.carries.source_cause);
+          (rw c.as_bytes-3.ensures at (k.is_there.carries.takes s told_link)) k.is_there.carries.sink_cause (k.is_back.carries.takes i told_client) k.is_back.carries.source_cause (k.is_there.finished told_link));
     }
