@@ -30,7 +30,7 @@ use Rattle.px_notes.specs.declared.endings.After.{After}
 use Rattle.px_exchange.specs.Dialling.{DialsOnce, OutcomeCause}
 use Rattle.px_exchange.specs.Exchange.{Answers, Client, DialsBy, Does, Reads}
 use Rattle.px_exchange.specs.Rows.{Answer, Came, Forward, NoName, NotReached, Over, Reply, Task, Through, Tunnel, Undialled, after_tunnel, page_of, row, task_of}
-use Rattle.px_exchange.specs.Standing.{ReturnsOwed, Stands, answer_of}
+use Rattle.px_exchange.specs.Standing.{ReturnsOwed, Stands}
 use Rattle.px_serve.specs.Ends.{end_after}
 use Rattle.px_serve.specs.Histories.{Begun}
 use Rattle.px_serve.specs.Answering.{AnswersHanded, AnswersNothing}
