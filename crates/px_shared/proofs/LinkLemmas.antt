@@ -30,7 +30,7 @@ use Rattle.px_notes.specs.declared.endings.After.{After}
 use Rattle.px_exchange.specs.Dialling.{DialsOnce, OutcomeCause}
 use Rattle.px_exchange.specs.Exchange.{Answers, Client, DialsBy, Does, Reads}
 use Rattle.px_exchange.specs.Rows.{Answer, Came, Forward, NoName, NotReached, Over, Reply, Task, Through, Tunnel, Undialled, after_tunnel, page_of, row, task_of}
-use Rattle.px_exchange.specs.Standing.{ReturnsOwed, Stands, answer_of}
+use Rattle.px_exchange.specs.Standing.{ReturnsOwed, Stands}
 use Rattle.px_serve.specs.Ends.{end_after}
 use Rattle.px_serve.specs.Histories.{Begun}
 use Rattle.px_serve.specs.Answering.{AnswersHanded, AnswersNothing}
@@ -194,10 +194,10 @@ forward_alone failed ask route p c old new taken taken' x all m d = by d.came d.
     by NoName e r s = record { before = (before_last route outcome.NoName old new all e).0; same = record { came = NoName; dials = dial_heard route outcome.NoName old new e; reads = r; stands = s } }
     by NotReached e r s = record { before = (before_last route outcome.NotReached old new all e).0; same = record { came = NotReached; dials = dial_heard route outcome.NotReached old new e; reads = r; stands = s } }
     by (Over seen stream how) e r s = let b = before_last route (outcome.Link seen) old new all e in
-      record {
-        before = b.0;
-        same = record { came = Over (as_heard seen) stream how; dials = dial_heard route (outcome.Link seen) old new e; reads = r; stands = forward_heard ask route p seen stream taken taken' x how b.1 s };
-      }
+        record {
+          before = b.0;
+          same = record { came = Over (as_heard seen) stream how; dials = dial_heard route (outcome.Link seen) old new e; reads = r; stands = forward_heard ask route p seen stream taken taken' x how b.1 s };
+        }
     by (Through seen carried out back) e r s = absurd r
 
 tunnel_alone : (failed : Bool) (pages : Page → Due) (t : TunnelPlan) (c : Client) (old new : DialerState) (taken taken' : List ℕ) (x : Conclusion) → EachGives new.dials → x.ending ≢ ending.Tunnel → x ≢ broken after.NoMemory
