@@ -175,7 +175,7 @@ pub answered : (config : Config) (j : Judgement) (c : Client) (old new : DialerS
     → WhereFailed o o' (λ failed. Does failed (task_of config j) c old new o.taken o'.taken (talked.Ended x)) → Answers config j c old new o.taken o'.taken x
 answered config j c old new o o' x h = record { failed = h.failed; does = h.is_so }
 
--- the page in place of a tunnel was returned: the client's sink, that hadn't failed before, failed exactly where what comes after says so
+-- the page in place of a tunnel was returned: the client's sink, that hadn't failed, failed exactly where what comes after says so
 pub tunnel_page_returned : (task : Task) (c : Client) (old new : DialerState) (o mid o' : SinkState) (p : Page) (x : Conclusion)
     → mid.faults ≡ o.faults → WriteCause mid o' x.after
     → WhereFailed o mid (λ failed. Does failed task c old new o.taken mid.taken (talked.Page p)) → ReturnsDue (page_of task p) mid.taken o'.taken x

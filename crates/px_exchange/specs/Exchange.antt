@@ -106,8 +106,8 @@ pub record DoesOver (failed : Bool) (task : Task) (c : Client) (taken taken' : L
   pub reads : Reads failed task c came
   pub stands : Stands (page_of task) (row task came) came taken taken' t
 
--- What was judged was done: the client's stream, the dialer before and after, what the client's sink had taken before and after, and
--- what came of it, whole or as far as a fault of that sink or want of memory let it stand.
+-- What was judged was done: the client's stream, the dialer before and after, what the client's sink had taken before and after,
+-- and what came of it, whole or as far as a fault of that sink or want of memory let it stand.
 pub record Does (failed : Bool) (task : Task) (c : Client) (old new : DialerState) (taken taken' : List ℕ) (t : Talked) : Type 0 where
   pub came : Came
   pub dials : Dials task came old new

@@ -45,8 +45,8 @@ page_of (Forward ask route m) p = ask.page_due p
 page_of (Tunnel pages t) p = pages p
 
 -- What came of it: nothing was dialled; the host's name wasn't found; the host wasn't reached; over a link, of the client's bytes
--- that came, so much was sent; or over a link both directions of a tunnel were carried, with that outcome: those bytes of the client
--- and those of the link.
+-- that came, so much was sent; or over a link both directions of a tunnel were carried, with that outcome: those bytes of the
+-- client and those of the link.
 pub data Came : Type 0 where
   Undialled : Came
   NoName : Came
@@ -54,8 +54,8 @@ pub data Came : Type 0 where
   Over : LinkSeen → List ℕ → Sent → Came
   Through : LinkSeen → Carried → List ℕ → List ℕ → Came
 
--- What is owed to the client at last: that is due; what the answer that came over a link becomes; or nothing more, and the exchange is
--- concluded so.
+-- What is owed to the client at last: that is due; what the answer that came over a link becomes; or nothing more, and the
+-- exchange is concluded so.
 pub data Owed : Type 0 where
   Is : Due → Owed
   Answer : Ask → LinkSeen → Owed
