@@ -25,9 +25,9 @@ use Rattle.px_pumps.specs.declared.dues.Due.{Due}
 use Rattle.px_pumps.specs.declared.talks.Talked.{Talked}
 use Rattle.px_pumps.specs.declared.talks.Talked.TheVariants as talked
 use Rattle.px_exchange.specs.Dialling.{DialsOnce}
-use Rattle.px_exchange.specs.Exchange.{Answers, Client, Does, DoesOver, IsOver, Reads, WhereFailed}
+use Rattle.px_exchange.specs.Exchange.{Answers, Client, Does, DoesOver, IsOver, ReadsOfClient, WhereFailed}
 use Rattle.px_exchange.specs.Replies.{local_due}
-use Rattle.px_exchange.specs.Rows.{Answer, Came, Ended, Forward, Is, NoName, NotReached, Over, Owed, Reply, Task, Through, Tunnel, Undialled, no_name_page, not_reached_page, page_of, row, task_of}
+use Rattle.px_exchange.specs.Rows.{Answer, Came, Ended, Forward, Is, NoName, NotReached, Over, Owed, Reply, Task, Through, Tunnel, Undialled, no_name_page, not_reached_page, task_page, exchange_row, task_of}
 use Rattle.px_exchange.specs.Standing.{ReturnsDue, ReturnsOwed, Stands, TalksOf}
 
 -- ---- bytes that were added
@@ -59,7 +59,7 @@ page_owed (Ended y) pages taken mid taken' p x h r = absurd h.1
 
 -- what was read says nothing of the client's sink, where a page is owed
 reads_same : (failed failed' : Bool) (task : Task) (c : Client) (came : Came) (taken mid : List ℕ) (p : Page)
-    → TalksOf (page_of task) (row task came).owed taken mid (talked.Page p) → Reads failed task c came → Reads failed' task c came
+    → TalksOf (task_page task) (exchange_row task came).owed taken mid (talked.Page p) → ReadsOfClient failed task c came → ReadsOfClient failed' task c came
 reads_same failed failed' (Reply due) c Undialled taken mid p t h = h
 reads_same failed failed' (Reply due) c NoName taken mid p t h = absurd h
 reads_same failed failed' (Reply due) c NotReached taken mid p t h = absurd h
@@ -78,14 +78,14 @@ reads_same failed failed' (Tunnel pages t') c (Through seen carried out back) ta
 
 -- the page that is owed behind a talk was returned
 pub page_returned : (failed failed' : Bool) (task : Task) (c : Client) (old new : DialerState) (taken mid taken' : List ℕ) (p : Page) (x : Conclusion)
-    → Does failed task c old new taken mid (talked.Page p) → ReturnsDue (page_of task p) mid taken' x → Does failed' task c old new taken taken' (talked.Ended x)
+    → Does failed task c old new taken mid (talked.Page p) → ReturnsDue (task_page task p) mid taken' x → Does failed' task c old new taken taken' (talked.Ended x)
 page_returned failed failed' task c old new taken mid taken' p x d r =
     let s = d.stands in
     record {
       came = d.came;
       dials = d.dials;
       reads = reads_same failed failed' task c d.came s.mid mid p s.talks d.reads;
-      stands = record { sent = s.sent; mid = s.mid; first = s.first; talks = page_owed (row task d.came).owed (page_of task) s.mid mid taken' p x s.talks r };
+      stands = record { sent = s.sent; mid = s.mid; first = s.first; talks = page_owed (exchange_row task d.came).owed (task_page task) s.mid mid taken' p x s.talks r };
     }
 
 -- ---- a reply without a dial
@@ -139,7 +139,7 @@ pub forward_dialled : (failed : Bool) (ask : Ask) (route : Route) (m : Message) 
     → DialsOnce route (outcome.Link seen) old new → DoesOver failed (Forward ask route m) c taken taken' t seen → Does failed (Forward ask route m) c old new taken taken' t
 forward_dialled failed ask route m c old new taken taken' t seen d o = by o.came o.over o.reads o.stands
   where
-    by : (came : Came) → IsOver came seen → Reads failed (Forward ask route m) c came → Stands ask.page_due (row (Forward ask route m) came) came taken taken' t
+    by : (came : Came) → IsOver came seen → ReadsOfClient failed (Forward ask route m) c came → Stands ask.page_due (exchange_row (Forward ask route m) came) came taken taken' t
         → Does failed (Forward ask route m) c old new taken taken' t
     by Undialled over reads stands = absurd over
     by NoName over reads stands = absurd over
@@ -151,7 +151,7 @@ pub tunnel_dialled : (failed : Bool) (pages : Page → Due) (p : TunnelPlan) (c 
     → DialsOnce p.route (outcome.Link seen) old new → DoesOver failed (Tunnel pages p) c taken taken' t seen → Does failed (Tunnel pages p) c old new taken taken' t
 tunnel_dialled failed pages p c old new taken taken' t seen d o = by o.came o.over o.reads o.stands
   where
-    by : (came : Came) → IsOver came seen → Reads failed (Tunnel pages p) c came → Stands pages (row (Tunnel pages p) came) came taken taken' t
+    by : (came : Came) → IsOver came seen → ReadsOfClient failed (Tunnel pages p) c came → Stands pages (exchange_row (Tunnel pages p) came) came taken taken' t
         → Does failed (Tunnel pages p) c old new taken taken' t
     by Undialled over reads stands = absurd over
     by NoName over reads stands = absurd over
@@ -175,10 +175,10 @@ pub answered : (config : Config) (j : Judgement) (c : Client) (old new : DialerS
     → WhereFailed o o' (λ failed. Does failed (task_of config j) c old new o.taken o'.taken (talked.Ended x)) → Answers config j c old new o.taken o'.taken x
 answered config j c old new o o' x h = record { failed = h.failed; does = h.is_so }
 
--- the page in place of a tunnel was returned: the client's sink, that hadn't failed before, failed exactly where what comes after says so
+-- the page in place of a tunnel was returned: the client's sink, that hadn't failed, failed exactly where what comes after says so
 pub tunnel_page_returned : (task : Task) (c : Client) (old new : DialerState) (o mid o' : SinkState) (p : Page) (x : Conclusion)
     → mid.faults ≡ o.faults → WriteCause mid o' x.after
-    → WhereFailed o mid (λ failed. Does failed task c old new o.taken mid.taken (talked.Page p)) → ReturnsDue (page_of task p) mid.taken o'.taken x
+    → WhereFailed o mid (λ failed. Does failed task c old new o.taken mid.taken (talked.Page p)) → ReturnsDue (task_page task p) mid.taken o'.taken x
     → WhereFailed o o' (λ failed. Does failed task c old new o.taken o'.taken (talked.Ended x))
 tunnel_page_returned task c old new o mid o' p x calm cause h r =
     let so = failed_by mid o' x.after (λ failed. Does failed task c old new o.taken o'.taken (talked.Ended x)) cause

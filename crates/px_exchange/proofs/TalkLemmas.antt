@@ -23,7 +23,7 @@ use Rattle.px_pumps.specs.declared.talks.Talked.{Talked}
 use Rattle.px_pumps.specs.declared.talks.Talked.TheVariants as talked
 use Rattle.px_templates.specs.declared.pages.Page.TheVariants as page
 use Rattle.px_exchange.specs.Exchange.{Client, DoesOver, link_seen}
-use Rattle.px_exchange.specs.Rows.{Answer, Forward, Over, row}
+use Rattle.px_exchange.specs.Rows.{Answer, Forward, Over, exchange_row}
 use Rattle.px_exchange.specs.Standing.{Memory, Nothing, ReturnsDue, Sink, TalksOf, answer_of, stopped}
 use Rattle.px_exchange.proofs.StandingLemmas.{front_added, proper_added}
 
@@ -50,7 +50,7 @@ answer_is false answer i i' o fresh same f a = rw f (same ∙ sym fresh ∙ sym 
 -- what was sent and what the client was written first are the line's
 stands_over : (failed : Bool) (ask : Ask) (route : Route) (m : Message) (c : Client) (seen : LinkSeen) (taken mid taken' : List ℕ) (how : Sent) (t : Talked)
     (s : Sends m c.stream c.behind [] seen.sent taken mid how) → seen.write_failed ≡ is_link_failed how
-    → TalksOf ask.page_due (row (Forward ask route m) (Over seen s.came how)).owed mid taken' t
+    → TalksOf ask.page_due (exchange_row (Forward ask route m) (Over seen s.came how)).owed mid taken' t
     → DoesOver failed (Forward ask route m) c taken taken' t seen
 stands_over failed ask route m c seen taken mid taken' sent.Whole t s l k = record {
   came = Over seen s.came sent.Whole;

@@ -133,7 +133,7 @@ IsPageOr IsOf (ending.Page p) = Unit {0}
 IsPageOr IsOf e = IsOf e
 
 -- how an exchange may end, by what was judged, whatever the devices tell
-abbrev pub EndsAs : Judgement → Ending → Type 0
-EndsAs (judgement.Local reply) e = (e ≡ reply_ending reply.kind) ⊎ (e ≡ ending.Broken)
-EndsAs (judgement.Forward plan) e = IsPageOr IsAnswerEnding e
-EndsAs (judgement.Tunnel t) e = IsPageOr IsTunnelEnding e
+abbrev pub EndsByJudgement : Judgement → Ending → Type 0
+EndsByJudgement (judgement.Local reply) e = (e ≡ reply_ending reply.kind) ⊎ (e ≡ ending.Broken)
+EndsByJudgement (judgement.Forward plan) e = IsPageOr IsAnswerEnding e
+EndsByJudgement (judgement.Tunnel t) e = IsPageOr IsTunnelEnding e

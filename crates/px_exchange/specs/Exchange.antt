@@ -20,7 +20,7 @@ use Rattle.px_judging.specs.declared.judgements.Judgement.{Judgement}
 use Rattle.px_pumps.specs.declared.talks.Talked.{Talked}
 use Rattle.px_pumps.specs.declared.talks.Talked.TheVariants as talked
 use Rattle.px_exchange.specs.Dialling.{DialsOnce}
-use Rattle.px_exchange.specs.Rows.{Came, Forward, NoName, NotReached, Over, Reply, Task, Through, Tunnel, Undialled, page_of, row, task_of}
+use Rattle.px_exchange.specs.Rows.{Came, Forward, NoName, NotReached, Over, Reply, Task, Through, Tunnel, Undialled, task_page, exchange_row, task_of}
 use Rattle.px_exchange.specs.Standing.{Stands}
 
 -- a client's stream behind the request's head, and what of it is left behind the exchange
@@ -78,16 +78,16 @@ CarriesSome false bytes carried = carried ≡ take DIRECTION_LIMIT bytes
 
 -- what is read of the client by what came; failed is whether the client's sink failed in a tunnel, behind which the link was told the
 -- end
-abbrev pub Reads : Bool → Task → Client → Came → Type 0
-Reads failed task c Undialled = c.behind ≡ c.stream
-Reads failed (Reply due) c came = ⊥
-Reads failed task c NoName = c.behind ≡ c.stream
-Reads failed task c NotReached = c.behind ≡ c.stream
-Reads failed (Forward ask route m) c (Over seen stream how) =
+abbrev pub ReadsOfClient : Bool → Task → Client → Came → Type 0
+ReadsOfClient failed task c Undialled = c.behind ≡ c.stream
+ReadsOfClient failed (Reply due) c came = ⊥
+ReadsOfClient failed task c NoName = c.behind ≡ c.stream
+ReadsOfClient failed task c NotReached = c.behind ≡ c.stream
+ReadsOfClient failed (Forward ask route m) c (Over seen stream how) =
     IsStream (is_read_failed how) stream c.stream c.behind × BodyStands m stream c.behind how × (seen.write_failed ≡ is_link_failed how)
-Reads failed (Forward ask route m) c (Through seen carried out back) = ⊥
-Reads failed (Tunnel pages t) c (Over seen stream how) = (c.behind ≡ c.stream) × StopsOpening how × (seen.write_failed ≡ is_link_failed how)
-Reads failed (Tunnel pages t) c (Through seen carried out back) =
+ReadsOfClient failed (Forward ask route m) c (Through seen carried out back) = ⊥
+ReadsOfClient failed (Tunnel pages t) c (Over seen stream how) = (c.behind ≡ c.stream) × StopsOpening how × (seen.write_failed ≡ is_link_failed how)
+ReadsOfClient failed (Tunnel pages t) c (Through seen carried out back) =
     (carried.client_write ≡ failed)
     × IsTrue seen.finished
     × CarriesSome (carried.no_memory || (carried.client_read || seen.write_failed)) c.stream out
@@ -105,16 +105,16 @@ IsOver came seen = ⊥
 pub record DoesOver (failed : Bool) (task : Task) (c : Client) (taken taken' : List ℕ) (t : Talked) (seen : LinkSeen) : Type 0 where
   pub came : Came
   pub over : IsOver came seen
-  pub reads : Reads failed task c came
-  pub stands : Stands (page_of task) (row task came) came taken taken' t
+  pub reads : ReadsOfClient failed task c came
+  pub stands : Stands (task_page task) (exchange_row task came) came taken taken' t
 
--- What was judged was done: the client's stream, the dialer before and after, what the client's sink had taken before and after, and
--- what came of it, whole or as far as a fault of that sink or want of memory let it stand.
+-- What was judged was done: the client's stream, the dialer before and after, what the client's sink had taken before and after,
+-- and what came of it, whole or as far as a fault of that sink or want of memory let it stand.
 pub record Does (failed : Bool) (task : Task) (c : Client) (old new : DialerState) (taken taken' : List ℕ) (t : Talked) : Type 0 where
   pub came : Came
   pub dials : Dials task came old new
-  pub reads : Reads failed task c came
-  pub stands : Stands (page_of task) (row task came) came taken taken' t
+  pub reads : ReadsOfClient failed task c came
+  pub stands : Stands (task_page task) (exchange_row task came) came taken taken' t
 
 -- one exchange by what was judged
 pub record Answers (config : Config) (j : Judgement) (c : Client) (old new : DialerState) (taken taken' : List ℕ) (x : Conclusion) : Type 0 where

@@ -39,14 +39,14 @@ task_of config (judgement.Forward plan) =
 task_of config (judgement.Tunnel t) = Tunnel (page_due config t.url t.route false) t
 
 -- what is due where a page is returned in place of an answer; none is in place of a reply that is made here
-abbrev pub page_of : Task → Page → Due
-page_of (Reply due) p = due
-page_of (Forward ask route m) p = ask.page_due p
-page_of (Tunnel pages t) p = pages p
+abbrev pub task_page : Task → Page → Due
+task_page (Reply due) p = due
+task_page (Forward ask route m) p = ask.page_due p
+task_page (Tunnel pages t) p = pages p
 
 -- What came of it: nothing was dialled; the host's name wasn't found; the host wasn't reached; over a link, of the client's bytes
--- that came, so much was sent; or over a link both directions of a tunnel were carried, with that outcome: those bytes of the client
--- and those of the link.
+-- that came, so much was sent; or over a link both directions of a tunnel were carried, with that outcome: those bytes of the
+-- client and those of the link.
 pub data Came : Type 0 where
   Undialled : Came
   NoName : Came
@@ -54,21 +54,21 @@ pub data Came : Type 0 where
   Over : LinkSeen → List ℕ → Sent → Came
   Through : LinkSeen → Carried → List ℕ → List ℕ → Came
 
--- What is owed to the client at last: that is due; what the answer that came over a link becomes; or nothing more, and the exchange is
--- concluded so.
+-- What is owed to the client at last: that is due; what the answer that came over a link becomes; or nothing more, and the
+-- exchange is concluded so.
 pub data Owed : Type 0 where
   Is : Due → Owed
   Answer : Ask → LinkSeen → Owed
   Ended : Conclusion → Owed
 
 -- a line of the table: what is sent over a link, what is returned first, and what is owed behind that
-pub record Row : Type 0 where
+pub record ExchangeRow : Type 0 where
   pub sent : List ℕ
   pub first : List ℕ
   pub owed : Owed
 
 -- nothing is sent over a link
-abbrev pub unsent : Owed → Row
+abbrev pub unsent : Owed → ExchangeRow
 unsent owed = record { sent = []; first = []; owed = owed }
 
 -- the page of a dial whose host's name wasn't found
@@ -92,24 +92,24 @@ abbrev pub carried_so : Carried → Conclusion
 carried_so c = if c.no_memory then broken after.NoMemory else record { ending = ending.Tunnel; after = after_tunnel c.client_read c.client_write }
 
 -- The table, a line for each way that an exchange goes. What is judged before a dial is px_judging's: its first lines.
-abbrev pub row : Task → Came → Row
-row (Reply due) came = unsent (Is due)
-row (Forward ask route m) NoName = unsent (Is (ask.page_due (no_name_page route)))
-row (Tunnel pages t) NoName = unsent (Is (pages (no_name_page t.route)))
-row (Forward ask route m) NotReached = unsent (Is (ask.page_due (not_reached_page route)))
-row (Tunnel pages t) NotReached = unsent (Is (pages (not_reached_page t.route)))
-row (Tunnel pages t) (Over seen stream sent.LinkFailed) = record { sent = t.head; first = []; owed = Is (pages page.SendFailed) }
-row (Tunnel pages t) (Through seen carried out back) = record { sent = t.head ++ out; first = t.greeting ++ back; owed = Ended (carried_so carried) }
-row (Forward ask route m) (Over seen stream sent.LinkFailed) = record { sent = all_of m stream; first = interim_behind m seen.sent; owed = Is (ask.page_due page.SendFailed) }
-row (Forward ask route m) (Over seen stream sent.ReadFailed) = record { sent = all_of m stream; first = interim m; owed = Ended (broken after.ReadFailed) }
-row (Forward ask route m) (Over seen stream sent.Cut) = record { sent = all_of m stream; first = interim m; owed = Ended (broken after.Cut) }
-row (Forward ask route m) (Over seen stream sent.Misframed) = record { sent = all_of m stream; first = interim m; owed = Is (ask.page_due page.InvalidRequest) }
-row (Forward ask route m) (Over seen stream sent.Whole) = record { sent = all_of m stream; first = interim m; owed = Answer ask seen }
+abbrev pub exchange_row : Task → Came → ExchangeRow
+exchange_row (Reply due) came = unsent (Is due)
+exchange_row (Forward ask route m) NoName = unsent (Is (ask.page_due (no_name_page route)))
+exchange_row (Tunnel pages t) NoName = unsent (Is (pages (no_name_page t.route)))
+exchange_row (Forward ask route m) NotReached = unsent (Is (ask.page_due (not_reached_page route)))
+exchange_row (Tunnel pages t) NotReached = unsent (Is (pages (not_reached_page t.route)))
+exchange_row (Tunnel pages t) (Over seen stream sent.LinkFailed) = record { sent = t.head; first = []; owed = Is (pages page.SendFailed) }
+exchange_row (Tunnel pages t) (Through seen carried out back) = record { sent = t.head ++ out; first = t.greeting ++ back; owed = Ended (carried_so carried) }
+exchange_row (Forward ask route m) (Over seen stream sent.LinkFailed) = record { sent = all_of m stream; first = interim_behind m seen.sent; owed = Is (ask.page_due page.SendFailed) }
+exchange_row (Forward ask route m) (Over seen stream sent.ReadFailed) = record { sent = all_of m stream; first = interim m; owed = Ended (broken after.ReadFailed) }
+exchange_row (Forward ask route m) (Over seen stream sent.Cut) = record { sent = all_of m stream; first = interim m; owed = Ended (broken after.Cut) }
+exchange_row (Forward ask route m) (Over seen stream sent.Misframed) = record { sent = all_of m stream; first = interim m; owed = Is (ask.page_due page.InvalidRequest) }
+exchange_row (Forward ask route m) (Over seen stream sent.Whole) = record { sent = all_of m stream; first = interim m; owed = Answer ask seen }
 -- the client's sink failed in what is returned first
-row (Forward ask route m) (Over seen stream sent.WriteFailed) = record { sent = m.head; first = interim m; owed = Ended (broken after.WriteFailed) }
-row (Tunnel pages t) (Over seen stream sent.WriteFailed) = record { sent = t.head; first = t.greeting; owed = Ended (broken after.WriteFailed) }
+exchange_row (Forward ask route m) (Over seen stream sent.WriteFailed) = record { sent = m.head; first = interim m; owed = Ended (broken after.WriteFailed) }
+exchange_row (Tunnel pages t) (Over seen stream sent.WriteFailed) = record { sent = t.head; first = t.greeting; owed = Ended (broken after.WriteFailed) }
 -- memory was wanting in the sending
-row (Forward ask route m) (Over seen stream sent.NoMemory) = record { sent = all_of m stream; first = interim_behind m seen.sent; owed = Ended (broken after.NoMemory) }
-row (Tunnel pages t) (Over seen stream sent.NoMemory) = record { sent = t.head; first = greeting_behind t seen.sent; owed = Ended (broken after.NoMemory) }
+exchange_row (Forward ask route m) (Over seen stream sent.NoMemory) = record { sent = all_of m stream; first = interim_behind m seen.sent; owed = Ended (broken after.NoMemory) }
+exchange_row (Tunnel pages t) (Over seen stream sent.NoMemory) = record { sent = t.head; first = greeting_behind t seen.sent; owed = Ended (broken after.NoMemory) }
 -- memory was wanting in the dial; nothing else comes
-row task came = unsent (Ended (broken after.NoMemory))
+exchange_row task came = unsent (Ended (broken after.NoMemory))

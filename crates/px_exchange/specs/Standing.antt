@@ -14,7 +14,7 @@ use Rattle.px_pumps.specs.Returning.{HasDue}
 use Rattle.px_pumps.specs.declared.dues.Due.{Due}
 use Rattle.px_pumps.specs.declared.talks.Talked.{Talked}
 use Rattle.px_pumps.specs.declared.talks.Talked.TheVariants as talked
-use Rattle.px_exchange.specs.Rows.{Came, Over, Owed, Is, Answer, Ended, Row, Through}
+use Rattle.px_exchange.specs.Rows.{Came, Over, Owed, Is, Answer, Ended, ExchangeRow, Through}
 
 -- what stopped an exchange: nothing, a sink that failed, or want of memory
 pub data Stop : Type 0 where
@@ -81,7 +81,7 @@ went_over (Through seen carried out back) = seen.sent
 went_over came = []
 
 -- how much of a line stands: of what is sent, and of what is returned, by what the client's sink had taken before and after
-pub record Stands (pages : Page → Due) (row : Row) (came : Came) (taken taken' : List ℕ) (t : Talked) : Type 0 where
+pub record Stands (pages : Page → Due) (row : ExchangeRow) (came : Came) (taken taken' : List ℕ) (t : Talked) : Type 0 where
   pub sent : Adds (sending_stop came) [] (went_over came) row.sent
   -- what the client's sink had taken behind what is returned first
   pub mid : List ℕ

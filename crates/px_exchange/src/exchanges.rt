@@ -6,7 +6,7 @@ ghost use Rattle.px_base.specs.Sources.{SourceGoesOn};
 ghost use Rattle.px_streams.specs.Feeds.{bytes_behind};
 ghost use Rattle.px_judging.specs.Judging.{SpeaksOfNoDial};
 ghost use Rattle.px_pumps.specs.Returning.{IsAnswerEnding, WriteCause as SinkCause};
-ghost use Rattle.px_exchange.specs.Causes.{EndingCause, EndsAs, ClientReadCause, ClientStaysOpen, ClientWriteCause, IsPageOr, IsTunnelEnding};
+ghost use Rattle.px_exchange.specs.Causes.{EndingCause, EndsByJudgement, ClientReadCause, ClientStaysOpen, ClientWriteCause, IsPageOr, IsTunnelEnding};
 ghost use Rattle.px_exchange.specs.Exchange.{Answers, Does, WhereFailed};
 ghost use Rattle.px_exchange.specs.Replies.{page_due};
 ghost use Rattle.px_exchange.specs.Rows.{task_of};
@@ -152,7 +152,7 @@ pub fn exchange<R: Threads + Sync, S: Source, O: Sink, D: Dialer>(
     ensures read_cause { ClientReadCause client.old.source client.new.source result.after }
     ensures write_cause { ClientWriteCause (O.state client_out.old) (O.state client_out.new) result }
     ensures page_cause { EndingCause (D.state dialer.old) (D.state dialer.new) result.ending }
-    ensures ending { EndsAs judgement result.ending }
+    ensures ending { EndsByJudgement judgement result.ending }
     ensures open { ClientStaysOpen (O.state client_out.old) (O.state client_out.new) result }
     ensures in_goes_on { SourceGoesOn client.old.source client.new.source }
     ensures out_goes_on { SinkGoesOn (O.state client_out.old) (O.state client_out.new) }

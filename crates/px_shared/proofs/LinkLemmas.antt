@@ -28,8 +28,8 @@ use Rattle.px_pumps.specs.declared.dues.Due.{Due}
 use Rattle.px_pumps.specs.declared.talks.Talked.TheVariants as talked
 use Rattle.px_notes.specs.declared.endings.After.{After}
 use Rattle.px_exchange.specs.Dialling.{DialsOnce, OutcomeCause}
-use Rattle.px_exchange.specs.Exchange.{Answers, Client, DialsBy, Does, Reads}
-use Rattle.px_exchange.specs.Rows.{Answer, Came, Forward, NoName, NotReached, Over, Reply, Task, Through, Tunnel, Undialled, after_tunnel, page_of, row, task_of}
+use Rattle.px_exchange.specs.Exchange.{Answers, Client, DialsBy, Does, ReadsOfClient}
+use Rattle.px_exchange.specs.Rows.{Answer, Came, Forward, NoName, NotReached, Over, Reply, Task, Through, Tunnel, Undialled, after_tunnel, task_page, exchange_row, task_of}
 use Rattle.px_exchange.specs.Standing.{ReturnsOwed, Stands}
 use Rattle.px_serve.specs.Ends.{end_after}
 use Rattle.px_serve.specs.Histories.{Begun}
@@ -100,8 +100,8 @@ whole_heard ask seen mid taken' x w (inr silent) = inr silent
 
 -- a request over a link
 forward_heard : (ask : Ask) (route : Route) (m : Message) (seen : LinkSeen) (stream taken taken' : List ℕ) (x : Conclusion) (how : Sent) → AnswersOne seen
-    → Stands ask.page_due (row (Forward ask route m) (Over seen stream how)) (Over seen stream how) taken taken' (talked.Ended x)
-    → Stands ask.page_due (row (Forward ask route m) (Over (as_heard seen) stream how)) (Over (as_heard seen) stream how) taken taken' (talked.Ended x)
+    → Stands ask.page_due (exchange_row (Forward ask route m) (Over seen stream how)) (Over seen stream how) taken taken' (talked.Ended x)
+    → Stands ask.page_due (exchange_row (Forward ask route m) (Over (as_heard seen) stream how)) (Over (as_heard seen) stream how) taken taken' (talked.Ended x)
 forward_heard ask route m seen stream taken taken' x sent.Whole w s = record { sent = s.sent; mid = s.mid; first = s.first; talks = whole_heard ask seen s.mid taken' x w s.talks }
 forward_heard ask route m seen stream taken taken' x sent.LinkFailed w s = record { sent = s.sent; mid = s.mid; first = s.first; talks = s.talks }
 forward_heard ask route m seen stream taken taken' x sent.Misframed w s = record { sent = s.sent; mid = s.mid; first = s.first; talks = s.talks }
@@ -112,9 +112,9 @@ forward_heard ask route m seen stream taken taken' x sent.NoMemory w s = record 
 
 -- a tunnel that wasn't carried
 tunnel_heard : (failed : Bool) (pages : Page → Due) (t : TunnelPlan) (c : Client) (seen : LinkSeen) (stream taken taken' : List ℕ) (x : Conclusion) (how : Sent)
-    → Reads failed (Tunnel pages t) c (Over seen stream how)
-    → Stands pages (row (Tunnel pages t) (Over seen stream how)) (Over seen stream how) taken taken' (talked.Ended x)
-    → Stands pages (row (Tunnel pages t) (Over (as_heard seen) stream how)) (Over (as_heard seen) stream how) taken taken' (talked.Ended x)
+    → ReadsOfClient failed (Tunnel pages t) c (Over seen stream how)
+    → Stands pages (exchange_row (Tunnel pages t) (Over seen stream how)) (Over seen stream how) taken taken' (talked.Ended x)
+    → Stands pages (exchange_row (Tunnel pages t) (Over (as_heard seen) stream how)) (Over (as_heard seen) stream how) taken taken' (talked.Ended x)
 tunnel_heard failed pages t c seen stream taken taken' x sent.LinkFailed r s = record { sent = s.sent; mid = s.mid; first = s.first; talks = s.talks }
 tunnel_heard failed pages t c seen stream taken taken' x sent.WriteFailed r s = record { sent = s.sent; mid = s.mid; first = s.first; talks = s.talks }
 tunnel_heard failed pages t c seen stream taken taken' x sent.NoMemory r s = record { sent = s.sent; mid = s.mid; first = s.first; talks = s.talks }
@@ -176,7 +176,7 @@ reply_alone : (failed : Bool) (due : Due) (c : Client) (old new : DialerState) (
     → Does failed (Reply due) c old new taken taken' (talked.Ended x) → Alone old (Does failed (Reply due) c (with_heard old) (with_heard new) taken taken' (talked.Ended x))
 reply_alone failed due c old new taken taken' x all d = by d.came d.dials d.reads d.stands
   where
-    by : (came : Came) → new ≡ old → Reads failed (Reply due) c came → Stands (page_of (Reply due)) (row (Reply due) came) came taken taken' (talked.Ended x)
+    by : (came : Came) → new ≡ old → ReadsOfClient failed (Reply due) c came → Stands (task_page (Reply due)) (exchange_row (Reply due) came) came taken taken' (talked.Ended x)
         → Alone old (Does failed (Reply due) c (with_heard old) (with_heard new) taken taken' (talked.Ended x))
     by Undialled e r s = record { before = undialled old new e all; same = record { came = Undialled; dials = ap with_heard e; reads = r; stands = s } }
     by NoName e r s = absurd r
@@ -188,7 +188,7 @@ forward_alone : (failed : Bool) (ask : Ask) (route : Route) (p : Message) (c : C
     → Does failed (Forward ask route p) c old new taken taken' (talked.Ended x) → Alone old (Does failed (Forward ask route p) c (with_heard old) (with_heard new) taken taken' (talked.Ended x))
 forward_alone failed ask route p c old new taken taken' x all m d = by d.came d.dials d.reads d.stands
   where
-    by : (came : Came) → DialsBy route came old new → Reads failed (Forward ask route p) c came → Stands ask.page_due (row (Forward ask route p) came) came taken taken' (talked.Ended x)
+    by : (came : Came) → DialsBy route came old new → ReadsOfClient failed (Forward ask route p) c came → Stands ask.page_due (exchange_row (Forward ask route p) came) came taken taken' (talked.Ended x)
         → Alone old (Does failed (Forward ask route p) c (with_heard old) (with_heard new) taken taken' (talked.Ended x))
     by Undialled e r s = absurd (m s.talks.1)
     by NoName e r s = record { before = (before_last route outcome.NoName old new all e).0; same = record { came = NoName; dials = dial_heard route outcome.NoName old new e; reads = r; stands = s } }
@@ -204,7 +204,7 @@ tunnel_alone : (failed : Bool) (pages : Page → Due) (t : TunnelPlan) (c : Clie
     → Does failed (Tunnel pages t) c old new taken taken' (talked.Ended x) → Alone old (Does failed (Tunnel pages t) c (with_heard old) (with_heard new) taken taken' (talked.Ended x))
 tunnel_alone failed pages t c old new taken taken' x all n m d = by d.came d.dials d.reads d.stands
   where
-    by : (came : Came) → DialsBy t.route came old new → Reads failed (Tunnel pages t) c came → Stands pages (row (Tunnel pages t) came) came taken taken' (talked.Ended x)
+    by : (came : Came) → DialsBy t.route came old new → ReadsOfClient failed (Tunnel pages t) c came → Stands pages (exchange_row (Tunnel pages t) came) came taken taken' (talked.Ended x)
         → Alone old (Does failed (Tunnel pages t) c (with_heard old) (with_heard new) taken taken' (talked.Ended x))
     by Undialled e r s = absurd (m s.talks.1)
     by NoName e r s = record { before = (before_last t.route outcome.NoName old new all e).0; same = record { came = NoName; dials = dial_heard t.route outcome.NoName old new e; reads = r; stands = s } }
