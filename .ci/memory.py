@@ -4,7 +4,8 @@
 No clause ties want of memory to a refused growth, so a call that always answered it would be proved. `.ci/memory.tsv` names for
 each such call a file of cases or of tests in which it answers something else. A call is listed as `CRATE CALL`, a method as
 `Type::method`; these are the functions and methods that a crate hands out and whose result may say `Mem` or `NoMemory`, by
-itself, in an enumeration or in a structure.
+itself, in an enumeration or in a structure. One that
+is handed such an answer, and neither an allocator nor a reference, only passes it on, and isn't listed.
 
 Run at the root: .ci/memory.py. It prints each call without a file, each line of the table that is no call any more, and each
 file that isn't there, and then how many calls there are.
@@ -66,7 +67,9 @@ def calls_of(crate, wanting):
             kind, trait = owners[text.count("\n", 0, at)] if indent else (None, None)
             said = set(re.findall(r"\w+", signature.rpartition("->")[2])) if "->" in signature else set()
             is_own = (kind or name) in names and (public or trait or (kind and f"pub trait {kind}" in text))
-            if is_own and trait is None and said & wanting:
+            given = signature.rpartition("->")[0]
+            passes_on = not re.search(r"&|\bGlobal\b", given) and set(re.findall(r"\w+", given)) & wanting
+            if is_own and trait is None and said & wanting and not passes_on:
                 yield f"{kind}::{name}" if kind else name
 
 

@@ -411,6 +411,9 @@ class Linter(ActionLints, PatternLints, TemplateLints):
     def link_reuse(self, number, value):
         self.switch(number, value, "link-reuse")
 
+    def access_log(self, number, value):
+        self.switch(number, value, "access-log")
+
     def handle_as_empty_doc_returns_ok(self, number, value):
         self.switch(number, value, "handle-as-empty-doc-returns-ok")
 

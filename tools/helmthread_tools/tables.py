@@ -101,6 +101,7 @@ DIRECTIVES = (
     "handle-as-empty-doc-returns-ok",
     "toggle",
     "link-reuse",
+    "access-log",
     "pattern-limit",
     "client-specific-tag",
 )

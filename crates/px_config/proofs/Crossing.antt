@@ -40,10 +40,10 @@ template_sync = view_sync template_inside.the_row _ _ _ _ (declared_sync templat
 -- ---- settings and notes
 
 settings_send : IsSend settings.the_row
-settings_send = declared_send settings.the_type (search (sendable, text.the_send) depth 40, (search (sendable, crosses) depth 40, (search (sendable, crosses) depth 40, (search (sendable, crosses) depth 40, (search (sendable, crosses) depth 40, (search (sendable, crosses) depth 40, (search (sendable, crosses) depth 40, (search (sendable, list.the_send, text.the_send) depth 40, tt))))))))
+settings_send = declared_send settings.the_type (search (sendable, text.the_send) depth 40, (search (sendable, crosses) depth 40, (search (sendable, crosses) depth 40, (search (sendable, crosses) depth 40, (search (sendable, crosses) depth 40, (search (sendable, crosses) depth 40, (search (sendable, crosses) depth 40, (search (sendable, crosses) depth 40, (search (sendable, list.the_send, text.the_send) depth 40, tt)))))))))
 
 settings_sync : IsSync settings.the_row
-settings_sync = declared_sync settings.the_type (search (sendable, text.the_sync) depth 40, (search (sendable, crosses) depth 40, (search (sendable, crosses) depth 40, (search (sendable, crosses) depth 40, (search (sendable, crosses) depth 40, (search (sendable, crosses) depth 40, (search (sendable, crosses) depth 40, (search (sendable, list.the_sync, text.the_sync) depth 40, tt))))))))
+settings_sync = declared_sync settings.the_type (search (sendable, text.the_sync) depth 40, (search (sendable, crosses) depth 40, (search (sendable, crosses) depth 40, (search (sendable, crosses) depth 40, (search (sendable, crosses) depth 40, (search (sendable, crosses) depth 40, (search (sendable, crosses) depth 40, (search (sendable, crosses) depth 40, (search (sendable, list.the_sync, text.the_sync) depth 40, tt)))))))))
 
 note_send : IsSend note.the_row
 note_send = declared_send note.the_type (search (sendable, text.the_send) depth 40, (search (sendable, crosses) depth 40, (search (sendable, text.the_send) depth 40, tt)))

@@ -22,5 +22,6 @@ found directive.ForwardSocks4a = refl
 found directive.EmptyReturnsOk = refl
 found directive.Toggle = refl
 found directive.LinkReuse = refl
+found directive.AccessLog = refl
 found directive.PatternLimit = refl
 found directive.ClientTag = refl

@@ -1,5 +1,7 @@
--- What contracts see of what gives takings, and what its calls do.
-use Rattle.std.specs.Prelude.{◌≡◌, ℕ, ◌+◌, ◌≤◌, Bool, false, IsTrue, List, None}
+-- What contracts see of what gives takings and keeps a log, and what its calls do.
+use Rattle.std.specs.Prelude.{◌≡◌, ℕ, ◌+◌, ◌≤◌, Bool, false, IsTrue, List, length, Option, None, Some, Result}
+use Rattle.px_base.specs.Sinks.{AddsAll, SinkCause, SinkGoesOn, SinkState}
+use Rattle.px_base.specs.declared.faults.SinkFault.{SinkFault}
 use Rattle.px_patterns.specs.declared.urls.Url.{Url}
 use Rattle.px_config.specs.declared.configs.Config.{Config}
 use Rattle.px_config.specs.declared.insides.Taking.{Taking}
@@ -29,6 +31,8 @@ pub record InsideState : Type 1 where
   pub place : ℕ
   -- how many changes were made through it
   pub changes : ℕ
+  -- what takes a line of each exchange, if there is a log
+  pub log : Option SinkState
 
 -- what lasts, whatever is taken: what fits once, fits after; and where it is steady, nothing else does
 pub record InsideGoesOn (old new : InsideState) : Type 0 where
@@ -49,3 +53,25 @@ pub record GivesTaking (lawful : Law) (new : InsideState) (a : Asked) (t : Takin
 pub record ChangesLittle (old new : InsideState) (a : Asked) : Type 0 where
   pub one : new.changes ≤ old.changes + 1
   pub unasked : a.page_request ≡ false → new.changes ≡ old.changes
+
+-- a line was taken whole or, where it was refused, a proper front of it
+pub record TakesLine (old new : SinkState) (line : List ℕ) : Type 0 where
+  pub taken : Result (Unit {0}) SinkFault
+  pub bytes : AddsAll old new taken line
+  pub cause : SinkCause old new (length line) taken
+  pub goes_on : SinkGoesOn old new
+
+-- the same of a log, if there is one
+abbrev pub LogTakes : Option SinkState → Option SinkState → List ℕ → Type 0
+LogTakes None None line = Unit {0}
+LogTakes None (Some t) line = ⊥
+LogTakes (Some s) None line = ⊥
+LogTakes (Some s) (Some t) line = TakesLine s t line
+
+-- nothing changed but the log
+pub record ChangesLogAlone (old new : InsideState) : Type 0 where
+  pub fits_kept : (a : Asked) (t : Taking) → old.fits a t → new.fits a t
+  pub fits_only : (a : Asked) (t : Taking) → new.fits a t → old.fits a t
+  pub steady_same : new.steady ≡ old.steady
+  pub place_same : new.place ≡ old.place
+  pub changes_same : new.changes ≡ old.changes

@@ -126,6 +126,7 @@ nothing_set = record {
   empty_returns_ok = false;
   toggle = true;
   sharing = false;
+  access_log = false;
   pattern_limit = DEFAULT_PATTERNS;
   tags = [];
   forwards = [];
@@ -152,6 +153,7 @@ row_of directive.ForwardSocks4a = row (codes "forward-socks4a") refuses
 row_of directive.EmptyReturnsOk = row (codes "handle-as-empty-doc-returns-ok") (sets_switch (λ on m. record m { empty_returns_ok = on }))
 row_of directive.Toggle = row (codes "toggle") (sets_switch (λ on m. record m { toggle = on }))
 row_of directive.LinkReuse = row (codes "link-reuse") (sets_switch (λ on m. record m { sharing = on }))
+row_of directive.AccessLog = row (codes "access-log") (sets_switch (λ on m. record m { access_log = on }))
 row_of directive.PatternLimit = row (codes "pattern-limit") (sets_number MOST_PATTERNS (λ patterns m. record m { pattern_limit = patterns }))
 row_of directive.ClientTag = row (codes "client-specific-tag") (λ file. adds_tag)
 
@@ -195,6 +197,7 @@ settings_of m = record {
   empty_returns_ok = m.empty_returns_ok;
   toggle = m.toggle;
   sharing = m.sharing;
+  access_log = m.access_log;
   pattern_limit = m.pattern_limit;
   tags = m.tags;
 }

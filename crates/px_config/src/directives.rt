@@ -41,6 +41,8 @@ pub(crate) enum Directive {
     Toggle,
     /// `link-reuse`: 0 or 1.
     LinkReuse,
+    /// `access-log`: 0 or 1.
+    AccessLog,
     /// `pattern-limit`: how many patterns all action files may have.
     PatternLimit,
     /// `client-specific-tag`: a name and a description.
@@ -48,7 +50,7 @@ pub(crate) enum Directive {
 }
 
 /// All directives.
-pub(crate) const DIRECTIVES: [Directive; 17] = [
+pub(crate) const DIRECTIVES: [Directive; 18] = [
     Directive::ActionsFile,
     Directive::FilterFile,
     Directive::HostList,
@@ -64,6 +66,7 @@ pub(crate) const DIRECTIVES: [Directive; 17] = [
     Directive::EmptyReturnsOk,
     Directive::Toggle,
     Directive::LinkReuse,
+    Directive::AccessLog,
     Directive::PatternLimit,
     Directive::ClientTag,
 ];
@@ -89,6 +92,7 @@ impl Directive {
             Directive::EmptyReturnsOk => "handle-as-empty-doc-returns-ok",
             Directive::Toggle => "toggle",
             Directive::LinkReuse => "link-reuse",
+            Directive::AccessLog => "access-log",
             Directive::PatternLimit => "pattern-limit",
             Directive::ClientTag => "client-specific-tag",
         }

@@ -23,6 +23,6 @@ pub fn constants()
         directive.ActionsFile ∷ directive.FilterFile ∷ directive.HostList ∷ directive.Confdir ∷ directive.Templdir ∷ directive.ListenAddress
         ∷ directive.BufferLimit ∷ directive.Forward ∷ directive.ForwardSocks5 ∷ directive.ForwardSocks5t
         ∷ directive.ForwardSocks4 ∷ directive.ForwardSocks4a ∷ directive.EmptyReturnsOk ∷ directive.Toggle
-        ∷ directive.LinkReuse ∷ directive.PatternLimit ∷ directive.ClientTag ∷ [] }
+        ∷ directive.LinkReuse ∷ directive.AccessLog ∷ directive.PatternLimit ∷ directive.ClientTag ∷ [] }
     ensures directives { (directive : Directive) → directive_of (row_of directive).name ≡ Some directive }
 {}

@@ -59,6 +59,7 @@ pub(crate) struct Main {
     pub(crate) empty_returns_ok: bool,
     pub(crate) toggle: bool,
     pub(crate) sharing: bool,
+    pub(crate) access_log: bool,
     pub(crate) pattern_limit: u64,
     pub(crate) tags: List<Text>,
     pub(crate) forwards: Forwards,
@@ -156,6 +157,7 @@ impl Main {
             empty_returns_ok: false,
             toggle: true,
             sharing: false,
+            access_log: false,
             pattern_limit: DEFAULT_PATTERNS,
             tags: List::new(alloc),
             forwards: Forwards::empty(alloc),
@@ -195,6 +197,7 @@ impl Main {
             empty_returns_ok,
             toggle,
             sharing,
+            access_log,
             pattern_limit,
             tags,
             forwards,
@@ -212,6 +215,7 @@ impl Main {
                 empty_returns_ok,
                 toggle,
                 sharing,
+                access_log,
                 pattern_limit,
                 tags,
             },
@@ -304,6 +308,10 @@ impl Main {
             }
             Directive::LinkReuse => {
                 self.sharing = read_switch(line, value)?;
+                Ok(())
+            }
+            Directive::AccessLog => {
+                self.access_log = read_switch(line, value)?;
                 Ok(())
             }
             Directive::PatternLimit => {

@@ -16,6 +16,8 @@ pub struct Settings {
     pub toggle: bool,
     /// Whether the requests of one client's connection may share links to an origin; this project's own `link-reuse`.
     pub sharing: bool,
+    /// Whether a line is written of each exchange; this project's own `access-log`.
+    pub access_log: bool,
     /// The most patterns that all action files may have together; this project's own `pattern-limit`.
     pub pattern_limit: u64,
     /// The names of the tags that clients may have.

@@ -2,8 +2,10 @@
 #![tactic(auto)]
 
 mod help;
+mod logs;
 
 use help::asked_text;
+use logs::StdoutLogs;
 use px_base::{DiskFiles, ReaderSource, SystemClock, WriterSink};
 use px_commands::{Status, ToolParts, USAGE, report, run_tool};
 use px_doors::{SocketDoors, Times};
@@ -53,7 +55,8 @@ fn main(rt: HostRuntime) -> ExitCode {
         let files = KeptFiles::new(alloc, &rt);
         let doors = SocketDoors::new(alloc, &rt, Times::usual());
         let parts = DeskParts { files, doors, err };
-        let proxied = run_proxy(alloc, &rt, &words, parts);
+        let logs = StdoutLogs::new(rt.stdout());
+        let proxied = run_proxy(alloc, &rt, &words, parts, &logs);
         return ExitCode::from(proxied.status);
     }
     let parts = ToolParts {

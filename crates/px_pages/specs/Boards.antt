@@ -81,4 +81,4 @@ pub record FitsSeen (seen : List BoardState) (a : Asked) (t : Taking) : Type 0 w
 
 -- what contracts see of pages over a seat: its view, and the changes that it made
 abbrev pub seat_state : SeatState → InsideState
-seat_state seat = record { fits = FitsSeen seat.seen; steady = false; place = length seat.seen - 1; changes = seat.made }
+seat_state seat = record { fits = FitsSeen seat.seen; steady = false; place = length seat.seen - 1; changes = seat.made; log = None }

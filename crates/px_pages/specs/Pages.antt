@@ -90,4 +90,4 @@ BareLaw = FitsPages []
 
 -- takings fit by that law and no other, whatever is taken, and none changes anything
 abbrev pub pages_state : Law → InsideState
-pages_state law = record { fits = law; steady = true; place = 0; changes = 0 }
+pages_state law = record { fits = law; steady = true; place = 0; changes = 0; log = None }

@@ -62,6 +62,13 @@ impl<'r, N: BoardName + Send + Sync, R: Wait + Sync> Inside for BoardPages<'r, N
             Err(WearFault::Mem) => Err(Mem),
         }
     }
+
+    /// There is none.
+    fn logs(&self) -> bool {
+        false
+    }
+
+    fn log(&mut self, _line: &[u8]) {}
 }
 
 /// The taking of what is worn, with the page of what is asked for.

@@ -49,6 +49,13 @@ impl Inside for Pages {
             tags: copy_tags(alloc, tags)?,
         })
     }
+
+    /// There is none.
+    fn logs(&self) -> bool {
+        false
+    }
+
+    fn log(&mut self, _line: &[u8]) {}
 }
 
 impl Inside for BarePages {
@@ -73,6 +80,13 @@ impl Inside for BarePages {
             tags: List::new(alloc),
         })
     }
+
+    /// There is none.
+    fn logs(&self) -> bool {
+        false
+    }
+
+    fn log(&mut self, _line: &[u8]) {}
 }
 
 /// The page, where one is asked for.

@@ -1,6 +1,6 @@
 -- What one turn of a session adds.
-use Rattle.std.proofs.Common.{◌≡◌, ℕ, Bool, true, false, ◌+◌, ◌<◌, ◌==◌, not, IsTrue, List, [], ◌∷◌, ◌++◌, length, map, Option, None, Some, Ok, Err, sym, ap, subst, ◌∙◌, refl, inl, inr, arith, add-one, length-append}
-use Rattle.std.specs.Prelude.{All, if◌then◌else◌}
+use Rattle.std.proofs.Common.{◌≡◌, ℕ, Bool, true, false, ◌+◌, ◌<◌, ◌==◌, not, IsTrue, List, [], ◌∷◌, ◌++◌, drop, length, map, Option, None, Some, Ok, Err, sym, ap, subst, ◌∙◌, refl, inl, inr, arith, add-one, length-append}
+use Rattle.std.specs.Prelude.{All, if◌then◌else◌, unwrap_or}
 use Rattle.std.proofs.lemmas.List.{append-nil, map-append}
 use Rattle.std.proofs.lemmas.List.Elements.{All-nil}
 use Rattle.px_base.specs.Sources.{SourceGoesOn}
@@ -19,13 +19,16 @@ use Rattle.px_notes.specs.declared.endings.Ending.{Ending}
 use Rattle.px_notes.specs.declared.sessions.ExchangeNote.{ExchangeNote}
 use Rattle.px_notes.specs.declared.sessions.SessionEnd.{SessionEnd}
 use Rattle.px_notes.specs.declared.sessions.SessionEnd.TheVariants as end
-use Rattle.px_judging.specs.declared.readings.HeadSeen.{HeadSeen}
+use Rattle.px_metered.specs.Measured.{IsMeasured}
+use Rattle.px_metered.specs.Returned.{returned_of}
+use Rattle.px_metered.specs.declared.responses.Tally.{Tally}
 use Rattle.px_config.specs.Insides.{InsideState, Law}
 use Rattle.px_exchange.specs.Causes.{ClientReadCause, StaysOpenAfter, WriteCauseAfter}
 use Rattle.px_serve.specs.declared.ends.TheConstants.{REQUEST_LIMIT}
 use Rattle.px_serve.specs.Answering.{AnswersBetween}
 use Rattle.px_serve.specs.Ends.{EndCause, Faults, SessionStaysOpen, TurnCause, TurnStaysOpen, end_after, end_by, end_of_bytes, faults_of, is_tunnel, only_empty}
 use Rattle.px_serve.specs.Histories.{Begun, Looks, Noted, TakesOne, note_of}
+use Rattle.px_serve.specs.Logging.{IsReturned}
 use Rattle.px_serve.specs.Takings.{Fits, SuitsBegun, handed_of}
 use Rattle.px_serve.specs.Sessions.{EndsBetween, HeadOf, Reaches, ReadsReceived, TakesHead, Runs, ServesFitting, SessionStep, SessionTurns, Turned, is_last_request, session_state}
 use Rattle.px_serve.proofs.HistoryLemmas.{noted_more, noted_none, none_noted}
@@ -108,17 +111,29 @@ stays_open o end.ReadFailed = tt
 stays_open o end.WriteFailed = tt
 stays_open o end.NoMemory = tt
 
+some_is : {A : Type 0} (x y : A) → Some x ≡ Some y → x ≡ y
+some_is x y e = ap (λ o. unwrap_or o x) e
+
+none_some : {A : Type 0} (x : A) → Some x ≡ None → ⊥
+none_some x e = cc
+
+-- what was measured of a sink that tells is what was returned
+returned_so : (on : Bool) (taken : List ℕ) (new : SinkState) (r : Option Tally) → IsTrue new.tells → IsMeasured on taken new r → IsReturned taken new.taken r
+returned_so on taken new None told h = tt
+returned_so true taken new (Some r) told h = some_is r (returned_of (drop (length taken) new.taken)) (h.told refl told)
+returned_so false taken new (Some r) told h = absurd (none_some r (h.off refl))
+
 -- a turn with one exchange: k is the client behind the request's head, and c the clock behind its moment
-turned_behind : (law : Law) (ins ins' : InsideState) (looks looks' : Looks) (old new : EndsState) (k : FeedState) (c : ClockState) (seen : HeadSeen) (b : Begun) (notes notes' : List ExchangeNote)
+turned_behind : (law : Law) (ins ins' : InsideState) (looks looks' : Looks) (old new : EndsState) (k : FeedState) (c : ClockState) (on : Bool) (b : Begun) (notes notes' : List ExchangeNote)
     → length notes < REQUEST_LIMIT
-    → (IsTrue old.client.source.tells → HeadOf (client_stream old) seen (bytes_behind k))
+    → (IsTrue old.client.source.tells → HeadOf (client_stream old) b.seen (bytes_behind k))
     → k.source.faults ≡ old.client.source.faults → SourceGoesOn old.client.source k.source
     → TakesOne looks looks' old.clock c b → ClockGoesOn old.clock c
-    → ReadsReceived seen b.received → All (SuitsBegun law old.peer) (b ∷ []) → Fits ins ins' old.peer (b ∷ [])
-    → AnswersBetween b.config (handed_of (is_last_request (length notes)) b.moment b.received) (record old { client = k; clock = c }) new b.concluded
+    → ReadsReceived b.seen b.received → All (SuitsBegun law old.peer) (b ∷ []) → Fits ins ins' old.peer (b ∷ [])
+    → AnswersBetween b.config (handed_of (is_last_request (length notes)) b.moment b.received) on (record old { client = k; clock = c }) new b.concluded b.returned
     → notes' ≡ notes ++ note_of b ∷ []
     → Turned law ins ins' looks looks' old new notes notes' (end_after (is_last_request (length notes)) b.concluded)
-turned_behind law ins ins' looks looks' old new k c seen b notes notes' limit found unfailed on takes clock_on reads lawful fits x noted = record {
+turned_behind law ins ins' looks looks' old new k c on b notes notes' limit found unfailed source_on takes clock_on reads lawful fits x noted = record {
   begun = b ∷ [];
   noted = noted;
   lawful = lawful;
@@ -142,10 +157,17 @@ turned_behind law ins ins' looks looks' old new k c seen b notes notes' limit fo
     quiet = calm old mid unfailed refl
 
     went : EndsGoOn old mid
-    went = let same = ends_same old in record { client = on; client_out = same.client_out; dialer = same.dialer; clock = clock_on; peer_same = refl }
+    went = let same = ends_same old in record { client = source_on; client_out = same.client_out; dialer = same.dialer; clock = clock_on; peer_same = refl }
 
     step : Tell old → (before : List Begun) → SessionStep old.peer n (session_state old before) (session_state new (before ++ b ∷ [])) b
-    step t before = record { seen = seen; rest = bytes_behind k; head = found t.client; reads = reads; noted = refl; answers = x.answers (tell_on went t) }
+    step t before = record {
+      rest = bytes_behind k;
+      head = found t.client;
+      reads = reads;
+      returns = returned_so on old.client_out.taken new.client_out b.returned (x.goes_on.client_out.tells_same ∙ t.client_out) x.returns;
+      noted = refl;
+      answers = x.answers (tell_on went t);
+    }
 
     by : (before : List Begun) (e : Option SessionEnd) → e ≡ end_after (is_last_request n) b.concluded
         → SessionStep old.peer n (session_state old before) (session_state new (before ++ b ∷ [])) b
@@ -154,17 +176,17 @@ turned_behind law ins ins' looks looks' old new k c seen b notes notes' limit fo
     by before (Some e) is s = inr (record { begun = b; step = s; ends = sym is })
 
 -- the same: e1 are the ends behind the request's head
-pub turned_one : (law : Law) (ins ins' : InsideState) (looks looks' : Looks) (old e1 new : EndsState) (c : ClockState) (seen : HeadSeen) (b : Begun) (notes notes' : List ExchangeNote)
-    → length notes < REQUEST_LIMIT → TakesHead old e1 (Ok seen) → TakesOne looks looks' e1.clock c b → ClockGoesOn e1.clock c
-    → ReadsReceived seen b.received → All (SuitsBegun law e1.peer) (b ∷ []) → Fits ins ins' e1.peer (b ∷ [])
-    → AnswersBetween b.config (handed_of (is_last_request (length notes)) b.moment b.received) (record e1 { clock = c }) new b.concluded
+pub turned_one : (law : Law) (ins ins' : InsideState) (looks looks' : Looks) (old e1 new : EndsState) (c : ClockState) (on : Bool) (b : Begun) (notes notes' : List ExchangeNote)
+    → length notes < REQUEST_LIMIT → TakesHead old e1 (Ok b.seen) → TakesOne looks looks' e1.clock c b → ClockGoesOn e1.clock c
+    → ReadsReceived b.seen b.received → All (SuitsBegun law e1.peer) (b ∷ []) → Fits ins ins' e1.peer (b ∷ [])
+    → AnswersBetween b.config (handed_of (is_last_request (length notes)) b.moment b.received) on (record e1 { clock = c }) new b.concluded b.returned
     → notes' ≡ notes ++ note_of b ∷ []
     → Turned law ins ins' looks looks' old new notes notes' (end_after (is_last_request (length notes)) b.concluded)
-turned_one law ins ins' looks looks' old e1 new c seen b notes notes' limit h takes clock_on reads lawful fits x noted =
-    turned_behind law ins ins' looks looks' old new e1.client c seen b notes notes' limit h.found (ap (λ (f : Faults). f.source) h.cause) h.goes_on
+turned_one law ins ins' looks looks' old e1 new c on b notes notes' limit h takes clock_on reads lawful fits x noted =
+    turned_behind law ins ins' looks looks' old new e1.client c on b notes notes' limit h.found (ap (λ (f : Faults). f.source) h.cause) h.goes_on
     (subst (λ (t : ClockState). TakesOne looks looks' t c b) clock1 takes) (subst (λ (t : ClockState). ClockGoesOn t c) clock1 clock_on)
     reads (subst (λ (p : List ℕ). All (SuitsBegun law p) (b ∷ [])) peer1 lawful) (subst (λ (p : List ℕ). Fits ins ins' p (b ∷ [])) peer1 fits)
-    (subst (λ (e : EndsState). AnswersBetween b.config (handed_of (is_last_request (length notes)) b.moment b.received) (record e { client = e1.client; clock = c }) new b.concluded) h.rest x) noted
+    (subst (λ (e : EndsState). AnswersBetween b.config (handed_of (is_last_request (length notes)) b.moment b.received) on (record e { client = e1.client; clock = c }) new b.concluded b.returned) h.rest x) noted
   where
     clock1 : e1.clock ≡ old.clock
     clock1 = ap (λ (e : EndsState). e.clock) h.rest

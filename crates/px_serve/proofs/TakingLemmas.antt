@@ -3,12 +3,14 @@ use Rattle.std.proofs.Common.{◌≡◌, ℕ, Bool, true, false, ◌+◌, ◌≤
 use Rattle.std.specs.Prelude.{All, IfOk}
 use Rattle.std.specs.Result.{result_ok}
 use Rattle.std.proofs.lemmas.List.Elements.{All-append, All-cons, All-nil, All-weaker, filter-append}
-use Rattle.px_config.specs.Insides.{Asked, InsideGoesOn, InsideState, Law}
+use Rattle.px_base.specs.Sinks.{SinkState}
+use Rattle.px_config.specs.Insides.{Asked, ChangesLogAlone, InsideGoesOn, InsideState, Law}
 use Rattle.px_config.specs.declared.configs.Config.{Config}
 use Rattle.px_config.specs.declared.insides.Taking.{Taking}
 use Rattle.px_judging.specs.declared.readings.HeadSeen.{HeadSeen}
 use Rattle.px_judging.specs.Readings.{ReadsAs}
 use Rattle.px_serve.specs.Histories.{Begun}
+use Rattle.px_serve.specs.Logging.{Logged}
 use Rattle.px_serve.specs.Receiving.{ChangesFor, IsPlaceNow, TakesFor}
 use Rattle.px_serve.specs.Sessions.{ReadsReceived}
 use Rattle.px_serve.specs.Takings.{Fits, HasPageIfAsked, PageIfAsked, PlacesRise, PlaceRises, Suits, SuitsBegun, SuitsReceived, asks, changing, may_change, place_received, place_taken}
@@ -69,6 +71,13 @@ changes_one p q b h = by (may_change b.received) refl
     by true e = rw e (rw e at h)
     by false e = rw e (rw e at h)
 
+-- ---- the log
+
+-- the lines of some exchanges, and then those of others
+pub logged_more : (peer : List ℕ) (a b c : Option SinkState) (xs ys : List Begun) → Logged peer a b xs → Logged peer b c ys → Logged peer a c (xs ++ ys)
+logged_more peer a b c [] ys h k = subst (λ (m : Option SinkState). Logged peer m c ys) h k
+logged_more peer a b c (x ∷ xs) ys h k = (h.0, h.1, logged_more peer h.0 b c xs ys h.2 k)
+
 -- ---- what fits
 
 inside_goes_on : {a b c : InsideState} → InsideGoesOn a b → InsideGoesOn b c → InsideGoesOn a c
@@ -85,7 +94,7 @@ inside_same ins = record { place_later = omega arith; changes_later = omega arit
 
 -- no exchange
 pub fits_none : (ins : InsideState) (peer : List ℕ) → Fits ins ins peer []
-fits_none ins peer = record { each = All-nil (SuitsBegun ins.fits peer); rises = omega arith; pages = All-nil HasPageIfAsked; changes = omega arith; goes_on = inside_same ins }
+fits_none ins peer = record { each = All-nil (SuitsBegun ins.fits peer); rises = omega arith; pages = All-nil HasPageIfAsked; changes = omega arith; logged = refl; goes_on = inside_same ins }
 
 -- what fits once, fits after
 pub fits_more : (a b c : InsideState) (now peer : List ℕ) (xs ys : List Begun) → now ≡ peer → Fits a b peer xs → Fits b c now ys → Fits a c peer (xs ++ ys)
@@ -96,6 +105,7 @@ fits_more a b c now peer xs ys same h k =
       rises = rises_more a.place b.place c.place xs ys h.rises more.rises;
       pages = All-append HasPageIfAsked xs ys h.pages more.pages;
       changes = changes_more a.changes b.changes c.changes xs ys h.changes more.changes;
+      logged = logged_more peer a.log b.log c.log xs ys h.logged more.logged;
       goes_on = inside_goes_on h.goes_on more.goes_on;
     }
 
@@ -139,12 +149,28 @@ pub lawful_one : {E : Type 0} (law : Law) (old new : InsideState) (peer : List �
 lawful_one law old new peer b r is h =
     All-cons (SuitsBegun law peer) b [] (subst (λ (o : Option Received). SuitsReceived law b.config b.number peer o) (sym is) (lawful_received law old new b.config b.number peer r h)) (All-nil (SuitsBegun law peer))
 
-pub fits_one : {E : Type 0} (law : Law) (old new : InsideState) (peer : List ℕ) (b : Begun) (r : Result Received E) → b.received ≡ result_ok r
-    → TakesMaybe law old new b.config b.number peer r → PageIfAsked (result_ok r) → ChangesFor old.changes new.changes (result_ok r) → InsideGoesOn old new → Fits old new peer (b ∷ [])
-fits_one law old new peer b r is h paged few on = record {
-  each = All-cons (SuitsBegun new.fits peer) b [] (subst (λ (o : Option Received). SuitsReceived new.fits b.config b.number peer o) (sym is) (fits_received law old new b.config b.number peer r h)) (All-nil (SuitsBegun new.fits peer));
-  rises = subst (λ (o : Option Received). PlaceRises (place_received o) (λ (x : ℕ). x ≤ new.place) old.place) (sym is) (rises_received law old new b.config b.number peer r on.place_later h);
+-- a log alone changes nothing of what lasts
+logs_on : {old new : InsideState} → ChangesLogAlone old new → InsideGoesOn old new
+logs_on {old = old} {new = new} h = record {
+  place_later = omega (arith, h.place_same);
+  changes_later = omega (arith, h.changes_same);
+  fits_kept = h.fits_kept;
+  steady_kept = λ s. h.steady_same ∙ s;
+  fits_only = λ s a t f. h.fits_only a t f;
+}
+
+-- one exchange, by what was received for it; then the log took its line
+pub fits_one : {E : Type 0} (law : Law) (old mid new : InsideState) (peer : List ℕ) (b : Begun) (r : Result Received E) → b.received ≡ result_ok r
+    → TakesMaybe law old mid b.config b.number peer r → PageIfAsked (result_ok r) → ChangesFor old.changes mid.changes (result_ok r) → InsideGoesOn old mid
+    → ChangesLogAlone mid new → Logged peer old.log new.log (b ∷ []) → Fits old new peer (b ∷ [])
+fits_one law old mid new peer b r is h paged few on alone logged = record {
+  each = All-cons (SuitsBegun new.fits peer) b [] (suits_received mid.fits new.fits alone.fits_kept b.config b.number peer b.received
+      (subst (λ (o : Option Received). SuitsReceived mid.fits b.config b.number peer o) (sym is) (fits_received law old mid b.config b.number peer r h))) (All-nil (SuitsBegun new.fits peer));
+  rises = subst (λ (q : ℕ). PlaceRises (place_received b.received) (λ (x : ℕ). x ≤ q) old.place) (sym alone.place_same)
+      (subst (λ (o : Option Received). PlaceRises (place_received o) (λ (x : ℕ). x ≤ mid.place) old.place) (sym is) (rises_received law old mid b.config b.number peer r on.place_later h));
   pages = All-cons HasPageIfAsked b [] (subst (λ (o : Option Received). PageIfAsked o) (sym is) paged) (All-nil HasPageIfAsked);
-  changes = changes_one old.changes new.changes b (subst (λ (o : Option Received). ChangesFor old.changes new.changes o) (sym is) few);
-  goes_on = on;
+  changes = subst (λ (q : ℕ). q ≤ old.changes + changing (b ∷ [])) (sym alone.changes_same)
+      (changes_one old.changes mid.changes b (subst (λ (o : Option Received). ChangesFor old.changes mid.changes o) (sym is) few));
+  logged = logged;
+  goes_on = inside_goes_on on (logs_on alone);
 }

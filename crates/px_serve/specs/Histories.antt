@@ -3,19 +3,23 @@ use Rattle.std.specs.Prelude.{◌≡◌, ℕ, ◌-◌, ◌≤◌, Bool, IsTrue, 
 use Rattle.px_base.specs.Moments.{ClockState}
 use Rattle.px_base.specs.Repeating.{behind_first, behind_firsts, first_or, firsts_or}
 use Rattle.px_config.specs.declared.configs.Config.{Config}
+use Rattle.px_judging.specs.declared.readings.HeadSeen.{HeadSeen}
+use Rattle.px_metered.specs.declared.responses.Tally.{Tally}
 use Rattle.px_notes.specs.declared.sessions.ExchangeNote.{ExchangeNote}
 use Rattle.px_notes.specs.declared.endings.Conclusion.{Conclusion}
 use Rattle.px_publish.specs.Views.{Entry, EndsIn, GoesOn, LookGives, Pair}
 use Rattle.px_serve.specs.declared.receiving.Received.{Received}
 
--- an exchange that was begun: the configuration that it used with that one's number, its moment, what was received for it, if memory
--- was there, and how it was concluded
+-- an exchange that was begun: the configuration that it used with that one's number, its moment, its head as it was seen, what was
+-- received for it, if memory was there, how it was concluded, and what was returned of it, if that was measured
 pub record Begun : Type 0 where
   pub number : ℕ
   pub config : Config
   pub moment : ℕ
+  pub seen : HeadSeen
   pub received : Option Received
   pub concluded : Conclusion
+  pub returned : Option Tally
 
 abbrev pub note_of : Begun → ExchangeNote
 note_of b = record { config = b.number; moment = b.moment; ending = b.concluded.ending }

@@ -15,6 +15,7 @@ use Rattle.px_judging.specs.declared.readings.HeadSeen.TheVariants as seen
 use Rattle.px_judging.specs.Readings.{ReadsAs}
 use Rattle.px_config.specs.Insides.{InsideState, Law}
 use Rattle.px_serve.specs.Answering.{AnswersHanded}
+use Rattle.px_serve.specs.Logging.{IsReturned}
 use Rattle.px_serve.specs.Takings.{Fits, SuitsBegun, handed_of}
 use Rattle.px_serve.specs.declared.receiving.Received.{Received}
 use Rattle.px_serve.specs.declared.ends.TheConstants.{REQUEST_LIMIT}
@@ -46,10 +47,10 @@ ReadsReceived seen (Some r) = ReadsAs seen r.reading
 -- the exchange of that number, for a client with that address: its head stands at the front of the stream, and it is given what is
 -- left behind that
 pub record SessionStep (peer : List ℕ) (n : ℕ) (s t : SessionState) (b : Begun) : Type 0 where
-  pub seen : HeadSeen
   pub rest : List ℕ
-  pub head : HeadOf s.stream seen rest
-  pub reads : ReadsReceived seen b.received
+  pub head : HeadOf s.stream b.seen rest
+  pub reads : ReadsReceived b.seen b.received
+  pub returns : IsReturned s.taken t.taken b.returned
   pub noted : t.begun ≡ s.begun ++ b ∷ []
   pub answers : AnswersHanded b.config peer (handed_of (is_last_request n) b.moment b.received) (record { stream = rest; behind = t.stream }) s.dialer t.dialer s.taken t.taken b.concluded
 

@@ -9,6 +9,7 @@ use Rattle.px_judging.specs.declared.handed.Handed.{Handed}
 use Rattle.px_judging.specs.declared.readings.HeadReading.{HeadReading}
 use Rattle.px_judging.specs.declared.readings.HeadReading.TheVariants as reading
 use Rattle.px_serve.specs.Histories.{Begun}
+use Rattle.px_serve.specs.Logging.{Logged}
 use Rattle.px_serve.specs.declared.receiving.Received.{Received}
 
 -- what a taking is asked for, by the configuration of that number and for a client: there is one where the head is read and its target
@@ -92,10 +93,11 @@ abbrev pub changing : List Begun → ℕ
 changing begun = length (filter (λ b. may_change b.received) begun)
 
 -- each taking fits what gave it, in the state that it came to, and has a page only where one is asked for; their places never fall, and
--- each made one change at most
+-- each made one change at most; and the log took the line of each exchange
 pub record Fits (old new : InsideState) (peer : List ℕ) (begun : List Begun) : Type 0 where
   pub each : All (SuitsBegun new.fits peer) begun
   pub rises : PlacesRise old.place begun new.place
   pub pages : All HasPageIfAsked begun
   pub changes : new.changes ≤ old.changes + changing begun
+  pub logged : Logged peer old.log new.log begun
   pub goes_on : InsideGoesOn old new

@@ -3,12 +3,12 @@ ghost use Rattle.std.specs.Prelude.{◌≡◌, ◌↔◌, IsTrue, Some};
 ghost use Rattle.px_serve.specs.Answering.{AnswersBetween};
 ghost use Rattle.px_serve.specs.Keeping.{OfEntry, store_number};
 
+use crate::measuring::{Answered, exchange_measured};
 use px_base::Mem;
 use px_config::{Config, Running};
 use px_ends::{Ends, Outside};
-use px_exchange::exchange;
 use px_judging::{Handed, judge};
-use px_notes::{After, Conclusion, broken};
+use px_notes::{After, broken};
 use px_publish::Snapshot;
 use px_ways::Way;
 use std::alloc::Global;
@@ -68,12 +68,13 @@ fn answer_by<R: Threads + Sync, A: Outside>(
     handed: Handed,
     running: &mut Running<'_>,
     ends: &mut Ends<A>,
-) -> Conclusion
-    ensures answers { AnswersBetween running.old (Some handed) ends.old ends.new result }
+    measured: bool,
+) -> Answered
+    ensures answers { AnswersBetween running.old (Some handed) measured ends.old ends.new result.concluded result.returned }
     ensures same { running.new ≡ running.old }
 {
     match judge(alloc, handed, &ends.peer, running) {
-        Ok(judgement) => exchange(
+        Ok(judgement) => exchange_measured(
             alloc,
             way,
             judgement,
@@ -81,8 +82,9 @@ fn answer_by<R: Threads + Sync, A: Outside>(
             &mut ends.client,
             &mut ends.client_out,
             &mut ends.dialer,
+            measured,
         ),
-        Err(Mem) => broken(After::NoMemory),
+        Err(Mem) => Answered::nothing(broken(After::NoMemory), measured),
     }
 }
 
@@ -93,17 +95,18 @@ fn answer_anew<R: Threads + Sync, A: Outside>(
     handed: Handed,
     config: &Config,
     ends: &mut Ends<A>,
-) -> Conclusion
-    ensures { AnswersBetween config.now (Some handed) ends.old ends.new result }
+    measured: bool,
+) -> Answered
+    ensures { AnswersBetween config.now (Some handed) measured ends.old ends.new result.concluded result.returned }
 {
     match Running::new(alloc, config) {
-        Ok(mut running) => answer_by(alloc, way, handed, &mut running, ends),
-        Err(Mem) => broken(After::NoMemory),
+        Ok(mut running) => answer_by(alloc, way, handed, &mut running, ends, measured),
+        Err(Mem) => Answered::nothing(broken(After::NoMemory), measured),
     }
 }
 
 /// Answers what is handed by an entry: with the one kept where it is that entry, and else with one of its own. Where nothing is
-/// handed, memory was wanting.
+/// handed, memory was wanting. What is returned is measured or not.
 pub fn answer<R: Threads + Sync, A: Outside>(
     alloc: Global,
     way: &Way<'_, R>,
@@ -111,19 +114,20 @@ pub fn answer<R: Threads + Sync, A: Outside>(
     snapshot: &Snapshot<'_, Config>,
     kept: &mut KeptEntry<'_>,
     ends: &mut Ends<A>,
-) -> Conclusion
+    measured: bool,
+) -> Answered
     requires of { kept.old.number ≡ snapshot.now.number → kept.old.config ≡ snapshot.now.config.now }
-    ensures answers { AnswersBetween snapshot.now.config.now handed ends.old ends.new result }
+    ensures answers { AnswersBetween snapshot.now.config.now handed measured ends.old ends.new result.concluded result.returned }
     ensures same { kept.new ≡ kept.old }
 {
     match handed {
         Some(handed) => {
             if kept.number == snapshot.number {
-                answer_by(alloc, way, handed, &mut kept.running, ends)
+                answer_by(alloc, way, handed, &mut kept.running, ends, measured)
             } else {
-                answer_anew(alloc, way, handed, snapshot.config, ends)
+                answer_anew(alloc, way, handed, snapshot.config, ends, measured)
             }
         }
-        None => broken(After::NoMemory),
+        None => Answered::nothing(broken(After::NoMemory), measured),
     }
 }

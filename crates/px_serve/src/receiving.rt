@@ -32,6 +32,7 @@ pub fn receive<I: Inside>(
     ensures takes { IfOk result (λ r. TakesFor I.lawful (I.state inside.old) (I.state inside.new) (asks snapshot.now.config.now snapshot.now.number peer.now.address r.reading) r.taken) }
     ensures pages { PageIfAsked (result_ok result) }
     ensures changes { ChangesFor (I.state inside.old).changes (I.state inside.new).changes (result_ok result) }
+    ensures unlogged { (I.state inside.new).log ≡ (I.state inside.old).log }
     ensures goes_on { InsideGoesOn (I.state inside.old) (I.state inside.new) }
 {
     match read_request(alloc, seen)? {

@@ -7,6 +7,7 @@ ghost use Rattle.px_serve.specs.Sessions.{Turned, Runs, ServesFitting};
 use crate::ends::{REQUEST_LIMIT, end_after};
 use crate::heads::next_head;
 use crate::keeping::{KeptEntry, Store, answer};
+use crate::logging::log_exchange;
 use crate::notes::Notes;
 use crate::receiving::{handed_of, receive};
 use px_base::{Clock, List, Mem, Sink};
@@ -41,7 +42,10 @@ fn serve_request<R: Threads + Sync, K: Configs<Held = Config>, I: Inside, A: Out
             let moment = ends.clock.now();
             let received = receive(alloc, &seen, &snapshot, inside, &ends.peer).ok();
             let handed = handed_of(alloc, received, last, moment);
-            let concluded = answer(alloc, way, handed, &snapshot, kept, ends);
+            let logs = inside.logs();
+            let answered = answer(alloc, way, handed, &snapshot, kept, ends, logs);
+            log_exchange(inside, &seen, &ends.peer, moment, answered);
+            let concluded = answered.concluded;
             notes.add(ExchangeNote {
                 config: snapshot.number,
                 moment,

@@ -1,5 +1,5 @@
 // The command `serve`: connections of doors by a configuration that is loaded again with each.
-ghost use Rattle.std.specs.Prelude.{◌≡◌, ◌∷◌, ◌<◌, ◌≤◌, [], All, IfErr, IfOk, IsTrue, Some, map, string_bytes, vec_len};
+ghost use Rattle.std.specs.Prelude.{◌≡◌, ◌∷◌, ◌<◌, ◌≤◌, [], All, is_some, IfErr, IfOk, IsTrue, Some, map, string_bytes, vec_len};
 ghost use Rattle.px_base.specs.Contents.{FilesGoOn};
 ghost use Rattle.px_config.specs.Gathering.{OnlyReads, ReadsOneOf, gathered, names_read};
 ghost use Rattle.px_config.specs.Loading.{IsLoadFault, LoadCauses};
@@ -11,7 +11,7 @@ ghost use Rattle.px_desk.specs.Sets.{Spells};
 ghost use Rattle.px_desk.specs.Turns.{none};
 ghost use Rattle.px_serve_command.specs.Proxies.{ProxyGoesOn, RunsProxy, RunsServe, ServedByAsMany, ServesBy, ServesFirst, ServesLoaded, ServesPublished, ServesSharing};
 
-use crate::boards::serve_desk;
+use crate::boards::{Host, serve_desk};
 use crate::endings::status_of_serving;
 use px_base::{Dialer, Failed, Files, Mem, Sink};
 use px_commands::{ServeWords, Status, USAGE, parse_serve, read_serve, report, report_load};
@@ -21,6 +21,7 @@ use px_doors::{Doors, ListenAddress};
 use px_ends::Outside;
 use px_link_pool::{Look, Sees};
 use px_publish::{ConfigReader, Publisher, publish_pair};
+use px_serve::Logs;
 use px_shared::{Opening, SharedDoors};
 use std::alloc::Global;
 use std::marker::Brand;
@@ -61,11 +62,12 @@ fn unserved<F, A, E>(status: Status, parts: DeskParts<F, A, E>) -> Ended<F, A, E
 /// were served, 1 where the configuration doesn't load at first, 2 where the words aren't of `serve`, 3 where a file couldn't be
 /// read before the first configuration was there, 4 after a fault of the error output, 5 where memory was wanting, and 7 where the
 /// doors failed. It may wait.
-pub fn run_proxy<R: Threads + Wait + Sync, F: Files, A: Doors, E: Sink>(
+pub fn run_proxy<R: Threads + Wait + Sync, F: Files, A: Doors, E: Sink, G: Logs>(
     alloc: Global,
     rt: &R,
     words: &[String],
     parts: DeskParts<F, A, E>,
+    logs: &G,
 ) -> Proxied<F, A, E>
 where
     Look: Sees<<<A::Conn as Outside>::Dial as Dialer>::In>,
@@ -79,7 +81,7 @@ where
         parts,
         counts,
         workers,
-    } = serve_by(alloc, rt, words, parts);
+    } = serve_by(alloc, rt, words, parts, logs);
     Proxied {
         status: status.code(),
         parts,
@@ -88,11 +90,12 @@ where
     }
 }
 
-fn serve_by<R: Threads + Wait + Sync, F: Files, A: Doors, E: Sink>(
+fn serve_by<R: Threads + Wait + Sync, F: Files, A: Doors, E: Sink, G: Logs>(
     alloc: Global,
     rt: &R,
     words: &[String],
     parts: DeskParts<F, A, E>,
+    logs: &G,
 ) -> Ended<F, A, E>
 where
     Look: Sees<<<A::Conn as Outside>::Dial as Dialer>::In>,
@@ -106,7 +109,7 @@ where
 {
     match read_serve(words) {
         Some(serve) => match parse_serve(alloc, words, serve) {
-            Ok(serve) => run_serve(alloc, rt, serve, parts),
+            Ok(serve) => run_serve(alloc, rt, serve, parts, logs),
             Err(Mem) => unserved(Status::NoMemory, parts),
         },
         None => {
@@ -140,12 +143,24 @@ fn load_set<F: Files>(
     Ok((set, config))
 }
 
+/// What makes logs, where the first configuration wants them.
+fn wanted<'g, G>(logs: &'g G, first: &Config) -> Option<&'g G>
+    ensures { is_some result ≡ first.now.settings.access_log }
+{
+    if first.settings.access_log {
+        Some(logs)
+    } else {
+        None
+    }
+}
+
 /// Loads CONFIG, listens at its address, and serves.
-fn run_serve<R: Threads + Wait + Sync, F: Files, A: Doors, E: Sink>(
+fn run_serve<R: Threads + Wait + Sync, F: Files, A: Doors, E: Sink, G: Logs>(
     alloc: Global,
     rt: &R,
     serve: ServeWords<'_>,
     parts: DeskParts<F, A, E>,
+    logs: &G,
 ) -> Ended<F, A, E>
 where
     Look: Sees<<<A::Conn as Outside>::Dial as Dialer>::In>,
@@ -168,7 +183,12 @@ where
     match load_set(alloc, &mut files, serve.config) {
         Ok((loaded, first)) => {
             let parts = DeskParts { files, doors, err };
-            serve_first(alloc, rt, serve, loaded, first, parts)
+            let host = Host {
+                rt,
+                alloc,
+                logs: wanted(logs, &first),
+            };
+            serve_first(host, serve, loaded, first, parts)
         }
         Err(fault) => {
             let status = report_load(alloc, &mut err, &fault);
@@ -178,9 +198,8 @@ where
 }
 
 /// Serves with a configuration that was loaded. Where it says so, the requests of a connection share links to an origin.
-fn serve_first<R: Threads + Wait + Sync, F: Files, A: Doors, E: Sink>(
-    alloc: Global,
-    rt: &R,
+fn serve_first<R: Threads + Wait + Sync, F: Files, A: Doors, E: Sink, G: Logs>(
+    host: Host<'_, R, G>,
     serve: ServeWords<'_>,
     loaded: FileSet,
     first: Config,
@@ -201,16 +220,15 @@ where
         (record { files = F.state result.parts.files; doors = A.state result.parts.doors; errors = E.state result.parts.err }) }
 {
     if first.settings.sharing {
-        serve_sharing::<Brand, R, F, A, E>(alloc, rt, serve, loaded, first, parts)
+        serve_sharing::<Brand, R, F, A, E, G>(host, serve, loaded, first, parts)
     } else {
-        serve_loaded(alloc, rt, serve, loaded, first, parts)
+        serve_loaded(host, serve, loaded, first, parts)
     }
 }
 
 /// Serves over doors that give each connection a pool of links, and takes them apart again.
-fn serve_sharing<N: Opening + Send, R: Threads + Wait + Sync, F: Files, A: Doors, E: Sink>(
-    alloc: Global,
-    rt: &R,
+fn serve_sharing<N: Opening + Send, R: Threads + Wait + Sync, F: Files, A: Doors, E: Sink, G: Logs>(
+    host: Host<'_, R, G>,
     serve: ServeWords<'_>,
     loaded: FileSet,
     first: Config,
@@ -232,14 +250,14 @@ where
         (record { files = F.state result.parts.files; doors = A.state result.parts.doors; errors = E.state result.parts.err }) }
 {
     let DeskParts { files, doors, err } = parts;
-    let doors = SharedDoors::<A, N>::new(alloc, doors);
+    let doors = SharedDoors::<A, N>::new(host.alloc, doors);
     let parts = DeskParts { files, doors, err };
     let Ended {
         status,
         parts,
         counts,
         workers,
-    } = serve_loaded(alloc, rt, serve, loaded, first, parts);
+    } = serve_loaded(host, serve, loaded, first, parts);
     let DeskParts { files, doors, err } = parts;
     let doors = doors.into_inner();
     Ended {
@@ -251,9 +269,8 @@ where
 }
 
 /// Publishes the first configuration, listens at its address, and serves.
-fn serve_loaded<R: Threads + Wait + Sync, F: Files, A: Doors, E: Sink>(
-    alloc: Global,
-    rt: &R,
+fn serve_loaded<R: Threads + Wait + Sync, F: Files, A: Doors, E: Sink, G: Logs>(
+    host: Host<'_, R, G>,
     serve: ServeWords<'_>,
     loaded: FileSet,
     first: Config,
@@ -271,9 +288,10 @@ fn serve_loaded<R: Threads + Wait + Sync, F: Files, A: Doors, E: Sink>(
         (record { files = F.state parts.files; doors = A.state parts.doors; errors = E.state parts.err })
         (record { files = F.state result.parts.files; doors = A.state result.parts.doors; errors = E.state result.parts.err }) }
 {
+    let Host { rt, alloc, logs } = host;
     let settings = &first.settings;
-    let host = settings.listen_host.as_bytes();
-    let Ok(address) = ListenAddress::copied(alloc, host, settings.listen_port) else {
+    let listen_host = settings.listen_host.as_bytes();
+    let Ok(address) = ListenAddress::copied(alloc, listen_host, settings.listen_port) else {
         return unserved(Status::NoMemory, parts);
     };
     let Ok(first) = Arc::new(alloc, first) else {
@@ -290,7 +308,8 @@ fn serve_loaded<R: Threads + Wait + Sync, F: Files, A: Doors, E: Sink>(
     match doors.listen(address) {
         Ok(()) => {
             let parts = DeskParts { files, doors, err };
-            serve_published(alloc, rt, serve, loaded, publisher, readers, parts)
+            let host = Host { rt, alloc, logs };
+            serve_published(host, serve, loaded, publisher, readers, parts)
         }
         Err(Failed) => {
             drop(publisher.end(rt));
@@ -300,9 +319,8 @@ fn serve_loaded<R: Threads + Wait + Sync, F: Files, A: Doors, E: Sink>(
 }
 
 /// Serves at doors that listen, with a published configuration.
-fn serve_published<R: Threads + Wait + Sync, F: Files, A: Doors, E: Sink>(
-    alloc: Global,
-    rt: &R,
+fn serve_published<R: Threads + Wait + Sync, F: Files, A: Doors, E: Sink, G: Logs>(
+    host: Host<'_, R, G>,
     serve: ServeWords<'_>,
     loaded: FileSet,
     publisher: Publisher<Config>,
@@ -321,8 +339,8 @@ fn serve_published<R: Threads + Wait + Sync, F: Files, A: Doors, E: Sink>(
     ensures as_many { ServedByAsMany serve.entry.workers (A.state parts.doors) (A.state result.parts.doors) result.workers }
 {
     match Desk::new(
-        rt,
-        alloc,
+        host.rt,
+        host.alloc,
         parts,
         serve.config,
         loaded,
@@ -330,7 +348,7 @@ fn serve_published<R: Threads + Wait + Sync, F: Files, A: Doors, E: Sink>(
         serve.most,
     ) {
         Ok(desk) => {
-            let (served, workers) = serve_desk(rt, alloc, desk, readers);
+            let (served, workers) = serve_desk(host, desk, readers);
             Ended {
                 status: status_of_serving(served.closing),
                 parts: served.parts,

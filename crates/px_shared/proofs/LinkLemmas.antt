@@ -244,7 +244,7 @@ step_alone : (peer : List ℕ) (n : ℕ) (s t : SessionState) (b : Begun) → Ea
     → Alone s.dialer (SessionStep peer n (heard_state s) (heard_state t) b)
 step_alone peer n s t b all k m h =
     let a = handed_alone b.config peer (handed_of (is_last_request n) b.moment b.received) (record { stream = h.rest; behind = t.stream }) s.dialer t.dialer s.taken t.taken b.concluded all k m h.answers in
-    record { before = a.before; same = record { seen = h.seen; rest = h.rest; head = h.head; reads = h.reads; noted = h.noted; answers = a.same } }
+    record { before = a.before; same = record { rest = h.rest; head = h.head; reads = h.reads; returns = h.returns; noted = h.noted; answers = a.same } }
 
 -- an exchange that wanted memory ends the session so
 goes_on_with : (last : Bool) (x : Conclusion) → end_after last x ≡ None → x ≢ broken after.NoMemory

@@ -3,7 +3,7 @@ ghost use Rattle.std.specs.Prelude.{All, IfOk};
 ghost use Rattle.px_desk.specs.Facts.{DoorsBegun};
 ghost use Rattle.px_ends.specs.Ends.{IsFreshEnds};
 
-use crate::common::{same, same_at};
+use crate::common::{NoLogs, same, same_at};
 use crate::serving::{REPLY, ends_from, one_answer, three_of, words_of};
 use px_base::{List, Mem, MemFiles, TapeOut, Text};
 use px_doors::{Doors, MemDoors, MemEnds};
@@ -85,7 +85,7 @@ fn served<R: Threads + Wait + Sync>(
     let conns = clients(alloc)?;
     let parts = parts_of(alloc, conns)?;
     let words = words_of(alloc, &["serve", "c", "1", "3"])?;
-    Ok(run_proxy(alloc, rt, &words, parts))
+    Ok(run_proxy(alloc, rt, &words, parts, &NoLogs))
 }
 
 /// What each of the three is answered, and how many of its dials are made.

@@ -3,7 +3,7 @@ ghost use Rattle.std.specs.Prelude.{All, IfOk};
 ghost use Rattle.px_desk.specs.Facts.{DoorsBegun};
 ghost use Rattle.px_ends.specs.Ends.{IsFreshEnds};
 
-use crate::common::same_at;
+use crate::common::{NoLogs, same_at};
 use crate::serving::{three_conns, words_of};
 use px_base::{List, Mem, MemFiles, TapeOut, Text};
 use px_doors::{Doors, MemDoors, MemEnds};
@@ -192,7 +192,7 @@ fn reloaded<R: Threads + Wait + Sync>(
     let conns = three_conns(alloc)?;
     let parts = parts_of(alloc, files, conns, err)?;
     let words = words_of(alloc, &["serve", "c", "1", "3"])?;
-    Ok(run_proxy(alloc, rt, &words, parts))
+    Ok(run_proxy(alloc, rt, &words, parts, &NoLogs))
 }
 
 /// The configuration of a connection, and what its client was answered.

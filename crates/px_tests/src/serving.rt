@@ -3,7 +3,7 @@ ghost use Rattle.std.specs.Prelude.{All, IfOk};
 ghost use Rattle.px_ends.specs.Ends.{IsFreshEnds};
 ghost use Rattle.px_desk.specs.Facts.{DoorsBegun};
 
-use crate::common::{same, same_at};
+use crate::common::{NoLogs, same, same_at};
 use px_base::{Answer, FixedClock, List, Mem, MemDialer, MemFiles, Peer, TapeIn, TapeOut, Text};
 use px_doors::{Doors, MemDoors, MemEnds};
 use px_ends::Ends;
@@ -169,7 +169,7 @@ fn proxied<R: Threads + Wait + Sync>(
 {
     let parts = parts_of(alloc, main, conns, fails)?;
     let words = words_of(alloc, words)?;
-    Ok(run_proxy(alloc, rt, &words, parts))
+    Ok(run_proxy(alloc, rt, &words, parts, &NoLogs))
 }
 
 /// Two of three connections are to be served by one worker.

@@ -6,7 +6,7 @@ ghost use Rattle.px_ends.specs.Ends.{IsFreshEnds};
 ghost use Rattle.px_ends.specs.Marks.{HasMark};
 ghost use Rattle.px_doors.specs.Doors.{untold_doors};
 
-use crate::common::same;
+use crate::common::{NoLogs, same};
 use px_base::{
     Clock, DialFault, Dialer, Failed, FixedClock, List, Mem, MemFiles, Peer, Rests, Sink,
     SinkFault, Source, TapeIn, TapeOut, Text,
@@ -336,7 +336,7 @@ fn proxied<'c, R: Threads + Wait + Sync>(
     for word in ["serve", "c", "2", "3"] {
         words.push(String::from_str(alloc, word)?)?;
     }
-    Ok(run_proxy(alloc, rt, &words, parts))
+    Ok(run_proxy(alloc, rt, &words, parts, &NoLogs))
 }
 
 /// The numbers of the configurations that the exchanges of a connection used: at most two.

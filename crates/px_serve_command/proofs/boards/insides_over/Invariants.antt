@@ -1,5 +1,5 @@
 use Rattle.std.proofs.Common.{◌≡◌, ◌+◌, ◌≤◌, vec_len, vec_capacity}
-use Rattle.px_serve_command.proofs.boards.pages_over.Given as goal
+use Rattle.px_serve_command.proofs.boards.insides_over.Given as goal
 
 abbrev pub invariant-each : goal.invariant-each
 invariant-each g l = record {

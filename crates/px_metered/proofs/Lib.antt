@@ -1,0 +1,3 @@
+pub mod HeadLemmas
+pub mod MeterLemmas
+pub mod ResponseLemmas
